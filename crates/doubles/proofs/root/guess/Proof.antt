@@ -1,0 +1,33 @@
+-- `doubles::root::guess` meets its contract. Assumes nothing.
+use mathlib.Core.Path.{refl}
+use borrow.Author.Needs.{needs}
+use native.Mathlib.Omega.{arith}
+use Rattle.doubles.specs.Guess.{guessOf, evenedBits, lastOf}
+use Rattle.doubles.proofs.Floats.{positive-no-nan}
+use Rattle.doubles.proofs.root.guess.Statement.{statement}
+use Rattle.doubles.proofs.root.guess.Tie as tie
+
+mul-n : tie.Need-mul-n
+mul-n c = search needs
+
+sub-n : tie.Need-sub-n
+sub-n c = search needs
+
+add-n : tie.Need-add-n
+add-n c = search needs
+
+float-from-bits-x : tie.Need-float-from-bits-x
+float-from-bits-x c = positive-no-nan _ (omega arith)
+
+sub-y : tie.Need-sub-y
+sub-y c = search needs
+
+float-from-bits-y : tie.Need-float-from-bits-y
+float-from-bits-y c = positive-no-nan _ (omega arith)
+
+returns : tie.Need-returns
+unfolding guessOf evenedBits lastOf
+returns c = refl
+
+pub guess-spec : {M : Type 1} → statement M
+guess-spec = tie.close (tie.spec mul-n sub-n add-n float-from-bits-x sub-y float-from-bits-y returns)

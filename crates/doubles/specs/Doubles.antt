@@ -1,0 +1,24 @@
+-- The small functions on doubles, over the values of IEEE 754 as the kit's `lib.Ieee` has them: one `nan`, two infinities, and `fin s m e` for ±m * 2 ^ e.
+-- From bits, to bits and `as usize` are `lib.Ieee`'s own `ofBits`, `toBits` and `toUnsigned`.
+use mathlib.Core.Bool.{Bool, true, false, cond}
+use lib.Ieee.{Float, nan, inf, fin, lt, ofBits, binary64}
+
+-- IEEE 754 `abs`: the sign cleared
+unfoldable pub absOf : Float → Float
+absOf nan = nan
+absOf (inf s) = inf false
+absOf (fin s m e) = fin false m e
+
+-- Rust's `f64::clamp`: lo where x is below it, else hi where x is above it, else x. So NaN stays, and so does a -0 between 0 and 1.
+unfoldable pub clampOf : Float → Float → Float → Float
+clampOf x lo hi = cond (lt x lo) lo (cond (lt hi x) hi x)
+
+-- Rust's `x.max(0.0)`: +0 where x is NaN, and where it is -0
+unfoldable pub maxZeroOf : Float → Float
+maxZeroOf x = cond (lt (ofBits binary64 0) x) x (ofBits binary64 0)
+
+-- IEEE 754 `isFinite`: neither NaN nor infinite
+unfoldable pub finiteOf : Float → Bool
+finiteOf nan = false
+finiteOf (inf s) = false
+finiteOf (fin s m e) = true

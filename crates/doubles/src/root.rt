@@ -1,0 +1,171 @@
+// The square root: the double nearest to the exact root. A guess in floating point is pinned down by
+// an exact test on whole numbers, so that nothing rests on how good the guess is.
+ghost use mathlib.Core.Path.{_≡_};
+ghost use Prim.Native.Nat.{_+_, _*_, _^_, _≤_, _<_};
+ghost use lib.Ieee.{ofBits, binary64};
+ghost use Rattle.doubles.specs.Root.{sqrtOf, nearestRoot, isNearestRoot};
+ghost use Rattle.doubles.specs.Guess.{guessOf};
+
+// Whether q is the whole number nearest to the root of m * 2^52.
+// With q = h * 2^27 + l, m * 2^52 - q * q is ((m - 4 * h * h) * 2^24 - h * l) * 2^28 - l * l,
+// and 2^54 is added on the way so that no difference is negative.
+fn pins(m: u64, q: u64) -> bool
+    requires { ⌜ (m < 2 ^ 54) × (q < 2 ^ 53) ⌝ }
+    ensures { λ r. ⌜ r ≡ isNearestRoot (m * 2 ^ 52) q ⌝ }
+{
+    let h = q / 0x800_0000;
+    let l = q % 0x800_0000;
+    let a = h * h * 4;
+    let n = m + 4;
+    if n < a {
+        return false;
+    }
+    let d = n - a;
+    if 0x4000_0000 <= d {
+        return false;
+    }
+    let e = d * 0x100_0000;
+    let b = h * l;
+    if e < b {
+        return false;
+    }
+    let f = e - b;
+    if 0x1_0000_0000 <= f {
+        return false;
+    }
+    let g = f * 0x1000_0000 + q;
+    let c = l * l + 0x40_0000_0000_0000;
+    if g <= c {
+        return false;
+    }
+    if q + q < g - c {
+        return false;
+    }
+    true
+}
+
+// A float near the root of the double whose bits are b, times a power of two: three steps of
+// Goldschmidt's iteration on a g near √x and an h near 1 / (2 * √x), and a last step in which
+// t has the first 26 digits of g, so that t * t is exact, and so nearly is x - g * g.
+fn guess(b: u64) -> f64
+    ensures { λ r. ⌜ r ≡ guessOf b ⌝ }
+{
+    // the same digits, with an exponent such that x is from 1 up and below 4
+    let n = 0x4000_0000_0000_0000 - b / 0x10_0000_0000_0000 % 2 * 0x10_0000_0000_0000
+        + b % 0x10_0000_0000_0000;
+    let x = f64::from_bits(n);
+    let y = f64::from_bits(0x5fe6_eb50_c7b5_37a9 - n / 2);
+    let g0 = x * y;
+    let h0 = y * 0.5;
+    let r0 = 1.5 - g0 * h0;
+    let g1 = g0 * r0;
+    let h1 = h0 * r0;
+    let r1 = 1.5 - g1 * h1;
+    let g2 = g1 * r1;
+    let h2 = h1 * r1;
+    let r2 = 1.5 - g2 * h2;
+    let g = g2 * r2;
+    let h = h2 * r2;
+    let t = (g + 201326592.0) - 201326592.0;
+    g + ((x - t * t) - (g + t) * (g - t)) * h
+}
+
+// The same root found a binary digit at a time, with what is left of the number: for a guess that
+// fails.
+fn slow_root(m: u64) -> u64
+    requires { ⌜ (2 ^ 52 ≤ m) × (m + 1 < 2 ^ 54) ⌝ }
+    ensures { λ r. ⌜ r ≡ nearestRoot (m * 2 ^ 52) ⌝ }
+{
+    let mut n = m;
+    let mut q: u64 = 0;
+    let mut r: u64 = 0;
+    let mut j: u64 = 0;
+    while j < 53 {
+        j += 1;
+        r = r * 4 + n / 0x10_0000_0000_0000;
+        n = n % 0x10_0000_0000_0000 * 4;
+        let t = q * 4 + 1;
+        q = q * 2;
+        if t <= r {
+            r -= t;
+            q += 1;
+        }
+    }
+    if q < r { q + 1 } else { q }
+}
+
+// The whole number nearest to the root of m * 2^52. b only makes the first guess.
+fn nearest_root(m: u64, b: u64) -> u64
+    requires { ⌜ (2 ^ 52 ≤ m) × (m + 1 < 2 ^ 54) ⌝ }
+    ensures { λ r. ⌜ r ≡ nearestRoot (m * 2 ^ 52) ⌝ }
+{
+    let r = guess(b);
+    if r != r {
+        return slow_root(m);
+    }
+    let q = f64::to_bits(r) % 0x10_0000_0000_0000 + 0x10_0000_0000_0000;
+    if pins(m, q) {
+        return q;
+    }
+    if q < 0x1f_ffff_ffff_ffff {
+        if pins(m, q + 1) {
+            return q + 1;
+        }
+    }
+    if 0x10_0000_0000_0000 < q {
+        if pins(m, q - 1) {
+            return q - 1;
+        }
+    }
+    slow_root(m)
+}
+
+// The root of the double whose bits are b: finite, above zero and not subnormal. With e the
+// exponent's field and d the digits, it is d * 2^(e - 1) smallest values, which are 2^-1074 each.
+fn root_normal(b: u64) -> f64
+    requires { ⌜ (2 ^ 52 ≤ b) × (b < 0x7ff0_0000_0000_0000) ⌝ }
+    ensures { λ r. ⌜ r ≡ sqrtOf (ofBits binary64 b) ⌝ }
+{
+    let e = b / 0x10_0000_0000_0000;
+    let d = b % 0x10_0000_0000_0000 + 0x10_0000_0000_0000;
+    let r = nearest_root(d << ((e + 1) % 2), b);
+    f64::from_bits((e + 1021) / 2 * 0x10_0000_0000_0000 + r)
+}
+
+// The same of a subnormal double, whose bits are its digits.
+fn root_subnormal(b: u64) -> f64
+    requires { ⌜ (0 < b) × (b < 2 ^ 52) ⌝ }
+    ensures { λ r. ⌜ r ≡ sqrtOf (ofBits binary64 b) ⌝ }
+{
+    let s = u64::leading_zeros(b) as u64 - 11;
+    let d = b << s;
+    // the guess goes by d's digits and by whether the field is odd, as the 1 that leads d's digits is
+    let r = nearest_root(d << (s % 2), d + s % 2 * 0x10_0000_0000_0000);
+    f64::from_bits((1022 - s) / 2 * 0x10_0000_0000_0000 + r)
+}
+
+// `x.sqrt()`: the double nearest to the root of x.
+pub fn sqrt(x: f64) -> f64
+    ensures { λ r. ⌜ r ≡ sqrtOf x ⌝ }
+{
+    if x != x {
+        return x;
+    }
+    let b = f64::to_bits(x);
+    if 0x10_0000_0000_0000 <= b {
+        if b < 0x7ff0_0000_0000_0000 {
+            return root_normal(b);
+        }
+        if b == 0x7ff0_0000_0000_0000 {
+            return x;
+        }
+        if b == 0x8000_0000_0000_0000 {
+            return x;
+        }
+        return 0.0 / 0.0;
+    }
+    if b == 0 {
+        return x;
+    }
+    root_subnormal(b)
+}

@@ -1,0 +1,2 @@
+-- Document 01, "When it says no".
+pub mod Refusals

@@ -1,0 +1,29 @@
+-- The numbers of document 01's refusals, and what a call answers in its terms.
+use Prim.Native.Nat.{ℕ}
+use Rattle.error.specs.declared.NonSeqError.{NonSeqError}
+use Rattle.error.specs.declared.NonSeqError.the-variants.{InvalidThreshold, BounceLimitTooLarge, ListTooLong, NoSuchDetector, InvalidDetectorSize, ZeroResolution, ResolutionTooLarge, ParallelUp, InvalidSliceLength, InvalidRay, InvalidMedia, HitListFull, HitCountFull, InvalidWavelength, InvalidIndex, RayNotFinite, InvalidSceneText}
+
+-- the table's first column
+abbrev pub numberOf : NonSeqError → ℕ
+numberOf InvalidThreshold = 1
+numberOf BounceLimitTooLarge = 2
+numberOf ListTooLong = 3
+numberOf NoSuchDetector = 4
+numberOf InvalidDetectorSize = 5
+numberOf ZeroResolution = 6
+numberOf ResolutionTooLarge = 7
+numberOf ParallelUp = 8
+numberOf InvalidSliceLength = 9
+numberOf InvalidRay = 10
+numberOf InvalidMedia = 11
+numberOf HitListFull = 12
+numberOf HitCountFull = 13
+numberOf InvalidWavelength = 14
+numberOf InvalidIndex = 15
+numberOf RayNotFinite = 16
+numberOf InvalidSceneText = 17
+
+-- what a call without a place in a list answers: its value, or the number of the refusal
+pub data Answer (A : Type 0) : Type 0 where
+  value : A → Answer A
+  refusal : ℕ → Answer A

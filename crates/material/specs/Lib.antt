@@ -1,0 +1,2 @@
+-- Document 01, module 4.
+pub mod Media

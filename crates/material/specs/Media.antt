@@ -1,0 +1,65 @@
+-- The refractive index of a medium at a wavelength in nanometres. The formulas take micrometres; the order of the operations is material.rs's.
+use lib.Ieee.{Float, binary64, add, sub, mul, div, lt, le, ofBits}
+use mathlib.Core.Bool.{cond}
+use Rattle.doubles.specs.Doubles.{finiteOf}
+use Rattle.doubles.specs.Root.{sqrtOf}
+use Rattle.error.specs.Refusals.{numberOf, Answer, value, refusal}
+use Rattle.material.specs.declared.OpticalMedium.{OpticalMedium}
+use Rattle.material.specs.declared.OpticalMedium.the-variants.{Air, Constant, Sellmeier1, Schott}
+use Rattle.material.specs.declared.RefractiveIndex.{RefractiveIndex}
+use Rattle.material.specs.declared.RefractiveIndex.the-variants.{Index, Refused}
+
+abbrev #0 : Float
+#0 = ofBits binary64 0
+
+abbrev #1 : Float
+#1 = ofBits binary64 0x3ff0000000000000
+
+-- (λ * 1e-3) squared
+unfoldable pub squareUmOf : Float → Float
+squareUmOf w = let um = mul binary64 w (ofBits binary64 0x3f50624dd2f1a9fc) in mul binary64 um um
+
+-- Sellmeier's equation (W. Sellmeier, Annalen der Physik 219, 1871): n² = 1 + B₁λ² / (λ² - C₁) + B₂λ² / (λ² - C₂) + B₃λ² / (λ² - C₃)
+unfoldable pub sellmeierTermOf : Float → Float → Float → Float
+sellmeierTermOf l2 b c = div binary64 (mul binary64 b l2) (sub binary64 l2 c)
+
+unfoldable pub sellmeierOf : Float → Float → Float → Float → Float → Float → Float → Float
+sellmeierOf l2 b1 c1 b2 c2 b3 c3 =
+    add binary64 (add binary64 (add binary64 #1 (sellmeierTermOf l2 b1 c1)) (sellmeierTermOf l2 b2 c2)) (sellmeierTermOf l2 b3 c3)
+
+-- Schott's polynomial (Schott's glass catalogues to 1992): n² = A₀ + A₁λ² + A₂λ⁻² + A₃λ⁻⁴ + A₄λ⁻⁶ + A₅λ⁻⁸
+unfoldable pub schottOf : Float → Float → Float → Float → Float → Float → Float → Float
+schottOf l2 a0 a1 a2 a3 a4 a5 =
+    let inv2 = div binary64 #1 l2 in
+    let inv4 = mul binary64 inv2 inv2 in
+    let inv6 = mul binary64 inv4 inv2 in
+    let inv8 = mul binary64 inv6 inv2 in
+    add binary64
+    (add binary64
+    (add binary64 (add binary64 (add binary64 a0 (mul binary64 a1 l2)) (mul binary64 a2 inv2)) (mul binary64 a3 inv4))
+    (mul binary64 a4 inv6))
+    (mul binary64 a5 inv8)
+
+-- 15: a constant index below 1 or not finite
+unfoldable pub constantOf : Float → Answer Float
+constantOf n = cond (lt n #1) (refusal 15) (cond (finiteOf n) (value n) (refusal 15))
+
+-- 15: a squared index at most 0 or not finite
+unfoldable pub rootOfSquareOf : Float → Answer Float
+rootOfSquareOf n2 = cond (le n2 #0) (refusal 15) (cond (finiteOf n2) (value (sqrtOf n2)) (refusal 15))
+
+-- by the medium's rule
+unfoldable pub indexAtOf : OpticalMedium → Float → Answer Float
+indexAtOf Air w = value #1
+indexAtOf (Constant n) w = constantOf n
+indexAtOf (Sellmeier1 b1 c1 b2 c2 b3 c3) w = rootOfSquareOf (sellmeierOf (squareUmOf w) b1 c1 b2 c2 b3 c3)
+indexAtOf (Schott a0 a1 a2 a3 a4 a5) w = rootOfSquareOf (schottOf (squareUmOf w) a0 a1 a2 a3 a4 a5)
+
+-- 14, before the medium is looked at: a wavelength at most 0 or not finite
+unfoldable pub refractiveIndexOf : OpticalMedium → Float → Answer Float
+refractiveIndexOf m w = cond (le w #0) (refusal 14) (cond (finiteOf w) (indexAtOf m w) (refusal 14))
+
+-- what the code's answer says
+abbrev pub answerOf : RefractiveIndex → Answer Float
+answerOf (Index n) = value n
+answerOf (Refused e) = refusal (numberOf e)

@@ -1,0 +1,134 @@
+// Media and finishes (document 01, module 4), after material.rs.
+use error::NonSeqError;
+ghost use mathlib.Core.Path.{_≡_};
+ghost use Rattle.material.specs.Media.{squareUmOf, sellmeierTermOf, sellmeierOf, schottOf, constantOf, rootOfSquareOf, indexAtOf, refractiveIndexOf, answerOf};
+
+// A medium's rule for its refractive index.
+pub enum OpticalMedium {
+    Air,
+    Constant {
+        n: f64,
+    },
+    Sellmeier1 {
+        b1: f64,
+        c1: f64,
+        b2: f64,
+        c2: f64,
+        b3: f64,
+        c3: f64,
+    },
+    Schott {
+        a0: f64,
+        a1: f64,
+        a2: f64,
+        a3: f64,
+        a4: f64,
+        a5: f64,
+    },
+}
+
+// What happens to light at a solid's surface.
+pub enum SurfaceFinish {
+    Specular,
+    Mirror { reflectance: f64 },
+    Absorber,
+}
+
+pub enum RefractiveIndex {
+    Index(f64),
+    Refused(NonSeqError),
+}
+
+// The square of the wavelength in micrometres.
+fn square_um(wavelength: f64) -> f64
+    ensures { λ r. ⌜ r ≡ squareUmOf wavelength ⌝ }
+{
+    let um = wavelength * 1e-3;
+    um * um
+}
+
+// One term of Sellmeier's sum.
+fn sellmeier_term(l2: f64, b: f64, c: f64) -> f64
+    ensures { λ r. ⌜ r ≡ sellmeierTermOf l2 b c ⌝ }
+{
+    (b * l2) / (l2 - c)
+}
+
+// The squared index by Sellmeier's equation.
+fn sellmeier(l2: f64, b1: f64, c1: f64, b2: f64, c2: f64, b3: f64, c3: f64) -> f64
+    ensures { λ r. ⌜ r ≡ sellmeierOf l2 b1 c1 b2 c2 b3 c3 ⌝ }
+{
+    let term1 = sellmeier_term(l2, b1, c1);
+    let term2 = sellmeier_term(l2, b2, c2);
+    let term3 = sellmeier_term(l2, b3, c3);
+    1.0 + term1 + term2 + term3
+}
+
+// The squared index by Schott's polynomial.
+fn schott(l2: f64, a0: f64, a1: f64, a2: f64, a3: f64, a4: f64, a5: f64) -> f64
+    ensures { λ r. ⌜ r ≡ schottOf l2 a0 a1 a2 a3 a4 a5 ⌝ }
+{
+    let inv2 = 1.0 / l2;
+    let inv4 = inv2 * inv2;
+    let inv6 = inv4 * inv2;
+    let inv8 = inv6 * inv2;
+    a0 + a1 * l2 + a2 * inv2 + a3 * inv4 + a4 * inv6 + a5 * inv8
+}
+
+// An index given as a constant: refused below 1 or not finite.
+fn constant(n: f64) -> RefractiveIndex
+    ensures { λ r. ⌜ answerOf r ≡ constantOf n ⌝ }
+{
+    if n < 1.0 {
+        return RefractiveIndex::Refused(NonSeqError::InvalidIndex);
+    }
+    if doubles::is_finite(n) {
+        return RefractiveIndex::Index(n);
+    }
+    RefractiveIndex::Refused(NonSeqError::InvalidIndex)
+}
+
+// The root of a squared index: refused at most 0 or not finite.
+fn root_of_square(n2: f64) -> RefractiveIndex
+    ensures { λ r. ⌜ answerOf r ≡ rootOfSquareOf n2 ⌝ }
+{
+    if n2 <= 0.0 {
+        return RefractiveIndex::Refused(NonSeqError::InvalidIndex);
+    }
+    if doubles::is_finite(n2) {
+        return RefractiveIndex::Index(doubles::sqrt(n2));
+    }
+    RefractiveIndex::Refused(NonSeqError::InvalidIndex)
+}
+
+impl OpticalMedium {
+    // The refractive index at a wavelength in nanometres. A wavelength at most 0 or not finite is
+    // refused first (14), then an index outside the medium's rule (15).
+    pub fn refractive_index(self, wavelength: f64) -> RefractiveIndex
+        ensures { λ r. ⌜ answerOf r ≡ refractiveIndexOf self wavelength ⌝ }
+    {
+        if wavelength <= 0.0 {
+            return RefractiveIndex::Refused(NonSeqError::InvalidWavelength);
+        }
+        if doubles::is_finite(wavelength) {
+            return self.index_at(wavelength);
+        }
+        RefractiveIndex::Refused(NonSeqError::InvalidWavelength)
+    }
+
+    // The same at a wavelength that is not refused.
+    fn index_at(self, wavelength: f64) -> RefractiveIndex
+        ensures { λ r. ⌜ answerOf r ≡ indexAtOf self wavelength ⌝ }
+    {
+        match self {
+            OpticalMedium::Air => RefractiveIndex::Index(1.0),
+            OpticalMedium::Constant { n } => constant(n),
+            OpticalMedium::Sellmeier1 { b1, c1, b2, c2, b3, c3 } => {
+                root_of_square(sellmeier(square_um(wavelength), b1, c1, b2, c2, b3, c3))
+            }
+            OpticalMedium::Schott { a0, a1, a2, a3, a4, a5 } => {
+                root_of_square(schott(square_um(wavelength), a0, a1, a2, a3, a4, a5))
+            }
+        }
+    }
+}

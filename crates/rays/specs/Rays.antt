@@ -1,0 +1,40 @@
+-- Rays, and the three distances that belong to them.
+use mathlib.Core.Bool.{Bool, cond, _&&_}
+use lib.Ieee.{Float, binary64, ofBits}
+use Rattle.doubles.specs.Doubles.{finiteOf}
+use Rattle.error.specs.Refusals.{numberOf, Answer, value, refusal}
+use Rattle.error.specs.declared.NonSeqError.the-variants.{RayNotFinite}
+use Rattle.rays.specs.declared.vector.Vec3.{Vec3}
+use Rattle.rays.specs.declared.Ray.{Ray}
+use Rattle.rays.specs.declared.NewRay.{NewRay}
+use Rattle.rays.specs.declared.NewRay.the-variants.{Made, Refused}
+use Rattle.rays.specs.Vectors.{plusOf, scaleOf, finiteVecOf}
+
+-- 1e-9, 1e-8 and 1e-6 as doubles
+abbrev pub minLocalDistance : Float
+minLocalDistance = ofBits binary64 0x3e112e0be826d695
+
+abbrev pub minWorldDistance : Float
+minWorldDistance = ofBits binary64 0x3e45798ee2308c3a
+
+abbrev pub offset : Float
+offset = ofBits binary64 0x3eb0c6f7a0b5ed8d
+
+-- origin plus direction times distance
+unfoldable pub atOf : Ray → Float → Vec3
+atOf r t = plusOf (r .origin) (scaleOf (r .direction) t)
+
+-- all eight parts
+unfoldable pub finiteRayOf : Ray → Bool
+finiteRayOf r = finiteVecOf (r .origin) && finiteVecOf (r .direction) && finiteOf (r .«wavelength_nm») && finiteOf (r .energy)
+
+-- building a ray stores its parts, and refuses a part that isn't finite
+unfoldable pub newRayOf : Vec3 → Vec3 → Float → Float → Answer Ray
+newRayOf o d w p =
+    let r : Ray = record { origin = o; direction = d; «wavelength_nm» = w; energy = p } in
+    cond (finiteRayOf r) (value r) (refusal 16)
+
+-- what the code's answer says
+abbrev pub answerOf : NewRay → Answer Ray
+answerOf (Made r) = value r
+answerOf (Refused e) = refusal (numberOf e)

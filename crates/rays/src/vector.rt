@@ -1,0 +1,105 @@
+// Vectors of three doubles.
+ghost use mathlib.Core.Path.{_≡_};
+ghost use Rattle.rays.specs.Vectors.{dotOf, crossOf, plusOf, minusOf, scaleOf, divideOf, negateOf, normOf, normalizeOf, finiteVecOf};
+
+pub struct Vec3 {
+    pub x: f64,
+    pub y: f64,
+    pub z: f64,
+}
+
+impl Vec3 {
+    pub fn dot(self, b: Vec3) -> f64
+        ensures { λ r. ⌜ r ≡ dotOf self b ⌝ }
+    {
+        self.x * b.x + self.y * b.y + self.z * b.z
+    }
+
+    pub fn cross(self, b: Vec3) -> Vec3
+        ensures { λ r. ⌜ r ≡ crossOf self b ⌝ }
+    {
+        Vec3 {
+            x: self.y * b.z - self.z * b.y,
+            y: self.z * b.x - self.x * b.z,
+            z: self.x * b.y - self.y * b.x,
+        }
+    }
+
+    pub fn plus(self, b: Vec3) -> Vec3
+        ensures { λ r. ⌜ r ≡ plusOf self b ⌝ }
+    {
+        Vec3 {
+            x: self.x + b.x,
+            y: self.y + b.y,
+            z: self.z + b.z,
+        }
+    }
+
+    pub fn minus(self, b: Vec3) -> Vec3
+        ensures { λ r. ⌜ r ≡ minusOf self b ⌝ }
+    {
+        Vec3 {
+            x: self.x - b.x,
+            y: self.y - b.y,
+            z: self.z - b.z,
+        }
+    }
+
+    // Each part times k.
+    pub fn scale(self, k: f64) -> Vec3
+        ensures { λ r. ⌜ r ≡ scaleOf self k ⌝ }
+    {
+        Vec3 {
+            x: self.x * k,
+            y: self.y * k,
+            z: self.z * k,
+        }
+    }
+
+    // Each part divided by k.
+    pub fn divide(self, k: f64) -> Vec3
+        ensures { λ r. ⌜ r ≡ divideOf self k ⌝ }
+    {
+        Vec3 {
+            x: self.x / k,
+            y: self.y / k,
+            z: self.z / k,
+        }
+    }
+
+    pub fn negate(self) -> Vec3
+        ensures { λ r. ⌜ r ≡ negateOf self ⌝ }
+    {
+        Vec3 {
+            x: -self.x,
+            y: -self.y,
+            z: -self.z,
+        }
+    }
+
+    // The length.
+    pub fn norm(self) -> f64
+        ensures { λ r. ⌜ r ≡ normOf self ⌝ }
+    {
+        doubles::sqrt(self.dot(self))
+    }
+
+    // Each part divided by the length.
+    pub fn normalize(self) -> Vec3
+        ensures { λ r. ⌜ r ≡ normalizeOf self ⌝ }
+    {
+        self.divide(self.norm())
+    }
+
+    // Whether all three parts are finite.
+    pub fn is_finite(self) -> bool
+        ensures { λ r. ⌜ r ≡ finiteVecOf self ⌝ }
+    {
+        if doubles::is_finite(self.x) {
+            if doubles::is_finite(self.y) {
+                return doubles::is_finite(self.z);
+            }
+        }
+        false
+    }
+}

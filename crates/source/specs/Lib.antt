@@ -1,0 +1,2 @@
+-- Document 01, module 2.
+pub mod Random
