@@ -5,6 +5,9 @@ A need that `search needs` closes is left to it. At each `returns` the goal is r
 callees ensure and by the tests on the way, with the definitions that the contract names unfolded.
 For a function with a loop the invariant and the measure stay holes. Only the functions named, or
 all that have no file yet. Run it in the repository; read what it wrote, and check again.
+
+prove.py --facts CRATE FUNCTION: after such a run, the facts at each need of one function, as paths
+into c.
 """
 import glob
 import os
@@ -153,7 +156,16 @@ def write(crate, path, fn, body, mods, names):
     print('wrote', fn)
 
 
+def show(crate, fn):
+    for need, fs in facts('target/gen/Rattle.%s.proofs/proofs/%s/Lts.antt' % (crate, fn)).items():
+        print(need)
+        for _, _, term in fs:
+            print('   ', term)
+
+
 def main():
+    if sys.argv[1] == '--facts':
+        return show(*sys.argv[2:])
     crate, wanted = sys.argv[1], set(sys.argv[2:])
     os.makedirs('target', exist_ok=True)
     run = lambda *w: subprocess.run(['rt', 'dev', crate, *w], capture_output=True, text=True, env=dict(os.environ, RT_CUT='0'))

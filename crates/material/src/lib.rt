@@ -123,12 +123,22 @@ impl OpticalMedium {
         match self {
             OpticalMedium::Air => RefractiveIndex::Index(1.0),
             OpticalMedium::Constant { n } => constant(n),
-            OpticalMedium::Sellmeier1 { b1, c1, b2, c2, b3, c3 } => {
-                root_of_square(sellmeier(square_um(wavelength), b1, c1, b2, c2, b3, c3))
-            }
-            OpticalMedium::Schott { a0, a1, a2, a3, a4, a5 } => {
-                root_of_square(schott(square_um(wavelength), a0, a1, a2, a3, a4, a5))
-            }
+            OpticalMedium::Sellmeier1 {
+                b1,
+                c1,
+                b2,
+                c2,
+                b3,
+                c3,
+            } => { root_of_square(sellmeier(square_um(wavelength), b1, c1, b2, c2, b3, c3)) }
+            OpticalMedium::Schott {
+                a0,
+                a1,
+                a2,
+                a3,
+                a4,
+                a5,
+            } => { root_of_square(schott(square_um(wavelength), a0, a1, a2, a3, a4, a5)) }
         }
     }
 }

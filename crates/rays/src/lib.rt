@@ -3,10 +3,10 @@
 mod matrix;
 mod vector;
 
+use error::NonSeqError;
 pub use matrix::Mat4;
 pub use matrix::Row;
 pub use vector::Vec3;
-use error::NonSeqError;
 ghost use mathlib.Core.Path.{_≡_};
 ghost use Rattle.rays.specs.Rays.{atOf, finiteRayOf, newRayOf, answerOf};
 

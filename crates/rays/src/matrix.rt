@@ -47,10 +47,30 @@ impl Mat4 {
         let s = self.r2;
         let t = self.r3;
         Mat4 {
-            r0: Row { a: p.a, b: q.a, c: s.a, d: t.a },
-            r1: Row { a: p.b, b: q.b, c: s.b, d: t.b },
-            r2: Row { a: p.c, b: q.c, c: s.c, d: t.c },
-            r3: Row { a: p.d, b: q.d, c: s.d, d: t.d },
+            r0: Row {
+                a: p.a,
+                b: q.a,
+                c: s.a,
+                d: t.a,
+            },
+            r1: Row {
+                a: p.b,
+                b: q.b,
+                c: s.b,
+                d: t.b,
+            },
+            r2: Row {
+                a: p.c,
+                b: q.c,
+                c: s.c,
+                d: t.c,
+            },
+            r3: Row {
+                a: p.d,
+                b: q.d,
+                c: s.d,
+                d: t.d,
+            },
         }
     }
 

@@ -1,0 +1,126 @@
+// Numbers in text: hex digits of a double's bits, and decimals.
+ghost use mathlib.Core.Path.{_≡_};
+ghost use mathlib.Core.Bool.{true};
+ghost use Prim.Native.Nat.{_≤_};
+ghost use lib.ListN.{length};
+ghost use Rattle.fields.specs.Number.{digitOf, digitAtOf, isHex, hexPad, bitsOf, readBitsOf, ledBy, wholeOf, readWholeOf};
+
+pub enum ReadBits {
+    Bits(u64),
+    Malformed,
+}
+
+pub enum ReadWhole {
+    Whole(u32),
+    Malformed,
+}
+
+// What a hex digit counts; 16 for any other byte.
+fn digit(b: u8) -> u64
+    ensures { λ r. ⌜ r ≡ digitOf b ⌝ }
+{
+    if b < 48 {
+        return 16;
+    }
+    if b < 58 {
+        return (b - 48) as u64;
+    }
+    if b < 97 {
+        return 16;
+    }
+    if b < 103 {
+        return (b - 87) as u64;
+    }
+    16
+}
+
+fn is_hex(t: &[u8]) -> bool
+    ensures { λ r. ⌜ r ≡ isHex (now (t .entry)) ⌝ }
+{
+    let mut i: usize = 0;
+    while i < t.len() {
+        if 16 <= digit(t[i]) {
+            return false;
+        }
+        i += 1;
+    }
+    true
+}
+
+// The digit at place i, or 0 past the end.
+fn digit_at(t: &[u8], i: usize) -> u64
+    ensures { λ r. ⌜ r ≡ digitAtOf (now (t .entry)) i ⌝ }
+{
+    if i < t.len() {
+        return digit(t[i]);
+    }
+    0
+}
+
+// Sixteen digits, zeros understood on the right.
+fn hex_pad(t: &[u8]) -> u64
+    requires { ⌜ isHex (now t) ≡ true ⌝ }
+    ensures { λ r. ⌜ r ≡ hexPad 0 16 (now (t .entry)) ⌝ }
+{
+    let mut v: u64 = 0;
+    let mut i: usize = 0;
+    while i < 16 {
+        v = v * 16 + digit_at(t, i);
+        i += 1;
+    }
+    v
+}
+
+// The bits of a double: 1 to 16 lower-case hex digits, zeros understood on the right.
+pub fn read_bits(t: &[u8]) -> ReadBits
+    ensures { λ r. ⌜ readBitsOf r ≡ bitsOf (now (t .entry)) ⌝ }
+{
+    let n = t.len();
+    if n == 0 {
+        return ReadBits::Malformed;
+    }
+    if 16 < n {
+        return ReadBits::Malformed;
+    }
+    if is_hex(t) {
+        return ReadBits::Bits(hex_pad(t));
+    }
+    ReadBits::Malformed
+}
+
+// Whether a 0 stands before another byte.
+fn is_led_by_zero(t: &[u8]) -> bool
+    ensures { λ r. ⌜ r ≡ ledBy (now (t .entry)) ⌝ }
+{
+    if t.len() < 2 {
+        return false;
+    }
+    t[0] == 48
+}
+
+// A decimal below 2^32 without leading zeros.
+pub fn read_whole(t: &[u8]) -> ReadWhole
+    ensures { λ r. ⌜ readWholeOf r ≡ wholeOf (now (t .entry)) ⌝ }
+{
+    let n = t.len();
+    if n == 0 {
+        return ReadWhole::Malformed;
+    }
+    if is_led_by_zero(t) {
+        return ReadWhole::Malformed;
+    }
+    let mut v: u64 = 0;
+    let mut i: usize = 0;
+    while i < n {
+        let d = digit(t[i]);
+        if 10 <= d {
+            return ReadWhole::Malformed;
+        }
+        v = v * 10 + d;
+        if 0xffff_ffff < v {
+            return ReadWhole::Malformed;
+        }
+        i += 1;
+    }
+    ReadWhole::Whole(v as u32)
+}

@@ -1,0 +1,90 @@
+-- Whether a stored line agrees with the definitions that the functions equal. So the number of lines that agree says how the definitions do on the stored answers.
+use Prim.Native.Nat.{ℕ, zero, suc, _+_}
+use mathlib.Core.Bool.{Bool, true, false, cond, _&&_}
+use mathlib.Core.List.{List, []}
+use lib.Dec.{eqb, ltb}
+use lib.ListN.{length, getD, drop}
+use lib.Ieee.{Float, binary64, ofBits, toBits, toUnsigned}
+use Rattle.doubles.specs.Doubles.{absOf, maxZeroOf, clampOf, finiteOf}
+use Rattle.doubles.specs.Root.{sqrtOf}
+use Rattle.error.specs.Refusals.{Answer, value, refusal}
+use Rattle.source.specs.declared.Rng64.{Rng64}
+use Rattle.source.specs.Random.{newOf, nextU64Of, nextF64Of}
+use Rattle.material.specs.declared.OpticalMedium.{OpticalMedium}
+use Rattle.material.specs.declared.OpticalMedium.the-variants.{Air, Constant, Sellmeier1, Schott}
+use Rattle.material.specs.Media.{refractiveIndexOf}
+use Rattle.fields.specs.Number.{Read, number, malformed, bitsOf, wholeOf}
+use Rattle.vectors.specs.declared.lines.Kind.{Kind}
+use Rattle.vectors.specs.declared.lines.Kind.the-variants.{Root, Double, Draw, State, Index}
+use Rattle.vectors.specs.Parts.{partOf, hasShape, isRead, isNumber, bitsAt, isDouble, given}
+
+-- x = the root of x
+unfoldable pub rootLine : List ℕ → Bool
+rootLine l = given l 3 && isDouble (partOf l 2) (sqrtOf (ofBits binary64 (bitsAt l 0)))
+
+-- x = its absolute value, its maximum with 0.0, x clamped to 0.0 and 0.999999, 1 if it is finite, x as usize
+unfoldable pub doubleLine : List ℕ → Bool
+doubleLine l =
+    let x = ofBits binary64 (bitsAt l 0) in
+    given l 7
+    && (isDouble (partOf l 2) (absOf x)
+    && (isDouble (partOf l 3) (maxZeroOf x)
+    && (isDouble (partOf l 4) (clampOf x (ofBits binary64 0) (ofBits binary64 0x3feffffde7210be9))
+    && (isNumber (wholeOf (partOf l 5)) (cond (finiteOf x) 1 0)
+    && isNumber (bitsOf (partOf l 6)) (toUnsigned 64 x)))))
+
+-- the parts from k on are n drawn numbers and then one drawn double
+unfoldable pub drawsAgree : List ℕ → ℕ → ℕ → Rng64 → Bool
+drawsAgree l zero k g = isDouble (partOf l k) (nextF64Of g .value)
+drawsAgree l (suc n) k g = cond (isNumber (bitsOf (partOf l k)) (nextU64Of g .value)) (drawsAgree l n (k + 1) (nextU64Of g .rng)) false
+
+-- seed = five drawn numbers, then one drawn double
+unfoldable pub drawLine : List ℕ → Bool
+drawLine l = given l 8 && drawsAgree l 5 2 (newOf (bitsAt l 0))
+
+-- state = the next state, and the number drawn with it
+unfoldable pub stateLine : List ℕ → Bool
+stateLine l =
+    let g : Rng64 = record { state = bitsAt l 0 } in
+    given l 4 && (isNumber (bitsOf (partOf l 2)) (nextU64Of g .rng .state) && isNumber (bitsOf (partOf l 3)) (nextU64Of g .value))
+
+unfoldable pub doubleAt : List ℕ → ℕ → Float
+doubleAt l k = ofBits binary64 (bitsAt l k)
+
+-- 0 to 3 in document 01's order; Air for a number that is none
+unfoldable pub mediumOf : ℕ → List ℕ → OpticalMedium
+mediumOf n l =
+    cond (eqb n 1) (Constant (doubleAt l 1))
+    (cond (eqb n 2) (Sellmeier1 (doubleAt l 1) (doubleAt l 2) (doubleAt l 3) (doubleAt l 4) (doubleAt l 5) (doubleAt l 6))
+    (cond (eqb n 3) (Schott (doubleAt l 1) (doubleAt l 2) (doubleAt l 3) (doubleAt l 4) (doubleAt l 5) (doubleAt l 6))
+    Air))
+
+-- r and the number
+unfoldable pub isRefusal : List ℕ → ℕ → Bool
+isRefusal t n = cond (ltb 0 (length t)) (cond (eqb (getD t 0 0) 114) (isNumber (wholeOf (drop 1 t)) n) false) false
+
+unfoldable pub isAnswer : List ℕ → Answer Float → Bool
+isAnswer t (value n) = isDouble t n
+isAnswer t (refusal n) = isRefusal t n
+
+abbrev bitsIn : List ℕ → ℕ → Bool
+bitsIn l k = isRead (bitsOf (partOf l k))
+
+unfoldable pub coefficientsRead : List ℕ → Bool
+coefficientsRead l = (bitsIn l 1 && (bitsIn l 2 && bitsIn l 3)) && ((bitsIn l 4 && (bitsIn l 5 && bitsIn l 6)) && bitsIn l 7)
+
+unfoldable pub indexOfMedium : Read → List ℕ → Bool
+indexOfMedium (number n) l =
+    cond (ltb 3 n) false ((hasShape l 10 8 && coefficientsRead l) && isAnswer (partOf l 9) (refractiveIndexOf (mediumOf n l) (doubleAt l 7)))
+indexOfMedium malformed l = false
+
+-- medium, its six coefficients, wavelength = index, or r with the number of the refusal
+unfoldable pub indexLine : List ℕ → Bool
+indexLine l = indexOfMedium (wholeOf (partOf l 0)) l
+
+unfoldable pub lineAgrees : Kind → List ℕ → Bool
+lineAgrees Root l = rootLine l
+lineAgrees Double l = doubleLine l
+lineAgrees Draw l = drawLine l
+lineAgrees State l = stateLine l
+lineAgrees Index l = indexLine l

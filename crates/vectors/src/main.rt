@@ -1,0 +1,53 @@
+// Runs the vectors in data/ and prints how many lines of each file agree. The answers in the files
+// are the Rust's (oracle/), but for vigna.txt, whose are those of Vigna's C.
+mod lines;
+mod parts;
+mod tally;
+
+use lines::Kind;
+use tally::Tally;
+ghost use mathlib.Core.Path.{_≡_};
+ghost use Rattle.fields.specs.Split.{linesOf};
+ghost use Rattle.vectors.specs.Count.{tallyOf, emptyOf};
+ghost use Rattle.vectors.specs.Lines.{lineAgrees};
+
+// Of the lines of a text.
+fn tally_lines(kind: Kind, text: &[u8]) -> Tally
+    ensures { λ r. ⌜ r ≡ tallyOf (lineAgrees kind) emptyOf (linesOf (now (text .entry))) ⌝ }
+{
+    let mut t = Tally::empty();
+    let mut at: usize = 0;
+    while at < text.len() {
+        let e = fields::end_of(text, at, b'\n');
+        t = t.count(lines::line_agrees(kind, &text[at..e]));
+        at = e + 1;
+    }
+    t
+}
+
+// One file: a file that is missing, empty or does not fit says so.
+fn run(kind: Kind, path: &[u8]) {
+    let fd = os::open_read(path);
+    if fd < 0 {
+        os::fail(path);
+        return;
+    }
+    let mut text = [0u8; 524288];
+    let n = io::read_full(fd, &mut text);
+    libc::close(fd);
+    if n == 524288 {
+        io::write_all(1, path);
+        io::write_all(1, b" does not fit the buffer\n");
+        return;
+    }
+    tally::report(path, tally_lines(kind, &text[..n]));
+}
+
+fn main() {
+    run(Kind::Root, b"sqrt.txt");
+    run(Kind::Double, b"doubles.txt");
+    run(Kind::Draw, b"rng.txt");
+    run(Kind::State, b"vigna.txt");
+    run(Kind::Index, b"index.txt");
+    run(Kind::Index, b"index_edges.txt");
+}

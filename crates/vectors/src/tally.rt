@@ -1,0 +1,64 @@
+// Counting the lines that agree, and saying so.
+ghost use mathlib.Core.Path.{_≡_};
+ghost use Rattle.vectors.specs.Count.{emptyOf, countOf};
+
+// Counts are kept modulo 2^64.
+pub struct Tally {
+    pub lines: u64,
+    pub agree: u64,
+    // the number, from 1, of the first line that does not agree; 0 for none
+    pub first: u64,
+}
+
+impl Tally {
+    pub fn empty() -> Self
+        ensures { λ r. ⌜ r ≡ emptyOf ⌝ }
+    {
+        Tally {
+            lines: 0,
+            agree: 0,
+            first: 0,
+        }
+    }
+
+    // One line more.
+    pub fn count(self, agrees: bool) -> Self
+        ensures { λ r. ⌜ r ≡ countOf self agrees ⌝ }
+    {
+        let lines = std::num::wrapping_add_u64(self.lines, 1);
+        if agrees {
+            return Tally {
+                lines,
+                agree: std::num::wrapping_add_u64(self.agree, 1),
+                first: self.first,
+            };
+        }
+        if self.first == 0 {
+            return Tally {
+                lines,
+                agree: self.agree,
+                first: lines,
+            };
+        }
+        Tally {
+            lines,
+            agree: self.agree,
+            first: self.first,
+        }
+    }
+}
+
+// Writes, as "roots: 3014 of 3015 lines agree, the first that does not is 12".
+pub fn report(name: &[u8], t: Tally) {
+    io::write_all(1, name);
+    io::write_all(1, b": ");
+    io::print_decimal(1, t.agree);
+    io::write_all(1, b" of ");
+    io::print_decimal(1, t.lines);
+    io::write_all(1, b" lines agree");
+    if t.first != 0 {
+        io::write_all(1, b", the first that does not is ");
+        io::print_decimal(1, t.first);
+    }
+    io::write_all(1, b"\n");
+}
