@@ -44,30 +44,28 @@ fn pins(m: u64, q: u64) -> bool
     true
 }
 
-// A float near the root of the double whose bits are b, times a power of two: three steps of
-// Goldschmidt's iteration on a g near √x and an h near 1 / (2 * √x), and a last step in which
-// t has the first 26 digits of g, so that t * t is exact, and so nearly is x - g * g.
+// A float near the root of the double whose bits are b, times a power of two. y is near 1 / √x; two
+// steps of Goldschmidt's iteration bring g near √x and h near 1 / (2 * √x), with constants that make
+// their errors lie evenly about 0. t has the first digits of g1, so that t * t and x - t * t are
+// exact, and d, which is x - g * g, nearly so.
 fn guess(b: u64) -> f64
     ensures { λ r. ⌜ r ≡ guessOf b ⌝ }
 {
-    // the same digits, with an exponent such that x is from 1 up and below 4
-    let n = 0x4000_0000_0000_0000 - b / 0x10_0000_0000_0000 % 2 * 0x10_0000_0000_0000
-        + b % 0x10_0000_0000_0000;
+    // the same digits, with an exponent such that x is from 1/2 up and below 2
+    let n = b % 0x20_0000_0000_0000 + 0x3fe0_0000_0000_0000;
     let x = f64::from_bits(n);
-    let y = f64::from_bits(0x5fe6_eb50_c7b5_37a9 - n / 2);
+    let y = f64::from_bits(0x5fe6_ed21_0000_0000 - n / 2);
     let g0 = x * y;
     let h0 = y * 0.5;
-    let r0 = 1.5 - g0 * h0;
+    let r0 = 1.50087894 - g0 * h0;
     let g1 = g0 * r0;
     let h1 = h0 * r0;
-    let r1 = 1.5 - g1 * h1;
-    let g2 = g1 * r1;
-    let h2 = h1 * r1;
-    let r2 = 1.5 - g2 * h2;
-    let g = g2 * r2;
-    let h = h2 * r2;
-    let t = (g + 201326592.0) - 201326592.0;
-    g + ((x - t * t) - (g + t) * (g - t)) * h
+    let t = (g1 + 201326592.0) - 201326592.0;
+    let r1 = 1.50000058 - g1 * h1;
+    let g = g1 * r1;
+    let h = h1 * r1;
+    let d = (x - t * t) - (g - t) * (g + t);
+    g + d * (h * (1.75 - g * (h * 1.5)))
 }
 
 // The same root found a binary digit at a time, with what is left of the number: for a guess that
@@ -132,15 +130,15 @@ fn root_normal(b: u64) -> f64
     f64::from_bits((e + 1021) / 2 * 0x10_0000_0000_0000 + r)
 }
 
-// The same of a subnormal double, whose bits are its digits.
+// The same of a subnormal double, whose bits are its digits. It is rare, and takes the slow way, so
+// that the quick one stands in one place.
 fn root_subnormal(b: u64) -> f64
     requires { ⌜ (0 < b) × (b < 2 ^ 52) ⌝ }
     ensures { λ r. ⌜ r ≡ sqrtOf (ofBits binary64 b) ⌝ }
 {
     let s = u64::leading_zeros(b) as u64 - 11;
     let d = b << s;
-    // the guess goes by d's digits and by whether the field is odd, as the 1 that leads d's digits is
-    let r = nearest_root(d << (s % 2), d + s % 2 * 0x10_0000_0000_0000);
+    let r = slow_root(d << (s % 2));
     f64::from_bits((1022 - s) / 2 * 0x10_0000_0000_0000 + r)
 }
 

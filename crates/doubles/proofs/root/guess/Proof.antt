@@ -1,17 +1,11 @@
 -- `doubles::root::guess` meets its contract. Assumes nothing.
-use mathlib.Core.Path.{refl}
-use borrow.Author.Needs.{needs}
 use native.Mathlib.Omega.{arith}
-use Rattle.doubles.specs.Guess.{guessOf, evenedBits, lastOf}
 use Rattle.doubles.proofs.Floats.{positive-no-nan}
+use mathlib.Core.Path.{refl}
+use Rattle.doubles.specs.Guess.{guessOf, scaledBits}
+use borrow.Author.Needs.{needs}
 use Rattle.doubles.proofs.root.guess.Statement.{statement}
 use Rattle.doubles.proofs.root.guess.Tie as tie
-
-mul-n : tie.Need-mul-n
-mul-n c = search needs
-
-sub-n : tie.Need-sub-n
-sub-n c = search needs
 
 add-n : tie.Need-add-n
 add-n c = search needs
@@ -26,8 +20,8 @@ float-from-bits-y : tie.Need-float-from-bits-y
 float-from-bits-y c = positive-no-nan _ (omega arith)
 
 returns : tie.Need-returns
-unfolding guessOf evenedBits lastOf
+unfolding guessOf scaledBits
 returns c = refl
 
 pub guess-spec : {M : Type 1} → statement M
-guess-spec = tie.close (tie.spec mul-n sub-n add-n float-from-bits-x sub-y float-from-bits-y returns)
+guess-spec = tie.close (tie.spec add-n float-from-bits-x sub-y float-from-bits-y returns)

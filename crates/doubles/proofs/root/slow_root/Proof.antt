@@ -42,22 +42,22 @@ loop-less : tie.Need-loop-less Inv-loop μ-loop
 loop-less c = omega arith
 
 loop-again : tie.Need-loop-again Inv-loop μ-loop
-loop-again c = up _ _ _ _ _ (c .before .before .loop .inv) (c .before .loop-test .taken) (c .if1 .taken)
+loop-again c = up _ _ _ _ _ (c .before .before .loop .inv) (c .before .loop-test .taken) (omega arith)
 
 loop-less-2 : tie.Need-loop-less-2 Inv-loop μ-loop
 loop-less-2 c = omega arith
 
 loop-again-2 : tie.Need-loop-again-2 Inv-loop μ-loop
-loop-again-2 c = down _ _ _ _ _ (c .before .before .loop .inv) (c .before .loop-test .taken) (c .if1 .left)
+loop-again-2 c = down _ _ _ _ _ (c .before .before .loop .inv) (c .before .loop-test .taken) (omega arith)
 
 add-result : tie.Need-add-result Inv-loop μ-loop
 add-result c = omega (arith, small (c .before .before .loop .inv))
 
 returns : tie.Need-returns Inv-loop μ-loop
-returns c = end-up _ _ _ _ _ (c .before .before .loop .inv) (c .before .loop-test .left) (c .before .before .before .pre .0) (c .if2 .taken)
+returns c = end-up _ _ _ _ _ (c .before .before .loop .inv) (c .before .loop-test .left) (c .before .before .before .pre .0) (omega arith)
 
 returns-2 : tie.Need-returns-2 Inv-loop μ-loop
-returns-2 c = end-down _ _ _ _ _ (c .before .before .loop .inv) (c .before .loop-test .left) (c .before .before .before .pre .0) (c .if2 .left)
+returns-2 c = end-down _ _ _ _ _ (c .before .before .loop .inv) (c .before .loop-test .left) (c .before .before .before .pre .0) (omega arith)
 
 pub slow-root-spec : {M : Type 1} → statement M
 slow-root-spec =

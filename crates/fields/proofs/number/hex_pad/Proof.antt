@@ -33,7 +33,7 @@ small c = rw (c .digit-at .ensures) (digit-at-lt _ _ (c .before .before .before 
 add-v : tie.Need-add-v Inv-loop μ-loop
 add-v c =
     let l = c .before .before in
-    record { fits = pow-fits _ _ _ (l .loop .inv .1) (c .before .loop-test .taken) (small c) }
+    record { fits = pow-fits _ _ _ (l .loop .inv .1) (omega arith) (small c) }
 
 add-i : tie.Need-add-i Inv-loop μ-loop
 add-i c = search needs
@@ -46,11 +46,11 @@ loop-again c =
     let l = c .before .before in (
       search needs,
       pow-turn _ _ _ (l .loop .inv .1) (small c),
-      rw (c .digit-at .ensures) (pad-step _ _ _ _ (c .before .loop-test .taken) (l .loop .inv .2)),
+      rw (c .digit-at .ensures) (pad-step _ _ _ _ (omega arith) (l .loop .inv .2)),
     )
 
 returns : tie.Need-returns Inv-loop μ-loop
-returns c = pad-done _ _ _ _ (c .loop-test .left) (c .before .loop .inv .2)
+returns c = pad-done _ _ _ _ (omega arith) (c .before .loop .inv .2)
 
 pub hex-pad-spec : {M : Type 1} → statement M
 hex-pad-spec =

@@ -1,11 +1,8 @@
 -- `source::Rng64::next_f64` meets its contract. Assumes nothing.
 use Rattle.source.specs.Random.{nextF64Of, unitOf}
-use Prim.Native.Nat.{_/_, _^_}
 use native.Mathlib.Omega.{arith}
-use lib.Dec.{le→leb}
-use lib.Ieee.{inFloat}
 use borrow.Author.Needs.{needs}
-use Rattle.source.proofs.Products.{drawn-fits}
+use Rattle.source.proofs.Products.{drawn-fits, in-float}
 use Rattle.source.proofs.Rng64.next_f64.Statement.{statement}
 use Rattle.source.proofs.Rng64.next_f64.Tie as tie
 
@@ -13,10 +10,9 @@ next-u64-requires : tie.Need-next-u64-requires
 next-u64-requires c κs = search needs
 
 int-to-float-t6 : tie.Need-int-to-float-t6
-unfolding inFloat
 int-to-float-t6 c =
     let d = c .before .before .next-u64 .result in
-    le→leb (d .value / 2 ^ 11) (2 ^ 53) (omega (arith, drawn-fits (c .before .before .before .args .self) d (c .before .before .next-u64 .ensures)))
+    in-float _ (omega (arith, drawn-fits (c .before .before .before .args .self) d (c .before .before .next-u64 .ensures)))
 
 returns : tie.Need-returns
 unfolding nextF64Of unitOf

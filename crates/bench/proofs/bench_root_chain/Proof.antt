@@ -1,0 +1,65 @@
+-- `bench::bench_root_chain` meets its contract. Assumes nothing.
+use borrow.Author.Needs.{needs}
+use mathlib.Core.Path.{_≡_, refl, ap}
+use mathlib.Core.List.{List, [], _∷_}
+use Prim.Native.Nat.{_-_, _≤_}
+use lib.ListN.{length, drop}
+use lib.Ieee.{Float, binary64, add, ofBits}
+use Rattle.doubles.specs.Root.{sqrtOf}
+use Rattle.bench.proofs.Turns.{turn, done}
+use Rattle.bench.specs.Loops.{rootChainOf}
+use Rattle.bench.proofs.bench_root_chain.Statement.{statement}
+use Rattle.bench.proofs.bench_root_chain.Tie as tie
+
+none : (t : Float) → rootChainOf t [] ≡ t
+unfolding rootChainOf
+none t = refl
+
+more : (t x : Float) (xs : List Float) → rootChainOf t (x ∷ xs) ≡ rootChainOf (sqrtOf (add binary64 x t)) xs
+unfolding rootChainOf
+more t x xs = refl
+
+abbrev Inv-loop : tie.InvT-loop
+Inv-loop xs t₀ i₀ t i = rootChainOf t (drop i xs) ≡ rootChainOf (ofBits binary64 0) xs
+
+abbrev μ-loop : tie.MeasureT-loop
+μ-loop xs t₀ i₀ t i = length xs - i
+
+loop-holds : tie.Need-loop-holds Inv-loop μ-loop
+loop-holds c = refl
+
+mul-sqrt : tie.Need-mul-sqrt Inv-loop μ-loop
+mul-sqrt c = search needs
+
+shared-slice-read-sqrt : tie.Need-shared-slice-read-sqrt Inv-loop μ-loop
+shared-slice-read-sqrt c = search needs
+
+sqrt-requires : tie.Need-sqrt-requires Inv-loop μ-loop
+sqrt-requires c κs = search needs
+
+add-i : tie.Need-add-i Inv-loop μ-loop
+add-i c = search needs
+
+loop-less : tie.Need-loop-less Inv-loop μ-loop
+loop-less c = search needs
+
+loop-again : tie.Need-loop-again Inv-loop μ-loop
+loop-again c = turn rootChainOf (λ t x. sqrtOf (add binary64 x t)) none more _ _ _ _ _ (c .before .before .loop-test .taken) (c .sqrt .ensures) (c .before .before .before .loop .inv)
+
+returns : tie.Need-returns Inv-loop μ-loop
+returns c = done rootChainOf (λ t x. sqrtOf (add binary64 x t)) none more _ _ _ _ (c .loop-test .left) (c .before .loop .inv)
+
+pub bench-root-chain-spec : {M : Type 1} → statement M
+bench-root-chain-spec =
+    tie.close
+    (tie.spec
+    Inv-loop
+    μ-loop
+    loop-holds
+    mul-sqrt
+    shared-slice-read-sqrt
+    sqrt-requires
+    add-i
+    loop-less
+    loop-again
+    returns)

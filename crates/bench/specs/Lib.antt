@@ -1,0 +1,2 @@
+-- What the benchmark's loops compute.
+pub mod Loops
