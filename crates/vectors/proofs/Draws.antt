@@ -9,7 +9,7 @@ use Rattle.source.specs.declared.DrawnU64.{DrawnU64}
 use Rattle.source.specs.declared.DrawnF64.{DrawnF64}
 use Rattle.source.specs.Random.{nextU64Of, nextF64Of}
 use Rattle.fields.specs.Number.{bitsOf}
-use Rattle.vectors.specs.Parts.{partOf, isNumber, isDouble}
+use Rattle.vector_lines.specs.Parts.{partOf, isNumber, isDouble}
 use Rattle.vectors.specs.Lines.{drawsAgree}
 
 module _ (l : List ℕ) (k : ℕ) (g : Rng64) (z : Bool) (i : drawsAgree l (7 - k) k g ≡ z) where

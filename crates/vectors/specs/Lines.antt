@@ -15,18 +15,25 @@ use Rattle.material.specs.declared.OpticalMedium.the-variants.{Air, Constant, S
 use Rattle.material.specs.Media.{refractiveIndexOf}
 use Rattle.fields.specs.Number.{Read, number, malformed, bitsOf, wholeOf}
 use Rattle.vectors.specs.declared.lines.Kind.{Kind}
-use Rattle.vectors.specs.declared.lines.Kind.the-variants.{Root, Double, Draw, State, Index}
-use Rattle.vectors.specs.Parts.{partOf, hasShape, isRead, isNumber, bitsAt, isDouble, given}
+use Rattle.vectors.specs.declared.lines.Kind.the-variants.{Root, Double, Draw, State, Vector, Matrix, Index}
+use Rattle.rays.specs.declared.vector.Vec3.{Vec3}
+use Rattle.rays.specs.declared.matrix.Row.{Row}
+use Rattle.rays.specs.declared.matrix.Mat4.{Mat4}
+use Rattle.rays.specs.declared.Ray.{Ray}
+use Rattle.rays.specs.Vectors.{dotOf, crossOf, plusOf, minusOf, scaleOf, divideOf, negateOf, normOf, normalizeOf}
+use Rattle.rays.specs.Matrices.{transformPointOf, transformDirectionOf, transformNormalOf}
+use Rattle.rays.specs.Rays.{atOf}
+use Rattle.vector_lines.specs.Parts.{partOf, hasShape, isNumber, bitsAt, bitsBetween, doubleAt, isDouble, given, vecAt, isVec}
 
 -- x = the root of x
 unfoldable pub rootLine : List ℕ → Bool
-rootLine l = given l 3 && isDouble (partOf l 2) (sqrtOf (ofBits binary64 (bitsAt l 0)))
+rootLine l = given l 3 1 && isDouble (partOf l 2) (sqrtOf (ofBits binary64 (bitsAt l 0)))
 
 -- x = its absolute value, its maximum with 0.0, x clamped to 0.0 and 0.999999, 1 if it is finite, x as usize
 unfoldable pub doubleLine : List ℕ → Bool
 doubleLine l =
     let x = ofBits binary64 (bitsAt l 0) in
-    given l 7
+    given l 7 1
     && (isDouble (partOf l 2) (absOf x)
     && (isDouble (partOf l 3) (maxZeroOf x)
     && (isDouble (partOf l 4) (clampOf x (ofBits binary64 0) (ofBits binary64 0x3feffffde7210be9))
@@ -40,16 +47,43 @@ drawsAgree l (suc n) k g = cond (isNumber (bitsOf (partOf l k)) (nextU64Of g .va
 
 -- seed = five drawn numbers, then one drawn double
 unfoldable pub drawLine : List ℕ → Bool
-drawLine l = given l 8 && drawsAgree l 5 2 (newOf (bitsAt l 0))
+drawLine l = given l 8 1 && drawsAgree l 5 2 (newOf (bitsAt l 0))
 
 -- state = the next state, and the number drawn with it
 unfoldable pub stateLine : List ℕ → Bool
 stateLine l =
     let g : Rng64 = record { state = bitsAt l 0 } in
-    given l 4 && (isNumber (bitsOf (partOf l 2)) (nextU64Of g .rng .state) && isNumber (bitsOf (partOf l 3)) (nextU64Of g .value))
+    given l 4 1 && (isNumber (bitsOf (partOf l 2)) (nextU64Of g .rng .state) && isNumber (bitsOf (partOf l 3)) (nextU64Of g .value))
 
-unfoldable pub doubleAt : List ℕ → ℕ → Float
-doubleAt l k = ofBits binary64 (bitsAt l k)
+unfoldable pub pairAgrees : List ℕ → Vec3 → Vec3 → Bool
+pairAgrees l a b =
+    (isDouble (partOf l 8) (dotOf a b) && isVec l 9 (crossOf a b)) && (isVec l 12 (plusOf a b) && isVec l 15 (minusOf a b))
+
+unfoldable pub oneAgrees : List ℕ → Vec3 → Float → Bool
+oneAgrees l a k =
+    (isVec l 18 (scaleOf a k) && isVec l 21 (divideOf a k)) && (isVec l 24 (negateOf a) && (isDouble (partOf l 27) (normOf a) && isVec l 28 (normalizeOf a)))
+
+-- a, b, k = dot, cross, sum, difference, a scaled by k, divided by k and negated, its length, a normalized, the point at k of the ray from a along b
+unfoldable pub vectorLine : List ℕ → Bool
+vectorLine l =
+    let a = vecAt l 0 in
+    let b = vecAt l 3 in
+    let k = doubleAt l 6 in
+    let r : Ray = record { origin = a; direction = b; «wavelength_nm» = ofBits binary64 0; energy = ofBits binary64 0 } in
+    given l 34 7 && ((pairAgrees l a b && oneAgrees l a k) && isVec l 31 (atOf r k))
+
+unfoldable pub rowAt : List ℕ → ℕ → Row
+rowAt l k = record { a = doubleAt l k; b = doubleAt l (k + 1); c = doubleAt l (k + 2); d = doubleAt l (k + 3) }
+
+unfoldable pub matAt : List ℕ → Mat4
+matAt l = record { r0 = rowAt l 0; r1 = rowAt l 4; r2 = rowAt l 8; r3 = rowAt l 12 }
+
+-- matrix, v = it times v as a point and as a direction, its transpose times v as a normal
+unfoldable pub matrixLine : List ℕ → Bool
+matrixLine l =
+    let m = matAt l in
+    let v = vecAt l 16 in
+    given l 29 19 && (isVec l 20 (transformPointOf m v) && (isVec l 23 (transformDirectionOf m v) && isVec l 26 (transformNormalOf m v)))
 
 -- 0 to 3 in document 01's order; Air for a number that is none
 unfoldable pub mediumOf : ℕ → List ℕ → OpticalMedium
@@ -67,15 +101,9 @@ unfoldable pub isAnswer : List ℕ → Answer Float → Bool
 isAnswer t (value n) = isDouble t n
 isAnswer t (refusal n) = isRefusal t n
 
-abbrev bitsIn : List ℕ → ℕ → Bool
-bitsIn l k = isRead (bitsOf (partOf l k))
-
-unfoldable pub coefficientsRead : List ℕ → Bool
-coefficientsRead l = (bitsIn l 1 && (bitsIn l 2 && bitsIn l 3)) && ((bitsIn l 4 && (bitsIn l 5 && bitsIn l 6)) && bitsIn l 7)
-
 unfoldable pub indexOfMedium : Read → List ℕ → Bool
 indexOfMedium (number n) l =
-    cond (ltb 3 n) false ((hasShape l 10 8 && coefficientsRead l) && isAnswer (partOf l 9) (refractiveIndexOf (mediumOf n l) (doubleAt l 7)))
+    cond (ltb 3 n) false ((hasShape l 10 8 && bitsBetween l 1 8) && isAnswer (partOf l 9) (refractiveIndexOf (mediumOf n l) (doubleAt l 7)))
 indexOfMedium malformed l = false
 
 -- medium, its six coefficients, wavelength = index, or r with the number of the refusal
@@ -87,4 +115,6 @@ lineAgrees Root l = rootLine l
 lineAgrees Double l = doubleLine l
 lineAgrees Draw l = drawLine l
 lineAgrees State l = stateLine l
+lineAgrees Vector l = vectorLine l
+lineAgrees Matrix l = matrixLine l
 lineAgrees Index l = indexLine l

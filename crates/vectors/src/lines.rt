@@ -1,23 +1,31 @@
 // Whether a stored line is what the functions answer.
-use crate::parts::bits_at;
-use crate::parts::both;
-use crate::parts::has_shape;
-use crate::parts::is_any_bits;
-use crate::parts::is_bits;
-use crate::parts::is_double;
-use crate::parts::is_given;
-use crate::parts::is_whole;
-use crate::parts::one_if;
 use error::NonSeqError;
 use fields::ReadWhole;
 use material::OpticalMedium;
 use material::RefractiveIndex;
+use rays::Mat4;
+use rays::Ray;
+use rays::Row;
+use rays::Vec3;
 use source::Rng64;
+use vector_lines::are_bits;
+use vector_lines::bits_at;
+use vector_lines::both;
+use vector_lines::double_at;
+use vector_lines::has_shape;
+use vector_lines::is_bits;
+use vector_lines::is_double;
+use vector_lines::is_given;
+use vector_lines::is_vec;
+use vector_lines::is_whole;
+use vector_lines::one_if;
+use vector_lines::vec_at;
 ghost use mathlib.Core.Path.{_≡_};
+ghost use Prim.Native.Nat.{_<_};
 ghost use Rattle.error.specs.Refusals.{numberOf};
 ghost use Rattle.material.specs.Media.{answerOf};
-ghost use Rattle.vectors.specs.Parts.{partOf};
-ghost use Rattle.vectors.specs.Lines.{rootLine, doubleLine, drawsAgree, drawLine, stateLine, doubleAt, mediumOf, coefficientsRead, isRefusal, isAnswer, indexLine, lineAgrees};
+ghost use Rattle.vector_lines.specs.Parts.{partOf};
+ghost use Rattle.vectors.specs.Lines.{rootLine, doubleLine, drawsAgree, drawLine, stateLine, mediumOf, isRefusal, isAnswer, indexLine, pairAgrees, oneAgrees, vectorLine, rowAt, matAt, matrixLine, lineAgrees};
 
 // What a file's lines say.
 pub enum Kind {
@@ -30,6 +38,11 @@ pub enum Kind {
     Draw,
     // state = the next state, and the number drawn with it
     State,
+    // a, b, k = dot, cross, sum, difference, a scaled by k, divided by k and negated, its length, a
+    // normalized, the point at k of the ray from a along b
+    Vector,
+    // matrix, v = it times v as a point and as a direction, its transpose times v as a normal
+    Matrix,
     // medium, its six coefficients, wavelength = index, or r with the number of the refusal
     Index,
 }
@@ -38,7 +51,7 @@ fn root_line(line: &[u8]) -> bool
     ensures { λ r. ⌜ r ≡ rootLine (now (line .entry)) ⌝ }
 {
     let x = doubles::from_bits(bits_at(line, 0));
-    let ok = is_given(line, 3);
+    let ok = is_given(line, 3, 1);
     both(ok, is_double(line, 2, doubles::sqrt(x)))
 }
 
@@ -46,7 +59,7 @@ fn double_line(line: &[u8]) -> bool
     ensures { λ r. ⌜ r ≡ doubleLine (now (line .entry)) ⌝ }
 {
     let x = doubles::from_bits(bits_at(line, 0));
-    let ok = is_given(line, 7);
+    let ok = is_given(line, 7, 1);
     let a = is_double(line, 2, doubles::abs(x));
     let b = is_double(line, 3, doubles::max_zero(x));
     let c = is_double(line, 4, doubles::clamp(x, 0.0, 0.999999));
@@ -77,14 +90,14 @@ fn draws_agree(line: &[u8], rng: Rng64) -> bool
 fn draw_line(line: &[u8]) -> bool
     ensures { λ r. ⌜ r ≡ drawLine (now (line .entry)) ⌝ }
 {
-    let ok = is_given(line, 8);
+    let ok = is_given(line, 8, 1);
     both(ok, draws_agree(line, Rng64::new(bits_at(line, 0))))
 }
 
 fn state_line(line: &[u8]) -> bool
     ensures { λ r. ⌜ r ≡ stateLine (now (line .entry)) ⌝ }
 {
-    let ok = is_given(line, 4);
+    let ok = is_given(line, 4, 1);
     let g = Rng64 {
         state: bits_at(line, 0),
     };
@@ -96,11 +109,81 @@ fn state_line(line: &[u8]) -> bool
     )
 }
 
-// Part k as a double.
-fn double_at(line: &[u8], k: usize) -> f64
-    ensures { λ r. ⌜ r ≡ doubleAt (now (line .entry)) k ⌝ }
+// What a vector line says of a and b.
+fn pair_agrees(line: &[u8], a: Vec3, b: Vec3) -> bool
+    ensures { λ r. ⌜ r ≡ pairAgrees (now (line .entry)) a b ⌝ }
 {
-    doubles::from_bits(bits_at(line, k))
+    let dot = is_double(line, 8, a.dot(b));
+    let cross = is_vec(line, 9, a.cross(b));
+    let sum = is_vec(line, 12, a.plus(b));
+    let difference = is_vec(line, 15, a.minus(b));
+    both(both(dot, cross), both(sum, difference))
+}
+
+// What it says of a and k, and of a alone.
+fn one_agrees(line: &[u8], a: Vec3, k: f64) -> bool
+    ensures { λ r. ⌜ r ≡ oneAgrees (now (line .entry)) a k ⌝ }
+{
+    let scaled = is_vec(line, 18, a.scale(k));
+    let divided = is_vec(line, 21, a.divide(k));
+    let negated = is_vec(line, 24, a.negate());
+    let norm = is_double(line, 27, a.norm());
+    let unit = is_vec(line, 28, a.normalize());
+    both(both(scaled, divided), both(negated, both(norm, unit)))
+}
+
+fn vector_line(line: &[u8]) -> bool
+    ensures { λ r. ⌜ r ≡ vectorLine (now (line .entry)) ⌝ }
+{
+    let a = vec_at(line, 0);
+    let b = vec_at(line, 3);
+    let k = double_at(line, 6);
+    let ray = Ray {
+        origin: a,
+        direction: b,
+        wavelength_nm: 0.0,
+        energy: 0.0,
+    };
+    let values = both(pair_agrees(line, a, b), one_agrees(line, a, k));
+    both(
+        is_given(line, 34, 7),
+        both(values, is_vec(line, 31, ray.at(k))),
+    )
+}
+
+// The row of four parts from k on.
+fn row_at(line: &[u8], k: usize) -> Row
+    requires { ⌜ k < 64 ⌝ }
+    ensures { λ r. ⌜ r ≡ rowAt (now (line .entry)) k ⌝ }
+{
+    Row {
+        a: double_at(line, k),
+        b: double_at(line, k + 1),
+        c: double_at(line, k + 2),
+        d: double_at(line, k + 3),
+    }
+}
+
+fn mat_at(line: &[u8]) -> Mat4
+    ensures { λ r. ⌜ r ≡ matAt (now (line .entry)) ⌝ }
+{
+    Mat4 {
+        r0: row_at(line, 0),
+        r1: row_at(line, 4),
+        r2: row_at(line, 8),
+        r3: row_at(line, 12),
+    }
+}
+
+fn matrix_line(line: &[u8]) -> bool
+    ensures { λ r. ⌜ r ≡ matrixLine (now (line .entry)) ⌝ }
+{
+    let m = mat_at(line);
+    let v = vec_at(line, 16);
+    let p = is_vec(line, 20, m.transform_point(v));
+    let d = is_vec(line, 23, m.transform_direction(v));
+    let n = is_vec(line, 26, m.transform_normal(v));
+    both(is_given(line, 29, 19), both(p, both(d, n)))
 }
 
 // The medium of an index line, by its number and as many coefficients as it takes; Air for a number
@@ -165,21 +248,6 @@ fn is_answer(line: &[u8], r: RefractiveIndex) -> bool
     }
 }
 
-// Whether the coefficients and the wavelength are bits.
-fn coefficients_read(line: &[u8]) -> bool
-    ensures { λ r. ⌜ r ≡ coefficientsRead (now (line .entry)) ⌝ }
-{
-    let a = both(
-        is_any_bits(line, 1),
-        both(is_any_bits(line, 2), is_any_bits(line, 3)),
-    );
-    let b = both(
-        is_any_bits(line, 4),
-        both(is_any_bits(line, 5), is_any_bits(line, 6)),
-    );
-    both(a, both(b, is_any_bits(line, 7)))
-}
-
 fn index_line(line: &[u8]) -> bool
     ensures { λ r. ⌜ r ≡ indexLine (now (line .entry)) ⌝ }
 {
@@ -188,7 +256,7 @@ fn index_line(line: &[u8]) -> bool
             if 3 < number {
                 return false;
             }
-            let ok = both(has_shape(line, 10, 8), coefficients_read(line));
+            let ok = both(has_shape(line, 10, 8), are_bits(line, 1, 8));
             let m = medium(number as u64, line);
             both(ok, is_answer(line, m.refractive_index(double_at(line, 7))))
         }
@@ -204,6 +272,8 @@ pub fn line_agrees(kind: Kind, line: &[u8]) -> bool
         Kind::Double => double_line(line),
         Kind::Draw => draw_line(line),
         Kind::State => state_line(line),
+        Kind::Vector => vector_line(line),
+        Kind::Matrix => matrix_line(line),
         Kind::Index => index_line(line),
     }
 }

@@ -1,7 +1,6 @@
 // Runs the vectors in data/ and prints how many lines of each file agree. The answers in the files
 // are the Rust's (oracle/), but for vigna.txt, whose are those of Vigna's C.
 mod lines;
-mod parts;
 mod tally;
 
 use lines::Kind;
@@ -48,6 +47,8 @@ fn main() {
     run(Kind::Double, b"doubles.txt");
     run(Kind::Draw, b"rng.txt");
     run(Kind::State, b"vigna.txt");
+    run(Kind::Vector, b"vec3.txt");
+    run(Kind::Matrix, b"mat4.txt");
     run(Kind::Index, b"index.txt");
     run(Kind::Index, b"index_edges.txt");
 }

@@ -21,8 +21,8 @@ returns c = simp (← c .before .before .before .before .before .part .ensures, 
 has-shape-requires : tie.Need-has-shape-requires
 has-shape-requires c κs = search needs
 
-coefficients-read-requires : tie.Need-coefficients-read-requires
-coefficients-read-requires c κs = search needs
+are-bits-requires : tie.Need-are-bits-requires
+are-bits-requires c κs = search needs
 
 both-requires : tie.Need-both-requires
 both-requires c κs = search needs
@@ -50,7 +50,7 @@ enum-told c = search needs
 
 returns-2 : tie.Need-returns-2
 unfolding indexLine indexOfMedium
-returns-2 c = simp (← c .before .before .before .before .before .before .before .before .before .before .before .before .before .part .ensures, ← c .before .before .before .before .before .before .before .before .before .before .before .before .read-whole .ensures, c .before .before .before .before .before .before .before .before .before .before .number .given .1, le-ltb _ _ (c .before .before .before .before .before .before .before .before .if1 .left), ← c .before .before .before .before .before .before .before .has-shape .ensures, ← c .before .before .before .before .before .before .coefficients-read .ensures, ← c .before .before .before .before .before .both .ensures, ← c .before .before .before .before .medium .ensures, ← c .before .before .before .double-at .ensures, ← c .before .before .refractive-index .ensures, ← c .before .is-answer .ensures, ← c .both2 .ensures)
+returns-2 c = simp (← c .before .before .before .before .before .before .before .before .before .before .before .before .before .part .ensures, ← c .before .before .before .before .before .before .before .before .before .before .before .before .read-whole .ensures, c .before .before .before .before .before .before .before .before .before .before .number .given .1, le-ltb _ _ (c .before .before .before .before .before .before .before .before .if1 .left), ← c .before .before .before .before .before .before .before .has-shape .ensures, ← c .before .before .before .before .before .before .are-bits .ensures, ← c .before .before .before .before .before .both .ensures, ← c .before .before .before .before .medium .ensures, ← c .before .before .before .double-at .ensures, ← c .before .before .refractive-index .ensures, ← c .before .is-answer .ensures, ← c .both2 .ensures)
 
 returns-3 : tie.Need-returns-3
 unfolding indexLine indexOfMedium
@@ -65,7 +65,7 @@ index-line-spec =
     enum-known-number
     returns
     has-shape-requires
-    coefficients-read-requires
+    are-bits-requires
     both-requires
     cast-medium
     medium-requires

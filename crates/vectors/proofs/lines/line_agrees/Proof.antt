@@ -31,6 +31,18 @@ state-line-requires c κs = search needs
 enum-told-5 : tie.Need-enum-told-5
 enum-told-5 c = search needs
 
+vector-line-requires : tie.Need-vector-line-requires
+vector-line-requires c κs = search needs
+
+enum-told-6 : tie.Need-enum-told-6
+enum-told-6 c = search needs
+
+matrix-line-requires : tie.Need-matrix-line-requires
+matrix-line-requires c κs = search needs
+
+enum-told-7 : tie.Need-enum-told-7
+enum-told-7 c = search needs
+
 index-line-requires : tie.Need-index-line-requires
 index-line-requires c κs = search needs
 
@@ -52,7 +64,15 @@ returns-4 c = simp (c .before .enum-told4 .given .1, ← c .state-line .ensures)
 
 returns-5 : tie.Need-returns-5
 unfolding lineAgrees
-returns-5 c = simp (c .before .enum-told5 .given .1, ← c .index-line .ensures)
+returns-5 c = simp (c .before .enum-told5 .given .1, ← c .vector-line .ensures)
+
+returns-6 : tie.Need-returns-6
+unfolding lineAgrees
+returns-6 c = simp (c .before .enum-told6 .given .1, ← c .matrix-line .ensures)
+
+returns-7 : tie.Need-returns-7
+unfolding lineAgrees
+returns-7 c = simp (c .before .enum-told7 .given .1, ← c .index-line .ensures)
 
 pub line-agrees-spec : {M : Type 1} → statement M
 line-agrees-spec =
@@ -67,9 +87,15 @@ line-agrees-spec =
     enum-told-4
     state-line-requires
     enum-told-5
+    vector-line-requires
+    enum-told-6
+    matrix-line-requires
+    enum-told-7
     index-line-requires
     returns
     returns-2
     returns-3
     returns-4
-    returns-5)
+    returns-5
+    returns-6
+    returns-7)

@@ -7,7 +7,7 @@
 //!   scenegen bench SEED N        ns per interaction of the original
 //!   scenegen vectors DIR         tables of single functions of the original (hex bits, printed style)
 //! A SEED of the form tN is the "typical" bench scene number N (8 solids, 2 detectors).
-use nalgebra::Matrix4;
+use nalgebra::{Matrix4, Vector4};
 use optics_core::{Ray, Vec3};
 use optics_nonseq::detector::{Detector2D, RayPathFilter};
 use optics_nonseq::error::NonSeqError;
@@ -661,6 +661,29 @@ fn edges(put: &dyn Fn(&str, String)) {
         }
     }
     put("index_edges", t);
+    // Vectors: a b k = dot cross + - *k /k neg norm normalize at.
+    let num = |s: &mut Sm| match s.n(12) { 0 => s.wild(), 1 => 0.0, 2 => f64::from_bits(s.u()), 3 => s.log(1e-160, 1e160), _ => s.r(-10.0, 10.0) };
+    let three = |s: &mut Sm| Vec3::new(num(s), num(s), num(s));
+    let v3 = |v: Vec3| format!("{} {} {}", hx(v.x), hx(v.y), hx(v.z));
+    let mut t = String::new();
+    for _ in 0..800 {
+        let (a, b, k) = (three(s), three(s), num(s));
+        let (p, q) = (a.cross(&b), a.normalize());
+        let _ = writeln!(
+            t, "{} {} {} = {} {} {} {} {} {} {} {} {} {}", v3(a), v3(b), hx(k), hx(a.dot(&b)), v3(p), v3(a + b), v3(a - b), v3(a * k), v3(a / k), v3(-a), hx(a.norm()), v3(q), v3(a + b * k)
+        );
+    }
+    put("vec3", t);
+    // Matrices: sixteen numbers, v = as a point, as a direction, by the transpose as a normal.
+    let mut t = String::new();
+    for _ in 0..600 {
+        let e: Vec<f64> = (0..16).map(|_| num(s)).collect();
+        let m = Matrix4::new(e[0], e[1], e[2], e[3], e[4], e[5], e[6], e[7], e[8], e[9], e[10], e[11], e[12], e[13], e[14], e[15]);
+        let v = three(s);
+        let by = |m: Matrix4<f64>, last: f64| { let r = m * Vector4::new(v.x, v.y, v.z, last); v3(Vec3::new(r[0], r[1], r[2])) };
+        let _ = writeln!(t, "{} {} = {} {} {}", e.iter().map(|&x| hx(x)).collect::<Vec<_>>().join(" "), v3(v), by(m, 1.0), by(m, 0.0), by(m.transpose(), 0.0));
+    }
+    put("mat4", t);
 }
 
 fn main() {

@@ -1,9 +1,9 @@
--- `vectors::parts::has_shape` meets its contract. Assumes nothing.
+-- `vector_lines::has_shape` meets its contract. Assumes nothing.
 use borrow.Author.Tests.{eq-eqb, ne-eqb}
-use Rattle.vectors.specs.Parts.{hasShape}
+use Rattle.vector_lines.specs.Parts.{hasShape}
 use borrow.Author.Needs.{needs}
-use Rattle.vectors.proofs.parts.has_shape.Statement.{statement}
-use Rattle.vectors.proofs.parts.has_shape.Tie as tie
+use Rattle.vector_lines.proofs.has_shape.Statement.{statement}
+use Rattle.vector_lines.proofs.has_shape.Tie as tie
 
 count-parts-requires : tie.Need-count-parts-requires
 count-parts-requires c κs = search needs

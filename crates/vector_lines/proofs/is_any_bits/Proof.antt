@@ -1,7 +1,7 @@
--- `vectors::parts::is_any_bits` meets its contract. Assumes nothing.
+-- `vector_lines::is_any_bits` meets its contract. Assumes nothing.
 use borrow.Author.Needs.{needs}
-use Rattle.vectors.proofs.parts.is_any_bits.Statement.{statement}
-use Rattle.vectors.proofs.parts.is_any_bits.Tie as tie
+use Rattle.vector_lines.proofs.is_any_bits.Statement.{statement}
+use Rattle.vector_lines.proofs.is_any_bits.Tie as tie
 
 part-requires : tie.Need-part-requires
 part-requires c κs = search needs

@@ -1,8 +1,8 @@
--- `vectors::parts::is_double` meets its contract. Assumes nothing.
-use Rattle.vectors.specs.Parts.{isDouble}
+-- `vector_lines::is_double` meets its contract. Assumes nothing.
+use Rattle.vector_lines.specs.Parts.{isDouble}
 use borrow.Author.Needs.{needs}
-use Rattle.vectors.proofs.parts.is_double.Statement.{statement}
-use Rattle.vectors.proofs.parts.is_double.Tie as tie
+use Rattle.vector_lines.proofs.is_double.Statement.{statement}
+use Rattle.vector_lines.proofs.is_double.Tie as tie
 
 to-bits-requires : tie.Need-to-bits-requires
 to-bits-requires c κs = search needs

@@ -1,10 +1,11 @@
-// The parts of a stored line, read as numbers and compared.
+// The parts of a stored line of vectors, read as numbers and compared. For the program `vectors`.
 use fields::ReadBits;
 use fields::ReadWhole;
+use rays::Vec3;
 ghost use mathlib.Core.Path.{_≡_};
 ghost use mathlib.Core.Bool.{_&&_, cond};
 ghost use Rattle.fields.specs.Number.{bitsOf, wholeOf};
-ghost use Rattle.vectors.specs.Parts.{partOf, hasShape, isRead, isNumber, bitsAt, isDouble, given};
+ghost use Rattle.vector_lines.specs.Parts.{nextOf, partOf, hasShape, isRead, bitsBetween, isNumber, bitsAt, doubleAt, isDouble, given, vecAt, isVec};
 
 pub fn both(a: bool, b: bool) -> bool
     ensures { λ r. ⌜ r ≡ (a && b) ⌝ }
@@ -22,6 +23,13 @@ pub fn one_if(a: bool) -> u32
         return 1;
     }
     0
+}
+
+// k + n, modulo 2^64.
+fn next(k: usize, n: usize) -> usize
+    ensures { λ r. ⌜ r ≡ nextOf k n ⌝ }
+{
+    std::num::wrapping_add_usize(k, n)
 }
 
 // Part k of a line as bits; 0 where it is malformed.
@@ -62,13 +70,28 @@ pub fn is_whole(line: &[u8], k: usize, n: u32) -> bool
 }
 
 // Whether part k of a line is bits at all.
-pub fn is_any_bits(line: &[u8], k: usize) -> bool
+fn is_any_bits(line: &[u8], k: usize) -> bool
     ensures { λ r. ⌜ r ≡ isRead (bitsOf (partOf (now (line .entry)) k)) ⌝ }
 {
     match fields::read_bits(fields::part(line, b' ', k)) {
         ReadBits::Bits(_) => true,
         ReadBits::Malformed => false,
     }
+}
+
+// Whether the parts of a line from `from` on and before `to` are all bits.
+pub fn are_bits(line: &[u8], from: usize, to: usize) -> bool
+    ensures { λ r. ⌜ r ≡ bitsBetween (now (line .entry)) from to ⌝ }
+{
+    let mut k = from;
+    while k < to {
+        if is_any_bits(line, k) {
+            k += 1;
+        } else {
+            return false;
+        }
+    }
+    true
 }
 
 // Whether a line has n parts, of which part k is "=".
@@ -81,9 +104,36 @@ pub fn has_shape(line: &[u8], n: usize, k: usize) -> bool
     false
 }
 
-// The same with "=" as part 1, and part 0 is bits.
-pub fn is_given(line: &[u8], n: usize) -> bool
-    ensures { λ r. ⌜ r ≡ given (now (line .entry)) n ⌝ }
+// The same, and the parts before it are bits.
+pub fn is_given(line: &[u8], n: usize, k: usize) -> bool
+    ensures { λ r. ⌜ r ≡ given (now (line .entry)) n k ⌝ }
 {
-    both(has_shape(line, n, 1), is_any_bits(line, 0))
+    both(has_shape(line, n, k), are_bits(line, 0, k))
+}
+
+// Part k as a double.
+pub fn double_at(line: &[u8], k: usize) -> f64
+    ensures { λ r. ⌜ r ≡ doubleAt (now (line .entry)) k ⌝ }
+{
+    doubles::from_bits(bits_at(line, k))
+}
+
+// The three parts from k on as a vector.
+pub fn vec_at(line: &[u8], k: usize) -> Vec3
+    ensures { λ r. ⌜ r ≡ vecAt (now (line .entry)) k ⌝ }
+{
+    Vec3 {
+        x: double_at(line, k),
+        y: double_at(line, next(k, 1)),
+        z: double_at(line, next(k, 2)),
+    }
+}
+
+// Whether the three parts from k on are written as a vector.
+pub fn is_vec(line: &[u8], k: usize, v: Vec3) -> bool
+    ensures { λ r. ⌜ r ≡ isVec (now (line .entry)) k v ⌝ }
+{
+    let y = is_double(line, next(k, 1), v.y);
+    let z = is_double(line, next(k, 2), v.z);
+    both(is_double(line, k, v.x), both(y, z))
 }

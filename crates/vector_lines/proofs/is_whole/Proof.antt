@@ -1,7 +1,7 @@
--- `vectors::parts::is_whole` meets its contract. Assumes nothing.
+-- `vector_lines::is_whole` meets its contract. Assumes nothing.
 use borrow.Author.Needs.{needs}
-use Rattle.vectors.proofs.parts.is_whole.Statement.{statement}
-use Rattle.vectors.proofs.parts.is_whole.Tie as tie
+use Rattle.vector_lines.proofs.is_whole.Statement.{statement}
+use Rattle.vector_lines.proofs.is_whole.Tie as tie
 
 part-requires : tie.Need-part-requires
 part-requires c κs = search needs

@@ -1,7 +1,8 @@
--- `vectors::parts::is_bits` meets its contract. Assumes nothing.
+-- `vector_lines::bits_at` meets its contract. Assumes nothing.
+use Rattle.vector_lines.specs.Parts.{bitsAt}
 use borrow.Author.Needs.{needs}
-use Rattle.vectors.proofs.parts.is_bits.Statement.{statement}
-use Rattle.vectors.proofs.parts.is_bits.Tie as tie
+use Rattle.vector_lines.proofs.bits_at.Statement.{statement}
+use Rattle.vector_lines.proofs.bits_at.Tie as tie
 
 part-requires : tie.Need-part-requires
 part-requires c κs = search needs
@@ -16,11 +17,13 @@ enum-told : tie.Need-enum-told
 enum-told c = search needs
 
 returns : tie.Need-returns
+unfolding bitsAt
 returns c = simp (← c .before .before .before .before .part .ensures, ← c .before .before .before .read-bits .ensures, c .before .a .given .1)
 
 returns-2 : tie.Need-returns-2
+unfolding bitsAt
 returns-2 c = simp (← c .before .before .before .part .ensures, ← c .before .before .read-bits .ensures, c .enum-told .given .1)
 
-pub is-bits-spec : {M : Type 1} → statement M
-is-bits-spec =
+pub bits-at-spec : {M : Type 1} → statement M
+bits-at-spec =
     tie.close (tie.spec part-requires read-bits-requires enum-known-a enum-told returns returns-2)

@@ -1,8 +1,8 @@
--- `vectors::lines::double_at` meets its contract. Assumes nothing.
-use Rattle.vectors.specs.Lines.{doubleAt}
+-- `vector_lines::double_at` meets its contract. Assumes nothing.
+use Rattle.vector_lines.specs.Parts.{doubleAt}
 use borrow.Author.Needs.{needs}
-use Rattle.vectors.proofs.lines.double_at.Statement.{statement}
-use Rattle.vectors.proofs.lines.double_at.Tie as tie
+use Rattle.vector_lines.proofs.double_at.Statement.{statement}
+use Rattle.vector_lines.proofs.double_at.Tie as tie
 
 bits-at-requires : tie.Need-bits-at-requires
 bits-at-requires c κs = search needs

@@ -1,0 +1,2 @@
+-- What the parts of a stored line say.
+pub mod Parts

@@ -1,0 +1,26 @@
+-- `vectors::lines::mat_at` meets its contract. Assumes nothing.
+use Rattle.vectors.specs.Lines.{matAt}
+use borrow.Author.Needs.{needs}
+use Rattle.vectors.proofs.lines.mat_at.Statement.{statement}
+use Rattle.vectors.proofs.lines.mat_at.Tie as tie
+
+row-at-requires : tie.Need-row-at-requires
+row-at-requires c κs = search needs
+
+row-at-requires-2 : tie.Need-row-at-requires-2
+row-at-requires-2 c κs = search needs
+
+row-at-requires-3 : tie.Need-row-at-requires-3
+row-at-requires-3 c κs = search needs
+
+row-at-requires-4 : tie.Need-row-at-requires-4
+row-at-requires-4 c κs = search needs
+
+returns : tie.Need-returns
+unfolding matAt
+returns c = simp (← c .before .before .before .row-at .ensures, ← c .before .before .row-at2 .ensures, ← c .before .row-at3 .ensures, ← c .row-at4 .ensures)
+
+pub mat-at-spec : {M : Type 1} → statement M
+mat-at-spec =
+    tie.close
+    (tie.spec row-at-requires row-at-requires-2 row-at-requires-3 row-at-requires-4 returns)
