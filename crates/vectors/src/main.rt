@@ -24,7 +24,22 @@ fn tally_lines(kind: Kind, text: &[u8]) -> Tally
     t
 }
 
-// One file: a file that is missing, empty or does not fit says so.
+// Writes, as "sqrt.txt: 3014 of 3015 lines agree, the first that does not is 12".
+fn report(name: &[u8], t: Tally) {
+    io::write_all(1, name);
+    io::write_all(1, b": ");
+    io::print_decimal(1, t.agree);
+    io::write_all(1, b" of ");
+    io::print_decimal(1, t.lines);
+    io::write_all(1, b" lines agree");
+    if t.first != 0 {
+        io::write_all(1, b", the first that does not is ");
+        io::print_decimal(1, t.first);
+    }
+    io::write_all(1, b"\n");
+}
+
+// One file. One that is missing or does not fit is said to be so.
 fn run(kind: Kind, path: &[u8]) {
     let fd = os::open_read(path);
     if fd < 0 {
@@ -39,7 +54,7 @@ fn run(kind: Kind, path: &[u8]) {
         io::write_all(1, b" does not fit the buffer\n");
         return;
     }
-    tally::report(path, tally_lines(kind, &text[..n]));
+    report(path, tally_lines(kind, &text[..n]));
 }
 
 fn main() {

@@ -1,4 +1,4 @@
-// Counting the lines that agree, and saying so.
+// Counting the lines that agree.
 ghost use mathlib.Core.Path.{_≡_};
 ghost use Rattle.vectors.specs.Count.{emptyOf, countOf};
 
@@ -46,19 +46,4 @@ impl Tally {
             first: self.first,
         }
     }
-}
-
-// Writes, as "roots: 3014 of 3015 lines agree, the first that does not is 12".
-pub fn report(name: &[u8], t: Tally) {
-    io::write_all(1, name);
-    io::write_all(1, b": ");
-    io::print_decimal(1, t.agree);
-    io::write_all(1, b" of ");
-    io::print_decimal(1, t.lines);
-    io::write_all(1, b" lines agree");
-    if t.first != 0 {
-        io::write_all(1, b", the first that does not is ");
-        io::print_decimal(1, t.first);
-    }
-    io::write_all(1, b"\n");
 }
