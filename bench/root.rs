@@ -62,8 +62,10 @@ fn main() {
     // squared lengths as a tracer meets them, then every positive normal double alike
     let near: Vec<f64> = (0..4096).map(|_| (draw() >> 11) as f64 / (1u64 << 53) as f64 * 100.0).collect();
     let wide: Vec<f64> = (0..4096).map(|_| f64::from_bits((1 + draw() % 2045) << 52 | draw() >> 12)).collect();
+    let subnormal: Vec<f64> = (0..4096).map(|_| f64::from_bits(draw() >> 12)).collect();
     report("throughput, 0 to 100", ours_sum, hardware_sum, &near);
     report("throughput, any exponent", ours_sum, hardware_sum, &wide);
+    report("throughput, subnormal", ours_sum, hardware_sum, &subnormal);
     report("latency, 0 to 100", ours_chain, hardware_chain, &near);
 
     let mut differ = 0u64;
