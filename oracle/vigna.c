@@ -1,4 +1,4 @@
-/* Vectors of xorshift64*, by the C of Vigna's paper (see crates/source/specs/Random.antt):
+/* Vectors of xorshift64*, transcribed in C from the definition (crates/source/specs/Random.antt):
    "state = next state, and the number that it gives", 16 hex digits each. */
 #include <inttypes.h>
 #include <stdint.h>

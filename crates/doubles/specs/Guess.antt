@@ -1,4 +1,4 @@
--- The first guess of the root: a float whose digits are near those of the root. Nothing rests on its value: `nearest_root` tests it, and has another way where it fails.
+-- The first guess of the root: a float whose digits are near those of the root. Nothing rests on its value: `root_normal` tests it, and has another way where it fails.
 use Prim.Native.Nat.{ℕ, _+_, _-_, _/_, _%_, _^_}
 use lib.Ieee.{Float, binary64, add, sub, mul, ofBits}
 
@@ -15,11 +15,11 @@ guessOf b =
     let c = ofBits binary64 0x41a8000000000000 in
     let g0 = mul binary64 x y in
     let h0 = mul binary64 y (ofBits binary64 0x3fe0000000000000) in
-    let r0 = sub binary64 (ofBits binary64 0x3ff80399a2a8e1e1) (mul binary64 g0 h0) in
+    let r0 = sub binary64 (mul binary64 g0 h0) (ofBits binary64 0x3ff80399a2a8e1e1) in
     let g1 = mul binary64 g0 r0 in
     let h1 = mul binary64 h0 r0 in
     let t = sub binary64 (add binary64 g1 c) c in
-    let r1 = sub binary64 (ofBits binary64 0x3ff800009bb14be8) (mul binary64 g1 h1) in
+    let r1 = sub binary64 (mul binary64 g1 h1) (ofBits binary64 0x3ff800009bb14be8) in
     let g = mul binary64 g1 r1 in
     let h = mul binary64 h1 r1 in
     let d = sub binary64 (sub binary64 x (mul binary64 t t)) (mul binary64 (sub binary64 g t) (add binary64 g t)) in

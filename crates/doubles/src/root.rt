@@ -46,8 +46,9 @@ fn pins(m: u64, q: u64) -> bool
 
 // A float near the root of the double whose bits are b, times a power of two. y is near 1 / √x; two
 // steps of Goldschmidt's iteration bring g near √x and h near 1 / (2 * √x), with constants that make
-// their errors lie evenly about 0. t has the first digits of g1, so that t * t and x - t * t are
-// exact, and d, which is x - g * g, nearly so.
+// their errors lie evenly about 0. The first step turns both signs and the second turns them back.
+// t has the first digits of g1, so that t * t and x - t * t are exact, and d, which is x - g * g,
+// nearly so.
 fn guess(b: u64) -> f64
     ensures { λ r. ⌜ r ≡ guessOf b ⌝ }
 {
@@ -57,11 +58,11 @@ fn guess(b: u64) -> f64
     let y = f64::from_bits(0x5fe6_ed21_0000_0000 - n / 2);
     let g0 = x * y;
     let h0 = y * 0.5;
-    let r0 = 1.50087894 - g0 * h0;
+    let r0 = g0 * h0 - 1.50087894;
     let g1 = g0 * r0;
     let h1 = h0 * r0;
     let t = (g1 + 201326592.0) - 201326592.0;
-    let r1 = 1.50000058 - g1 * h1;
+    let r1 = g1 * h1 - 1.50000058;
     let g = g1 * r1;
     let h = h1 * r1;
     let d = (x - t * t) - (g - t) * (g + t);
@@ -92,46 +93,7 @@ fn slow_root(m: u64) -> u64
     if q < r { q + 1 } else { q }
 }
 
-// The whole number nearest to the root of m * 2^52. b only makes the first guess.
-fn nearest_root(m: u64, b: u64) -> u64
-    requires { ⌜ (2 ^ 52 ≤ m) × (m + 1 < 2 ^ 54) ⌝ }
-    ensures { λ r. ⌜ r ≡ nearestRoot (m * 2 ^ 52) ⌝ }
-{
-    let r = guess(b);
-    if r != r {
-        return slow_root(m);
-    }
-    let q = f64::to_bits(r) % 0x10_0000_0000_0000 + 0x10_0000_0000_0000;
-    if pins(m, q) {
-        return q;
-    }
-    if q < 0x1f_ffff_ffff_ffff {
-        if pins(m, q + 1) {
-            return q + 1;
-        }
-    }
-    if 0x10_0000_0000_0000 < q {
-        if pins(m, q - 1) {
-            return q - 1;
-        }
-    }
-    slow_root(m)
-}
-
-// The root of the double whose bits are b: finite, above zero and not subnormal. With e the
-// exponent's field and d the digits, it is d * 2^(e - 1) smallest values, which are 2^-1074 each.
-fn root_normal(b: u64) -> f64
-    requires { ⌜ (2 ^ 52 ≤ b) × (b < 0x7ff0_0000_0000_0000) ⌝ }
-    ensures { λ r. ⌜ r ≡ sqrtOf (ofBits binary64 b) ⌝ }
-{
-    let e = b / 0x10_0000_0000_0000;
-    let d = b % 0x10_0000_0000_0000 + 0x10_0000_0000_0000;
-    let r = nearest_root(d << ((e + 1) % 2), b);
-    f64::from_bits((e + 1021) / 2 * 0x10_0000_0000_0000 + r)
-}
-
-// The same of a subnormal double, whose bits are its digits. It is rare, and takes the slow way, so
-// that the quick one stands in one place.
+// The root of a subnormal double above zero, whose bits b are its digits, the slow way.
 fn root_subnormal(b: u64) -> f64
     requires { ⌜ (0 < b) × (b < 2 ^ 52) ⌝ }
     ensures { λ r. ⌜ r ≡ sqrtOf (ofBits binary64 b) ⌝ }
@@ -140,6 +102,40 @@ fn root_subnormal(b: u64) -> f64
     let d = b << s;
     let r = slow_root(d << (s % 2));
     f64::from_bits((1022 - s) / 2 * 0x10_0000_0000_0000 + r)
+}
+
+// The root of the double whose bits are b, finite and above zero, the slow way. With e the exponent's
+// field and d the digits, one that is not subnormal is d * 2^(e - 1) smallest values, which are
+// 2^-1074 each.
+fn root_slowly(b: u64) -> f64
+    requires { ⌜ (0 < b) × (b < 0x7ff0_0000_0000_0000) ⌝ }
+    ensures { λ r. ⌜ r ≡ sqrtOf (ofBits binary64 b) ⌝ }
+{
+    if b < 0x10_0000_0000_0000 {
+        return root_subnormal(b);
+    }
+    let e = b / 0x10_0000_0000_0000;
+    let d = b % 0x10_0000_0000_0000 + 0x10_0000_0000_0000;
+    let r = slow_root(d << ((e + 1) % 2));
+    f64::from_bits((e + 1021) / 2 * 0x10_0000_0000_0000 + r)
+}
+
+// The same where b is not subnormal, by the guess, or the slow way if the guess is not the nearest.
+fn root_normal(b: u64) -> f64
+    requires { ⌜ (2 ^ 52 ≤ b) × (b < 0x7ff0_0000_0000_0000) ⌝ }
+    ensures { λ r. ⌜ r ≡ sqrtOf (ofBits binary64 b) ⌝ }
+{
+    let g = guess(b);
+    if g != g {
+        return root_slowly(b);
+    }
+    let q = f64::to_bits(g) % 0x10_0000_0000_0000 + 0x10_0000_0000_0000;
+    let e = b / 0x10_0000_0000_0000;
+    let d = b % 0x10_0000_0000_0000 + 0x10_0000_0000_0000;
+    if pins(d << ((e + 1) % 2), q) {
+        return f64::from_bits((e + 1021) / 2 * 0x10_0000_0000_0000 + q);
+    }
+    root_slowly(b)
 }
 
 // `x.sqrt()`: the double nearest to the root of x.
@@ -165,5 +161,5 @@ pub fn sqrt(x: f64) -> f64
     if b == 0 {
         return x;
     }
-    root_subnormal(b)
+    root_slowly(b)
 }

@@ -27,7 +27,7 @@ unfoldable pub sellmeierOf : Float → Float → Float → Float → Float → F
 sellmeierOf l2 b1 c1 b2 c2 b3 c3 =
     add binary64 (add binary64 (add binary64 #1 (sellmeierTermOf l2 b1 c1)) (sellmeierTermOf l2 b2 c2)) (sellmeierTermOf l2 b3 c3)
 
--- Schott's polynomial (Schott's glass catalogues to 1992): n² = A₀ + A₁λ² + A₂λ⁻² + A₃λ⁻⁴ + A₄λ⁻⁶ + A₅λ⁻⁸
+-- Schott's polynomial, of Schott's earlier glass catalogues: n² = A₀ + A₁λ² + A₂λ⁻² + A₃λ⁻⁴ + A₄λ⁻⁶ + A₅λ⁻⁸
 unfoldable pub schottOf : Float → Float → Float → Float → Float → Float → Float → Float
 schottOf l2 a0 a1 a2 a3 a4 a5 =
     let inv2 = div binary64 #1 l2 in

@@ -1,5 +1,5 @@
 // Runs the vectors in data/ and prints how many lines of each file agree. The answers in the files
-// are the Rust's (oracle/), but for vigna.txt, whose are those of Vigna's C.
+// are the Rust's (oracle/), but for vigna.txt, whose are those of oracle/vigna.c.
 mod lines;
 mod tally;
 

@@ -41,11 +41,11 @@ returns-5 c =
 returns-6 : tie.Need-returns-6
 returns-6 c = own-zero _ (held (c .before .before .before)) (c .if6 .taken)
 
-root-subnormal-requires : tie.Need-root-subnormal-requires
-root-subnormal-requires c κs = search needs
+root-slowly-requires : tie.Need-root-slowly-requires
+root-slowly-requires c κs = search needs
 
 returns-7 : tie.Need-returns-7
-returns-7 c = by-bits _ _ (held (c .before .before .before .before)) (c .root-subnormal .ensures)
+returns-7 c = by-bits _ _ (held (c .before .before .before .before)) (c .root-slowly .ensures)
 
 pub sqrt-spec : {M : Type 1} → statement M
 sqrt-spec =
@@ -59,5 +59,5 @@ sqrt-spec =
     returns-4
     returns-5
     returns-6
-    root-subnormal-requires
+    root-slowly-requires
     returns-7)
