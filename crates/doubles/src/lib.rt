@@ -4,7 +4,8 @@ mod root;
 
 pub use root::sqrt;
 ghost use mathlib.Core.Path.{_≡_};
-ghost use lib.Ieee.{binary64, ofBits, toBits, toUnsigned};
+ghost use mathlib.Core.Bool.{false};
+ghost use lib.Ieee.{inf, binary64, ofBits, toBits, toUnsigned};
 ghost use Rattle.doubles.specs.Doubles.{absOf, clampOf, maxZeroOf, finiteOf};
 
 // The double of a bit pattern. Every NaN pattern gives the one NaN.
@@ -79,4 +80,11 @@ pub fn to_usize(x: f64) -> usize
         return 0xffff_ffff_ffff_ffff;
     }
     0
+}
+
+// The positive infinity. A constant cannot hold it.
+pub fn infinity() -> f64
+    ensures { λ r. ⌜ r ≡ inf false ⌝ }
+{
+    1.0 / 0.0
 }

@@ -1,6 +1,8 @@
 -- The numbers of document 01's refusals, and what a call answers in its terms.
 use Prim.Native.Nat.{ℕ}
 use Rattle.error.specs.declared.NonSeqError.{NonSeqError}
+use Rattle.error.specs.declared.Check.{Check}
+use Rattle.error.specs.declared.Check.the-variants.{Passed, Refused}
 use Rattle.error.specs.declared.NonSeqError.the-variants.{InvalidThreshold, BounceLimitTooLarge, ListTooLong, NoSuchDetector, InvalidDetectorSize, ZeroResolution, ResolutionTooLarge, ParallelUp, InvalidSliceLength, InvalidRay, InvalidMedia, HitListFull, HitCountFull, InvalidWavelength, InvalidIndex, RayNotFinite, InvalidSceneText}
 
 -- the table's first column
@@ -27,3 +29,18 @@ numberOf InvalidSceneText = 17
 pub data Answer (A : Type 0) : Type 0 where
   value : A → Answer A
   refusal : ℕ → Answer A
+
+-- what a call answers whose refusals have a list place: its value, or the number of the refusal and the place
+pub data Checked (A : Type 0) : Type 0 where
+  passed : A → Checked A
+  refusedAt : ℕ → ℕ → Checked A
+
+-- what the code's check says
+abbrev pub checkOf : Check → Checked Unit
+checkOf Passed = passed tt
+checkOf (Refused e place) = refusedAt (numberOf e) place
+
+-- the second answer, unless the check before it refuses
+unfoldable pub after : {A : Type 0} → Checked Unit → Checked A → Checked A
+after (passed u) b = b
+after (refusedAt n p) b = refusedAt n p

@@ -65,3 +65,9 @@ impl NonSeqError {
         }
     }
 }
+
+// What checks before a run find: nothing wrong, or a refusal and its place in a list, from 0.
+pub enum Check {
+    Passed,
+    Refused { error: NonSeqError, place: u32 },
+}

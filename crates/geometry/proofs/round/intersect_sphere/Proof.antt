@@ -1,0 +1,39 @@
+-- `geometry::round::intersect_sphere` meets its contract. Assumes nothing.
+use Rattle.geometry.specs.Round.{intersectSphereOf}
+use borrow.Author.Needs.{needs}
+use Rattle.geometry.proofs.round.intersect_sphere.Statement.{statement}
+use Rattle.geometry.proofs.round.intersect_sphere.Tie as tie
+
+abs-requires : tie.Need-abs-requires
+abs-requires c κs = search needs
+
+dot-requires : tie.Need-dot-requires
+dot-requires c κs = search needs
+
+dot-requires-2 : tie.Need-dot-requires-2
+dot-requires-2 c κs = search needs
+
+dot-requires-3 : tie.Need-dot-requires-3
+dot-requires-3 c κs = search needs
+
+solve-requires : tie.Need-solve-requires
+solve-requires c κs = search needs
+
+sphere-among-requires : tie.Need-sphere-among-requires
+sphere-among-requires c κs = search needs
+
+returns : tie.Need-returns
+unfolding intersectSphereOf
+returns c = simp (← c .before .before .before .before .before .before .before .abs .ensures, ← c .before .before .before .before .dot .ensures, ← c .before .before .before .dot2 .ensures, ← c .before .before .dot3 .ensures, ← c .before .solve .ensures, ← c .sphere-among .ensures)
+
+pub intersect-sphere-spec : {M : Type 1} → statement M
+intersect-sphere-spec =
+    tie.close
+    (tie.spec
+    abs-requires
+    dot-requires
+    dot-requires-2
+    dot-requires-3
+    solve-requires
+    sphere-among-requires
+    returns)

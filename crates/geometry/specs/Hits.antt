@@ -1,0 +1,30 @@
+-- A hit in a shape's own coordinates, and the choice among candidates.
+use lib.Ieee.{Float, binary64, ofBits}
+use mathlib.Core.Option.{Option, none, some}
+use Rattle.rays.specs.declared.vector.Vec3.{Vec3}
+use Rattle.geometry.specs.declared.LocalHit.{LocalHit}
+use Rattle.geometry.specs.declared.LocalIntersection.{LocalIntersection}
+use Rattle.geometry.specs.declared.LocalIntersection.the-variants.{Hit, Miss}
+
+abbrev pub #0 : Float
+#0 = ofBits binary64 0
+
+abbrev pub #1 : Float
+#1 = ofBits binary64 0x3ff0000000000000
+
+-- 1e-12: a direction's part below it in size is taken as 0
+abbrev pub parallel : Float
+parallel = ofBits binary64 0x3d719799812dea11
+
+abbrev pub hitAt : Float → Vec3 → Option LocalHit
+hitAt t n = some (record { t = t; normal = n })
+
+-- what the code's answer says
+abbrev pub localHitOf : LocalIntersection → Option LocalHit
+localHitOf (Hit h) = some h
+localHitOf Miss = none
+
+-- the first candidate that is there
+unfoldable pub firstOf : Option LocalHit → Option LocalHit → Option LocalHit
+firstOf (some h) b = some h
+firstOf none b = b

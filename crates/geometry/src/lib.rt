@@ -1,0 +1,83 @@
+// Shapes in their own coordinates and their place in the world (document 01, module 5), after
+// geometry.rs. Any sizes, any ray.
+mod flat;
+mod round;
+mod slab;
+mod transform;
+
+use rays::Ray;
+use rays::Vec3;
+pub use transform::LocalRay;
+pub use transform::Transform3D;
+pub use transform::UnitVector;
+ghost use mathlib.Core.Path.{_≡_};
+ghost use Rattle.geometry.specs.Hits.{localHitOf};
+ghost use Rattle.geometry.specs.Shapes.{intersectLocalOf};
+
+// A shape, with its sizes in millimetres.
+pub enum PrimitiveGeometry {
+    // a rectangle on z = 0
+    Plane {
+        half_width: f64,
+        half_height: f64,
+    },
+    // a disk on z = 0, with a hole of the inner radius
+    Disk {
+        outer_radius: f64,
+        inner_radius: f64,
+    },
+    // around the origin
+    Sphere {
+        radius: f64,
+    },
+    // around the z axis, without ends
+    Cylinder {
+        radius: f64,
+        half_length: f64,
+    },
+    // around the origin
+    Box {
+        half_x: f64,
+        half_y: f64,
+        half_z: f64,
+    },
+}
+
+// Where a ray meets a shape: the distance and the outward normal.
+pub struct LocalHit {
+    pub t: f64,
+    pub normal: Vec3,
+}
+
+pub enum LocalIntersection {
+    Hit(LocalHit),
+    Miss,
+}
+
+impl PrimitiveGeometry {
+    // Where a ray in the shape's coordinates first meets it.
+    pub fn intersect_local(self, ray: Ray) -> LocalIntersection
+        ensures { λ h. ⌜ localHitOf h ≡ intersectLocalOf self ray ⌝ }
+    {
+        match self {
+            PrimitiveGeometry::Plane {
+                half_width,
+                half_height,
+            } => flat::intersect_plane(half_width, half_height, ray),
+            PrimitiveGeometry::Disk {
+                outer_radius,
+                inner_radius,
+            } => flat::intersect_disk(outer_radius, inner_radius, ray),
+            PrimitiveGeometry::Sphere { radius } => round::intersect_sphere(radius, ray),
+            PrimitiveGeometry::Cylinder {
+                radius,
+                half_length,
+            } => round::intersect_cylinder(radius, half_length, ray),
+            PrimitiveGeometry::Box {
+                half_x,
+                half_y,
+                half_z,
+            } => slab::intersect_box(half_x, half_y, half_z, ray),
+        }
+    }
+}

@@ -1,0 +1,127 @@
+// Sphere and Cylinder: shapes whose candidates are the roots of a quadratic equation.
+use crate::LocalHit;
+use crate::LocalIntersection;
+use crate::flat::reach;
+use rays::Ray;
+use rays::Vec3;
+ghost use mathlib.Core.Path.{_≡_};
+ghost use Rattle.geometry.specs.Hits.{localHitOf};
+ghost use Rattle.geometry.specs.Round.{solveOf, sphereAtOf, sphereAmongOf, intersectSphereOf, cylinderHitOf, cylinderAtOf, cylinderAmongOf, cylinderRootsOf, intersectCylinderOf};
+
+// The roots of a quadratic equation, in the order in which they are tried.
+pub enum Roots {
+    Two { first: f64, second: f64 },
+    Nothing,
+}
+
+// Of a t^2 + b t + c.
+fn solve(a: f64, b: f64, c: f64) -> Roots
+    ensures { λ r. ⌜ r ≡ solveOf a b c ⌝ }
+{
+    let disc = b * b - 4.0 * a * c;
+    if disc < 0.0 {
+        return Roots::Nothing;
+    }
+    let q = doubles::sqrt(disc);
+    Roots::Two {
+        first: (-b - q) / (2.0 * a),
+        second: (-b + q) / (2.0 * a),
+    }
+}
+
+// The candidate at t on a sphere.
+fn sphere_at(radius: f64, ray: Ray, t: f64) -> LocalIntersection
+    ensures { λ h. ⌜ localHitOf h ≡ sphereAtOf radius ray t ⌝ }
+{
+    if t > Ray::MIN_LOCAL_DISTANCE {
+        let normal = ray.at(t).divide(radius);
+        return LocalIntersection::Hit(LocalHit { t, normal });
+    }
+    LocalIntersection::Miss
+}
+
+fn sphere_among(radius: f64, ray: Ray, candidates: Roots) -> LocalIntersection
+    ensures { λ h. ⌜ localHitOf h ≡ sphereAmongOf radius ray candidates ⌝ }
+{
+    match candidates {
+        Roots::Two { first, second } => match sphere_at(radius, ray, first) {
+            LocalIntersection::Hit(h) => LocalIntersection::Hit(h),
+            LocalIntersection::Miss => sphere_at(radius, ray, second),
+        },
+        Roots::Nothing => LocalIntersection::Miss,
+    }
+}
+
+// A negative radius counts as its absolute value.
+pub fn intersect_sphere(radius: f64, ray: Ray) -> LocalIntersection
+    ensures { λ h. ⌜ localHitOf h ≡ intersectSphereOf radius ray ⌝ }
+{
+    let r = doubles::abs(radius);
+    let o = ray.origin;
+    let d = ray.direction;
+    let a = d.dot(d);
+    let b = 2.0 * o.dot(d);
+    let c = o.dot(o) - r * r;
+    sphere_among(r, ray, solve(a, b, c))
+}
+
+// The hit at t on a cylinder. A negative radius turns the normal round.
+fn cylinder_hit(radius: f64, ray: Ray, t: f64) -> LocalIntersection
+    ensures { λ h. ⌜ localHitOf h ≡ cylinderHitOf radius ray t ⌝ }
+{
+    let o = ray.origin;
+    let d = ray.direction;
+    let normal = Vec3 {
+        x: reach(o.x, d.x, t) / radius,
+        y: reach(o.y, d.y, t) / radius,
+        z: 0.0,
+    };
+    LocalIntersection::Hit(LocalHit { t, normal })
+}
+
+// The candidate at t on a cylinder.
+fn cylinder_at(radius: f64, half_length: f64, ray: Ray, t: f64) -> LocalIntersection
+    ensures { λ h. ⌜ localHitOf h ≡ cylinderAtOf radius «half_length» ray t ⌝ }
+{
+    let o = ray.origin;
+    let d = ray.direction;
+    if t > Ray::MIN_LOCAL_DISTANCE {
+        if doubles::abs(reach(o.z, d.z, t)) <= half_length {
+            return cylinder_hit(radius, ray, t);
+        }
+    }
+    LocalIntersection::Miss
+}
+
+fn cylinder_among(radius: f64, half_length: f64, ray: Ray, candidates: Roots) -> LocalIntersection
+    ensures { λ h. ⌜ localHitOf h ≡ cylinderAmongOf radius «half_length» ray candidates ⌝ }
+{
+    match candidates {
+        Roots::Two { first, second } => match cylinder_at(radius, half_length, ray, first) {
+            LocalIntersection::Hit(h) => LocalIntersection::Hit(h),
+            LocalIntersection::Miss => cylinder_at(radius, half_length, ray, second),
+        },
+        Roots::Nothing => LocalIntersection::Miss,
+    }
+}
+
+// The distances at which a ray is a radius away from the z axis.
+fn cylinder_roots(radius: f64, ray: Ray) -> Roots
+    ensures { λ r. ⌜ r ≡ cylinderRootsOf radius ray ⌝ }
+{
+    let o = ray.origin;
+    let d = ray.direction;
+    let a = d.x * d.x + d.y * d.y;
+    if a < 1e-12 {
+        return Roots::Nothing;
+    }
+    let b = 2.0 * (o.x * d.x + o.y * d.y);
+    let c = o.x * o.x + o.y * o.y - radius * radius;
+    solve(a, b, c)
+}
+
+pub fn intersect_cylinder(radius: f64, half_length: f64, ray: Ray) -> LocalIntersection
+    ensures { λ h. ⌜ localHitOf h ≡ intersectCylinderOf radius «half_length» ray ⌝ }
+{
+    cylinder_among(radius, half_length, ray, cylinder_roots(radius, ray))
+}

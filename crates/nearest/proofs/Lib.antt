@@ -1,0 +1,3 @@
+-- What holds of the nearest offer.
+pub mod Order
+pub mod Laws
