@@ -114,8 +114,32 @@ def contracts(crate):
             m = re.match(r'\s*(?:pub )?(?:extern "C" )?fn (\w+)', l)
             if m:
                 name = mod + impl + m.group(1)
+                root_name = impl + m.group(1)
             if 'ensures' in l:
-                out.setdefault(name, set()).update(re.findall(r'[A-Za-z]\w*', l))
+                words = set(re.findall(r'[A-Za-z]\w*', l))
+                out.setdefault(name, set()).update(words)
+                if impl:
+                    out.setdefault(root_name, set()).update(words)
+    return out
+
+
+def helpers(crate, mods, names):
+    """For each definition, those that it leans on and that no function's contract names."""
+    text = {}
+    for g in glob.glob('crates/%s/specs/*.antt' % crate):
+        for block in open(g).read().split('\n\n'):
+            m = re.search(r'^unfoldable pub (\S+) :', block, re.M)
+            if m:
+                text[m.group(1)] = set(re.findall(r'[A-Za-z]\w*', block)) - {m.group(1)}
+    named = set().union(*names.values())
+    out = {}
+    for d in text:
+        found, todo = set(), [d]
+        while todo:
+            new = {n for n in text[todo.pop()] if n in mods and n not in named} - found
+            found |= new
+            todo += new
+        out[d] = found
     return out
 
 
@@ -133,10 +157,14 @@ def returns(need, fs, body, defs):
     return out
 
 
-def write(crate, path, fn, body, mods, names):
+def write(crate, path, fn, body, mods, names, more):
     lines = [l[4:] if l.startswith('    ') else l for l in body.rstrip('\n').split('\n')]
-    fs = facts('target/gen/Rattle.%s.proofs/proofs/%s/Lts.antt' % (crate, fn))
-    defs = sorted(n for n in names if n in mods)
+    lts = 'target/gen/Rattle.%s.proofs/proofs/%s/Lts.antt' % (crate, fn)
+    if not os.path.exists(lts):
+        return print('left', fn, '(not covered yet, or it calls one that is not)')
+    fs = facts(lts)
+    defs = {n for n in names if n in mods}
+    defs = sorted(defs.union(*(more[n] for n in defs)))
     out = ['-- `%s::%s` meets its contract. Assumes nothing.' % (crate, fn.replace('/', '::'))]
     for d in sorted({mods[n] for n in defs}):
         out.append('use Rattle.%s.specs.%s.{%s}' % (crate, d, ', '.join(n for n in defs if mods[n] == d)))
@@ -175,11 +203,12 @@ def main():
     subprocess.run('rm -rf target/gen/Rattle.%s*' % crate, shell=True)
     run('--generated', 'target/gen')
     mods, names = unfoldable(crate), contracts(crate)
+    more = helpers(crate, mods, names)
     for m in re.finditer(r'help: write (\S+/proofs/(\S+)/Proof\.antt) with these lines.*\n((?:    .*\n|\n)+)', log):
         path, fn, body = m.groups()
         if os.path.exists(path) or (wanted and fn not in wanted):
             continue
-        write(crate, path, fn, body, mods, names.get(fn, set()))
+        write(crate, path, fn, body, mods, names.get(fn, set()), more)
 
 
 main()

@@ -41,6 +41,6 @@ checkOf Passed = passed tt
 checkOf (Refused e place) = refusedAt (numberOf e) place
 
 -- the second answer, unless the check before it refuses
-unfoldable pub after : {A : Type 0} → Checked Unit → Checked A → Checked A
+abbrev pub after : {A : Type 0} → Checked Unit → Checked A → Checked A
 after (passed u) b = b
 after (refusedAt n p) b = refusedAt n p

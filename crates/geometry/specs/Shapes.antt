@@ -1,4 +1,8 @@
--- Where a ray meets a shape: the distance and the outward normal, or none.
+-- The shapes by their numbers, and where a ray meets one.
+use Prim.Native.Nat.{ℕ}
+use lib.Dec.{eqb}
+use lib.Ieee.{Float}
+use mathlib.Core.Bool.{cond}
 use mathlib.Core.Option.{Option}
 use Rattle.rays.specs.declared.Ray.{Ray}
 use Rattle.geometry.specs.declared.LocalHit.{LocalHit}
@@ -8,6 +12,14 @@ use Rattle.geometry.specs.Flat.{intersectPlaneOf, intersectDiskOf}
 use Rattle.geometry.specs.Round.{intersectSphereOf, intersectCylinderOf}
 use Rattle.geometry.specs.Slabs.{intersectBoxOf}
 
+-- shapes 0 to 4 in document 01's order, sizes in the Rust's field order
+abbrev pub lastShape : ℕ
+lastShape = 4
+
+unfoldable pub shapeOf : ℕ → Float → Float → Float → PrimitiveGeometry
+shapeOf k p q r = cond (eqb k 0) (Plane p q) (cond (eqb k 1) (Disk p q) (cond (eqb k 2) (Sphere p) (cond (eqb k 3) (Cylinder p q) (Box p q r))))
+
+-- where a ray meets a shape: the distance and the outward normal, or none
 unfoldable pub intersectLocalOf : PrimitiveGeometry → Ray → Option LocalHit
 intersectLocalOf (Plane w h) r = intersectPlaneOf w h r
 intersectLocalOf (Disk outer inner) r = intersectDiskOf outer inner r

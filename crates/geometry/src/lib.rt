@@ -12,7 +12,7 @@ pub use transform::Transform3D;
 pub use transform::UnitVector;
 ghost use mathlib.Core.Path.{_≡_};
 ghost use Rattle.geometry.specs.Hits.{localHitOf};
-ghost use Rattle.geometry.specs.Shapes.{intersectLocalOf};
+ghost use Rattle.geometry.specs.Shapes.{shapeOf, intersectLocalOf};
 
 // A shape, with its sizes in millimetres.
 pub enum PrimitiveGeometry {
@@ -55,6 +55,42 @@ pub enum LocalIntersection {
 }
 
 impl PrimitiveGeometry {
+    // The largest number of a shape.
+    pub const LAST: u32 = 4;
+
+    // The shape of document 01's number, with as many of the sizes as it takes; the last for a larger
+    // one.
+    pub fn numbered(number: u32, p: f64, q: f64, r: f64) -> PrimitiveGeometry
+        ensures { λ g. ⌜ g ≡ shapeOf number p q r ⌝ }
+    {
+        if number == 0 {
+            return PrimitiveGeometry::Plane {
+                half_width: p,
+                half_height: q,
+            };
+        }
+        if number == 1 {
+            return PrimitiveGeometry::Disk {
+                outer_radius: p,
+                inner_radius: q,
+            };
+        }
+        if number == 2 {
+            return PrimitiveGeometry::Sphere { radius: p };
+        }
+        if number == 3 {
+            return PrimitiveGeometry::Cylinder {
+                radius: p,
+                half_length: q,
+            };
+        }
+        PrimitiveGeometry::Box {
+            half_x: p,
+            half_y: q,
+            half_z: r,
+        }
+    }
+
     // Where a ray in the shape's coordinates first meets it.
     pub fn intersect_local(self, ray: Ray) -> LocalIntersection
         ensures { λ h. ⌜ localHitOf h ≡ intersectLocalOf self ray ⌝ }

@@ -1,4 +1,6 @@
 -- The refractive index of a medium at a wavelength in nanometres. The formulas take micrometres; the order of the operations is material.rs's.
+use Prim.Native.Nat.{ℕ}
+use lib.Dec.{eqb}
 use lib.Ieee.{Float, binary64, add, sub, mul, div, lt, le, ofBits}
 use mathlib.Core.Bool.{cond}
 use Rattle.doubles.specs.Doubles.{finiteOf}
@@ -6,6 +8,8 @@ use Rattle.doubles.specs.Root.{sqrtOf}
 use Rattle.error.specs.Refusals.{numberOf, Answer, value, refusal}
 use Rattle.material.specs.declared.OpticalMedium.{OpticalMedium}
 use Rattle.material.specs.declared.OpticalMedium.the-variants.{Air, Constant, Sellmeier1, Schott}
+use Rattle.material.specs.declared.SurfaceFinish.{SurfaceFinish}
+use Rattle.material.specs.declared.SurfaceFinish.the-variants.{Specular, Mirror, Absorber}
 use Rattle.material.specs.declared.RefractiveIndex.{RefractiveIndex}
 use Rattle.material.specs.declared.RefractiveIndex.the-variants.{Index, Refused}
 
@@ -14,6 +18,20 @@ abbrev #0 : Float
 
 abbrev #1 : Float
 #1 = ofBits binary64 0x3ff0000000000000
+
+-- finishes 0 to 2 in document 01's order; rho is the mirror's reflectance
+abbrev pub lastFinish : ℕ
+lastFinish = 2
+
+unfoldable pub finishOf : ℕ → Float → SurfaceFinish
+finishOf k rho = cond (eqb k 0) Specular (cond (eqb k 1) (Mirror rho) Absorber)
+
+-- media 0 to 3 in document 01's order, with their coefficients from a on
+abbrev pub lastMedium : ℕ
+lastMedium = 3
+
+unfoldable pub mediumOf : ℕ → Float → Float → Float → Float → Float → Float → OpticalMedium
+mediumOf k a b c d e f = cond (eqb k 0) Air (cond (eqb k 1) (Constant a) (cond (eqb k 2) (Sellmeier1 a b c d e f) (Schott a b c d e f)))
 
 -- (λ * 1e-3) squared
 unfoldable pub squareUmOf : Float → Float

@@ -1,7 +1,7 @@
 // Media and finishes (document 01, module 4), after material.rs.
 use error::NonSeqError;
 ghost use mathlib.Core.Path.{_≡_};
-ghost use Rattle.material.specs.Media.{squareUmOf, sellmeierTermOf, sellmeierOf, schottOf, constantOf, rootOfSquareOf, indexAtOf, refractiveIndexOf, answerOf};
+ghost use Rattle.material.specs.Media.{finishOf, mediumOf, squareUmOf, sellmeierTermOf, sellmeierOf, schottOf, constantOf, rootOfSquareOf, indexAtOf, refractiveIndexOf, answerOf};
 
 // A medium's rule for its refractive index.
 pub enum OpticalMedium {
@@ -101,7 +101,59 @@ fn root_of_square(n2: f64) -> RefractiveIndex
     RefractiveIndex::Refused(NonSeqError::InvalidIndex)
 }
 
+impl SurfaceFinish {
+    // The largest number of a finish.
+    pub const LAST: u32 = 2;
+
+    // The finish of document 01's number; the last for a larger one.
+    pub fn numbered(number: u32, rho: f64) -> SurfaceFinish
+        ensures { λ r. ⌜ r ≡ finishOf number rho ⌝ }
+    {
+        if number == 0 {
+            return SurfaceFinish::Specular;
+        }
+        if number == 1 {
+            return SurfaceFinish::Mirror { reflectance: rho };
+        }
+        SurfaceFinish::Absorber
+    }
+}
+
 impl OpticalMedium {
+    // The largest number of a medium.
+    pub const LAST: u32 = 3;
+
+    // The medium of document 01's number, with as many of the coefficients as it takes; the last for a
+    // larger one.
+    pub fn numbered(number: u32, a: f64, b: f64, c: f64, d: f64, e: f64, f: f64) -> OpticalMedium
+        ensures { λ r. ⌜ r ≡ mediumOf number a b c d e f ⌝ }
+    {
+        if number == 0 {
+            return OpticalMedium::Air;
+        }
+        if number == 1 {
+            return OpticalMedium::Constant { n: a };
+        }
+        if number == 2 {
+            return OpticalMedium::Sellmeier1 {
+                b1: a,
+                c1: b,
+                b2: c,
+                c2: d,
+                b3: e,
+                c3: f,
+            };
+        }
+        OpticalMedium::Schott {
+            a0: a,
+            a1: b,
+            a2: c,
+            a3: d,
+            a4: e,
+            a5: f,
+        }
+    }
+
     // The refractive index at a wavelength in nanometres. A wavelength at most 0 or not finite is
     // refused first (14), then an index outside the medium's rule (15).
     pub fn refractive_index(self, wavelength: f64) -> RefractiveIndex

@@ -29,9 +29,10 @@ extend-none A d f i l h j g p o = elim (last-or-before i j p) [ inl e ↦ l g (s
 
 extend-nearer : (A : Type 0) (d : A → Float) (f : ℕ → Option A) (i k : ℕ) (b : A) → ((g : A) → f i ≡ some g → countsOf (d g) ≡ true → (le (d b) (d g) ≡ true) × (i < k → lt (d b) (d g) ≡ true)) → NoneNearer A d f i k b → NoneNearer A d f (i + 1) k b
 extend-nearer A d f i k b l h j g p o c =
-    elim (last-or-before i j p)
-    [ inl e ↦ subst (λ (x : ℕ). (le (d b) (d g) ≡ true) × (x < k → lt (d b) (d g) ≡ true)) (sym e) (l g (sym (ap f e) ∙ o) c)
-    | inr q ↦ h j g q o c ]
+    elim (last-or-before i j p) [
+      | inl e ↦ subst (λ (x : ℕ). (le (d b) (d g) ≡ true) × (x < k → lt (d b) (d g) ≡ true)) (sym e) (l g (sym (ap f e) ∙ o) c)
+      | inr q ↦ h j g q o c
+    ]
 
 -- the next place offers nothing
 skip : (A : Type 0) (d : A → Float) (f : ℕ → Option A) (i : ℕ) (best : Option A) → f i ≡ none → IsNearest A d f i best → IsNearest A d f (i + 1) best
@@ -41,7 +42,6 @@ skip A d f i (some b) e (k, (l, (o, (c, h)))) =
 
 -- it offers something that is not nearer
 keep : (A : Type 0) (d : A → Float) (f : ℕ → Option A) (i : ℕ) (best : Option A) (g : A) → f i ≡ some g → isNearerOf (d g) (distanceOf A d best) ≡ false → IsNearest A d f i best → IsNearest A d f (i + 1) best
-unfolding distanceOf
 keep A d f i none g e n h = extend-none A d f i (λ (x : A) (o : f i ≡ some x). off x (countsOf (d x)) refl o) h
   where
     off : (x : A) (b : Bool) → countsOf (d x) ≡ b → f i ≡ some x → countsOf (d x) ≡ false
@@ -70,7 +70,6 @@ itself A d f i g x e c o =
 
 -- it offers something nearer
 change : (A : Type 0) (d : A → Float) (f : ℕ → Option A) (i : ℕ) (best : Option A) (g : A) → f i ≡ some g → isNearerOf (d g) (distanceOf A d best) ≡ true → IsNearest A d f i best → IsNearest A d f (i + 1) (some g)
-unfolding distanceOf
 change A d f i none g e n h =
     let c : countsOf (d g) ≡ true = nearer-counts (d g) (inf false) n in
     (i, (omega arith, (e, (c, extend-nearer A d f i i g (λ (x : A) (p : f i ≡ some x) (q : countsOf (d x) ≡ true). itself A d f i g x e c p) (λ (j : ℕ) (x : A) (l : j < i) (o : f j ≡ some x) (q : countsOf (d x) ≡ true). absurd (clash (sym q ∙ h j x l o)))))))

@@ -16,7 +16,7 @@ unfoldable pub isNearerOf : Float → Float → Bool
 isNearerOf t nearest = lt t nearest && lt minWorldDistance t
 
 -- the distance of the best so far, infinite where there is none
-unfoldable pub distanceOf : (A : Type 0) → (A → Float) → Option A → Float
+abbrev pub distanceOf : (A : Type 0) → (A → Float) → Option A → Float
 distanceOf A d none = inf false
 distanceOf A d (some h) = d h
 

@@ -1,0 +1,4 @@
+-- Laws that the search's proofs cite, and what the search's answer means.
+pub mod Search
+pub mod Checks
+pub mod Meaning

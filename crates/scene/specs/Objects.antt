@@ -1,0 +1,79 @@
+-- Where a ray in the world meets a solid, if anywhere.
+use lib.Ieee.{Float, binary64, lt, le, ofBits}
+use mathlib.Core.Bool.{Bool, cond}
+use mathlib.Core.Option.{Option, none, some}
+use Rattle.rays.specs.declared.vector.Vec3.{Vec3}
+use Rattle.rays.specs.declared.Ray.{Ray}
+use Rattle.rays.specs.Rays.{atOf, minWorldDistance}
+use Rattle.rays.specs.Vectors.{dotOf, minusOf, negateOf}
+use Rattle.rays.specs.Matrices.{transformPointOf}
+use Rattle.geometry.specs.declared.LocalHit.{LocalHit}
+use Rattle.geometry.specs.Shapes.{intersectLocalOf}
+use Rattle.geometry.specs.Transforms.{inverseTransformRayOf, worldNormalOf}
+use Rattle.scene.specs.declared.NonSeqObject.{NonSeqObject}
+use Rattle.scene.specs.declared.NonSeqHit.{NonSeqHit}
+use Rattle.scene.specs.declared.Intersection as hits
+use Rattle.scene.specs.declared.object.Approach.{Approach}
+use Rattle.scene.specs.declared.object.Approached as met
+
+-- what the code's answers say
+abbrev pub hitOf : hits.Intersection → Option NonSeqHit
+hitOf (hits.the-variants.Hit h) = some h
+hitOf hits.the-variants.Miss = none
+
+abbrev pub metOf : met.Approached → Option Approach
+metOf (met.the-variants.At a) = some a
+metOf met.the-variants.Miss = none
+
+-- a point and a hit in the solid's coordinates: the distance is the world offset dotted with the direction
+unfoldable pub approachAtOf : NonSeqObject → Ray → Vec3 → LocalHit → Option Approach
+approachAtOf o r p h =
+    let q = transformPointOf (o .transform .matrix) p in
+    let t = dotOf (minusOf q (r .origin)) (r .direction) in
+    cond (le t minWorldDistance) none (some (record { t = t; point = q; local = h }))
+
+unfoldable pub approachByOf : NonSeqObject → Ray → Ray → Option LocalHit → Option Approach
+approachByOf o r q (some h) = approachAtOf o r (atOf q (h .t)) h
+approachByOf o r q none = none
+
+-- q is the ray in the solid's coordinates
+unfoldable pub approachAlongOf : NonSeqObject → Ray → Ray → Option Approach
+approachAlongOf o r q = approachByOf o r q (intersectLocalOf (o .geometry) q)
+
+unfoldable pub approachFromOf : NonSeqObject → Ray → Option Ray → Option Approach
+approachFromOf o r (some q) = approachAlongOf o r q
+approachFromOf o r none = none
+
+-- an inactive solid is not met
+unfoldable pub approachOf : NonSeqObject → Ray → Option Approach
+approachOf o r = cond (o .«is_active») (approachFromOf o r (inverseTransformRayOf (o .transform) r)) none
+
+unfoldable pub facingOf : Vec3 → Bool → Vec3
+facingOf n entering = cond entering n (negateOf n)
+
+-- n is the outward normal in the world; the ray enters where its cosine is below 0
+unfoldable pub turnedOf : NonSeqObject → Ray → Approach → Vec3 → NonSeqHit
+turnedOf o r a n =
+    let entering = lt (dotOf (r .direction) n) (ofBits binary64 0) in
+    record {
+      t = a .t;
+      point = a .point;
+      normal = facingOf n entering;
+      «geometric_normal» = n;
+      «object_id» = o .id;
+      entering = entering;
+    }
+
+unfoldable pub arriveWithOf : NonSeqObject → Ray → Approach → Option Vec3 → Option NonSeqHit
+arriveWithOf o r a (some n) = some (turnedOf o r a n)
+arriveWithOf o r a none = none
+
+unfoldable pub arriveOf : NonSeqObject → Ray → Approach → Option NonSeqHit
+arriveOf o r a = arriveWithOf o r a (worldNormalOf (o .transform) (a .local .normal))
+
+unfoldable pub arriveFromOf : NonSeqObject → Ray → Option Approach → Option NonSeqHit
+arriveFromOf o r (some a) = arriveOf o r a
+arriveFromOf o r none = none
+
+unfoldable pub intersectOf : NonSeqObject → Ray → Option NonSeqHit
+intersectOf o r = arriveFromOf o r (approachOf o r)

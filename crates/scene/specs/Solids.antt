@@ -1,0 +1,71 @@
+-- The solids of a scene as two lists of numbers, as they stand in the scene text: of each solid the doubles p q r, rho, a to f, m (16) and w (16), and the whole numbers shape, active, finish, medium.
+use Prim.Native.Nat.{ℕ, zero, suc, _+_, _*_}
+use mathlib.Core.Bool.{Bool, cond, _&&_}
+use mathlib.Core.List.{List}
+use mathlib.Core.Option.{Option, none, some}
+use lib.Dec.{eqb, leb}
+use lib.Ieee.{Float, nan}
+use lib.ListN.{length, getD}
+use Rattle.error.specs.Refusals.{Checked, passed, refusedAt}
+use Rattle.rays.specs.declared.matrix.Row.{Row}
+use Rattle.rays.specs.declared.matrix.Mat4.{Mat4}
+use Rattle.material.specs.declared.OpticalMedium.{OpticalMedium}
+use Rattle.material.specs.declared.OpticalMedium.the-variants.{Air}
+use Rattle.material.specs.declared.SurfaceFinish.{SurfaceFinish}
+use Rattle.material.specs.declared.SurfaceFinish.the-variants.{Specular}
+use Rattle.material.specs.Media.{lastFinish, finishOf, lastMedium, mediumOf}
+use Rattle.geometry.specs.Shapes.{lastShape, shapeOf}
+use Rattle.scene.specs.declared.SolidNo.{SolidNo}
+use Rattle.scene.specs.declared.NonSeqObject.{NonSeqObject}
+
+-- double j and whole number j of solid i
+abbrev valueOf : List Float → ℕ → ℕ → Float
+valueOf x i j = getD x (i * 42 + j) nan
+
+abbrev tagOf : List ℕ → ℕ → ℕ → ℕ
+tagOf k i j = getD k (i * 4 + j) 0
+
+unfoldable pub rowAt : List Float → ℕ → Row
+rowAt x i = record { a = getD x i nan; b = getD x (i + 1) nan; c = getD x (i + 2) nan; d = getD x (i + 3) nan }
+
+unfoldable pub matAt : List Float → ℕ → Mat4
+matAt x i = record { r0 = rowAt x i; r1 = rowAt x (i + 4); r2 = rowAt x (i + 8); r3 = rowAt x (i + 12) }
+
+unfoldable pub readObjectOf : List Float → List ℕ → ℕ → NonSeqObject
+readObjectOf x k i =
+    record {
+      id = record { 0 = i };
+      geometry = shapeOf (getD k (i * 4) 0) (getD x (i * 42) nan) (valueOf x i 1) (valueOf x i 2);
+      transform = record { matrix = matAt x (i * 42 + 10); inverse = matAt x (i * 42 + 26) };
+      «is_active» = eqb (tagOf k i 1) 1;
+    }
+
+-- whether both lists reach to the end of solid i
+unfoldable pub holds : List Float → List ℕ → ℕ → Bool
+holds x k i = leb (i * 42 + 42) (length x) && leb (i * 4 + 4) (length k)
+
+-- solid i, where the lists hold it and its shape has a number that is one
+unfoldable pub solidAt : List Float → List ℕ → ℕ → Option NonSeqObject
+solidAt x k i = cond (holds x k i && leb (getD k (i * 4) 0) lastShape) (some (readObjectOf x k i)) none
+
+unfoldable pub finishAt : List Float → List ℕ → SolidNo → SurfaceFinish
+finishAt x k s = cond (holds x k (s .0)) (finishOf (tagOf k (s .0) 2) (valueOf x (s .0) 3)) Specular
+
+unfoldable pub mediumAt : List Float → List ℕ → SolidNo → OpticalMedium
+mediumAt x k s =
+    let i = s .0 in
+    cond (holds x k i) (mediumOf (tagOf k i 3) (valueOf x i 4) (valueOf x i 5) (valueOf x i 6) (valueOf x i 7) (valueOf x i 8) (valueOf x i 9)) Air
+
+-- shape 0 to 4, active 0 or 1, finish 0 to 2, medium 0 to 3
+unfoldable pub tagsFitOf : ℕ → ℕ → ℕ → ℕ → Bool
+tagsFitOf shape active finish medium = leb shape lastShape && (leb active 1 && (leb finish lastFinish && leb medium lastMedium))
+
+-- 17 at the first of the n solids from i on whose whole numbers do not fit
+unfoldable pub checkTagsOf : List ℕ → ℕ → ℕ → Checked Unit
+checkTagsOf k zero i = passed tt
+checkTagsOf k (suc n) i =
+    cond (tagsFitOf (getD k (i * 4) 0) (tagOf k i 1) (tagOf k i 2) (tagOf k i 3)) (checkTagsOf k n (i + 1)) (refusedAt 17 i)
+
+-- 17 at 0 for lists of another length than n solids need
+unfoldable pub checkSolidsOf : List Float → List ℕ → ℕ → Checked Unit
+checkSolidsOf x k n = cond (eqb (length x) (n * 42) && eqb (length k) (n * 4)) (checkTagsOf k n 0) (refusedAt 17 0)

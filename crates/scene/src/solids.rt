@@ -1,0 +1,147 @@
+// The solids of a scene as two lent lists of numbers, as they stand in the scene text. Of each solid 42
+// doubles: sizes p, q, r, reflectance rho, coefficients a to f, matrix and inverse row by row. Of each
+// solid 4 whole numbers: shape, active, finish, medium.
+use crate::NonSeqObject;
+use crate::SolidNo;
+use error::Check;
+use error::NonSeqError;
+use geometry::PrimitiveGeometry;
+use geometry::Transform3D;
+use material::OpticalMedium;
+use material::SurfaceFinish;
+use rays::Mat4;
+use rays::Row;
+ghost use mathlib.Core.Path.{_≡_};
+ghost use Prim.Native.Nat.{_+_, _*_, _≤_};
+ghost use lib.ListN.{length};
+ghost use Rattle.error.specs.Refusals.{checkOf};
+ghost use Rattle.scene.specs.Solids.{rowAt, matAt, readObjectOf, finishAt, mediumAt, tagsFitOf, checkTagsOf, checkSolidsOf};
+
+fn row_at(values: &[f64], i: usize) -> Row
+    requires { ⌜ i + 4 ≤ length (now values) ⌝ }
+    ensures { λ r. ⌜ r ≡ rowAt (now (values .entry)) i ⌝ }
+{
+    Row {
+        a: values[i],
+        b: values[i + 1],
+        c: values[i + 2],
+        d: values[i + 3],
+    }
+}
+
+fn mat_at(values: &[f64], i: usize) -> Mat4
+    requires { ⌜ i + 16 ≤ length (now values) ⌝ }
+    ensures { λ r. ⌜ r ≡ matAt (now (values .entry)) i ⌝ }
+{
+    Mat4 {
+        r0: row_at(values, i),
+        r1: row_at(values, i + 4),
+        r2: row_at(values, i + 8),
+        r3: row_at(values, i + 12),
+    }
+}
+
+// Solid i of lists that hold it.
+pub fn read_object(values: &[f64], tags: &[u32], i: u32) -> NonSeqObject
+    requires { ⌜ (i * 42 + 42 ≤ length (now values)) × (i * 4 + 4 ≤ length (now tags)) ⌝ }
+    ensures { λ r. ⌜ r ≡ readObjectOf (now (values .entry)) (now (tags .entry)) i ⌝ }
+{
+    let a = i as usize * 42;
+    let b = i as usize * 4;
+    let matrix = mat_at(values, a + 10);
+    let inverse = mat_at(values, a + 26);
+    let geometry = PrimitiveGeometry::numbered(tags[b], values[a], values[a + 1], values[a + 2]);
+    NonSeqObject {
+        id: SolidNo(i),
+        geometry,
+        transform: Transform3D { matrix, inverse },
+        is_active: tags[b + 1] == 1,
+    }
+}
+
+// The finish of a solid; clear for one that the lists do not hold.
+pub fn finish_at(values: &[f64], tags: &[u32], solid: SolidNo) -> SurfaceFinish
+    ensures { λ r. ⌜ r ≡ finishAt (now (values .entry)) (now (tags .entry)) solid ⌝ }
+{
+    let i = solid.0;
+    let a = i as usize * 42;
+    let b = i as usize * 4;
+    if a + 42 <= values.len() {
+        if b + 4 <= tags.len() {
+            return SurfaceFinish::numbered(tags[b + 2], values[a + 3]);
+        }
+    }
+    SurfaceFinish::Specular
+}
+
+// The medium of a solid; air for one that the lists do not hold.
+pub fn medium_at(values: &[f64], tags: &[u32], solid: SolidNo) -> OpticalMedium
+    ensures { λ r. ⌜ r ≡ mediumAt (now (values .entry)) (now (tags .entry)) solid ⌝ }
+{
+    let i = solid.0;
+    let a = i as usize * 42;
+    let b = i as usize * 4;
+    if a + 42 <= values.len() {
+        if b + 4 <= tags.len() {
+            return OpticalMedium::numbered(
+                tags[b + 3],
+                values[a + 4],
+                values[a + 5],
+                values[a + 6],
+                values[a + 7],
+                values[a + 8],
+                values[a + 9],
+            );
+        }
+    }
+    OpticalMedium::Air
+}
+
+// Whether a solid's four whole numbers are in range.
+fn tags_fit(shape: u32, active: u32, finish: u32, medium: u32) -> bool
+    ensures { λ r. ⌜ r ≡ tagsFitOf shape active finish medium ⌝ }
+{
+    if shape <= PrimitiveGeometry::LAST {
+        if active <= 1 {
+            if finish <= SurfaceFinish::LAST {
+                return medium <= OpticalMedium::LAST;
+            }
+        }
+    }
+    false
+}
+
+// The first solid whose whole numbers are not in range is refused (17).
+fn check_tags(tags: &[u32], count: u32) -> Check
+    requires { ⌜ count * 4 ≤ length (now tags) ⌝ }
+    ensures { λ r. ⌜ checkOf r ≡ checkTagsOf (now (tags .entry)) count 0 ⌝ }
+{
+    let mut i: u32 = 0;
+    while i < count {
+        let b = i as usize * 4;
+        if tags_fit(tags[b], tags[b + 1], tags[b + 2], tags[b + 3]) {
+            i += 1;
+        } else {
+            return Check::Refused {
+                error: NonSeqError::InvalidSceneText,
+                place: i,
+            };
+        }
+    }
+    Check::Passed
+}
+
+// Whether the lists are those of so many solids, each with whole numbers in range (17).
+pub fn check_solids(values: &[f64], tags: &[u32], count: u32) -> Check
+    ensures { λ r. ⌜ checkOf r ≡ checkSolidsOf (now (values .entry)) (now (tags .entry)) count ⌝ }
+{
+    if values.len() == count as usize * 42 {
+        if tags.len() == count as usize * 4 {
+            return check_tags(tags, count);
+        }
+    }
+    Check::Refused {
+        error: NonSeqError::InvalidSceneText,
+        place: 0,
+    }
+}
