@@ -1,11 +1,14 @@
 -- What the nearest solid is, however the solids are kept. Assumes nothing.
-use Prim.Native.Nat.{ℕ, _<_}
+use Prim.Native.Nat.{ℕ, _*_}
 use mathlib.Core.Path.{_≡_, refl, sym, ap, _∙_}
 use mathlib.Core.Logic.{_↔_}
-use mathlib.Core.Bool.{Bool, true, false, cond}
+use mathlib.Core.Bool.{Bool, true, false, cond, _&&_}
 use mathlib.Core.List.{List}
 use mathlib.Core.Option.{Option, none, some, Option·some-injective, Option·none-ne-some}
+use lib.Dec.{leb}
 use lib.Ieee.{Float}
+use lib.ListN.{getD}
+use Rattle.geometry.specs.Shapes.{lastShape}
 use Rattle.rays.specs.declared.Ray.{Ray}
 use Rattle.rays.specs.declared.vector.Vec3.{Vec3}
 use Rattle.geometry.specs.Transforms.{worldNormalOf}
@@ -16,7 +19,7 @@ use Rattle.scene.specs.declared.NonSeqObject.{NonSeqObject}
 use Rattle.scene.specs.declared.NonSeqHit.{NonSeqHit}
 use Rattle.scene.specs.declared.object.Approach.{Approach}
 use Rattle.scene.specs.Objects.{approachOf, turnedOf, arriveWithOf, arriveOf, arriveFromOf, intersectOf}
-use Rattle.scene.specs.Solids.{solidAt, readObjectOf}
+use Rattle.scene.specs.Solids.{holds, solidAt, readObjectOf}
 use Rattle.scene.specs.Closest.{hitDistance, offerOf, offersOf, closestOf}
 
 -- below all others, first among equals
@@ -52,7 +55,7 @@ number-is o r h e = number-from o r (approachOf o r) h e
 -- of flat lists: the place
 pub place-is : (x : List Float) (k : List ℕ) (r : Ray) (i : ℕ) (h : NonSeqHit) → offersOf (solidAt x k) r i ≡ some h → h .«object_id» .0 ≡ i
 unfolding solidAt offerOf readObjectOf
-place-is x k r i h e = at-place _ e
+place-is x k r i h e = at-place (holds x k i && leb (getD k (i * 4) 0) lastShape) e
   where
     at-place : (b : Bool) → offerOf (cond b (some (readObjectOf x k i)) none) r ≡ some h → h .«object_id» .0 ≡ i
     at-place true p = ap (λ (s : SolidNo). s .0) (number-is (readObjectOf x k i) r h p)

@@ -6,6 +6,8 @@ use lib.Dec.{eqb}
 use lib.ListN.{length, getD}
 use lib.Ieee.{Float, binary64, ofBits, toBits}
 use Rattle.rays.specs.declared.vector.Vec3.{Vec3}
+use Rattle.rays.specs.declared.matrix.Row.{Row}
+use Rattle.rays.specs.declared.matrix.Mat4.{Mat4}
 use Rattle.rays.specs.Vectors.{vec3}
 use Rattle.fields.specs.Split.{split, isByteOf}
 use Rattle.fields.specs.Number.{Read, number, malformed, bitsOf}
@@ -60,3 +62,12 @@ vecAt l k = vec3 (doubleAt l k) (doubleAt l (nextOf k 1)) (doubleAt l (nextOf k 
 
 unfoldable pub isVec : List ℕ → ℕ → Vec3 → Bool
 isVec l k v = isDouble (partOf l k) (v .x) && (isDouble (partOf l (nextOf k 1)) (v .y) && isDouble (partOf l (nextOf k 2)) (v .z))
+
+unfoldable pub rowAt : List ℕ → ℕ → Row
+rowAt l k = record { a = doubleAt l k; b = doubleAt l (nextOf k 1); c = doubleAt l (nextOf k 2); d = doubleAt l (nextOf k 3) }
+
+unfoldable pub matAt : List ℕ → ℕ → Mat4
+matAt l k = record { r0 = rowAt l k; r1 = rowAt l (nextOf k 4); r2 = rowAt l (nextOf k 8); r3 = rowAt l (nextOf k 12) }
+
+unfoldable pub isDash : List ℕ → ℕ → Bool
+isDash l k = isByteOf (partOf l k) 45

@@ -1,11 +1,13 @@
 // The parts of a stored line of vectors, read as numbers and compared. For the program `vectors`.
 use fields::ReadBits;
 use fields::ReadWhole;
+use rays::Mat4;
+use rays::Row;
 use rays::Vec3;
 ghost use mathlib.Core.Path.{_≡_};
 ghost use mathlib.Core.Bool.{_&&_, cond};
 ghost use Rattle.fields.specs.Number.{bitsOf, wholeOf};
-ghost use Rattle.vector_lines.specs.Parts.{nextOf, partOf, hasShape, isRead, bitsBetween, isNumber, bitsAt, doubleAt, isDouble, given, vecAt, isVec};
+ghost use Rattle.vector_lines.specs.Parts.{nextOf, partOf, hasShape, isRead, bitsBetween, isNumber, bitsAt, doubleAt, isDouble, given, vecAt, isVec, rowAt, matAt, isDash};
 
 pub fn both(a: bool, b: bool) -> bool
     ensures { λ r. ⌜ r ≡ (a && b) ⌝ }
@@ -136,4 +138,35 @@ pub fn is_vec(line: &[u8], k: usize, v: Vec3) -> bool
     let y = is_double(line, next(k, 1), v.y);
     let z = is_double(line, next(k, 2), v.z);
     both(is_double(line, k, v.x), both(y, z))
+}
+
+// The four parts from k on as a row of a matrix.
+fn row_at(line: &[u8], k: usize) -> Row
+    ensures { λ r. ⌜ r ≡ rowAt (now (line .entry)) k ⌝ }
+{
+    Row {
+        a: double_at(line, k),
+        b: double_at(line, next(k, 1)),
+        c: double_at(line, next(k, 2)),
+        d: double_at(line, next(k, 3)),
+    }
+}
+
+// The sixteen parts from k on as a matrix.
+pub fn mat_at(line: &[u8], k: usize) -> Mat4
+    ensures { λ r. ⌜ r ≡ matAt (now (line .entry)) k ⌝ }
+{
+    Mat4 {
+        r0: row_at(line, k),
+        r1: row_at(line, next(k, 4)),
+        r2: row_at(line, next(k, 8)),
+        r3: row_at(line, next(k, 12)),
+    }
+}
+
+// Whether part k of a line is "-".
+pub fn is_dash(line: &[u8], k: usize) -> bool
+    ensures { λ r. ⌜ r ≡ isDash (now (line .entry)) k ⌝ }
+{
+    fields::is_byte(fields::part(line, b' ', k), b'-')
 }

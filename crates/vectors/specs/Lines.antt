@@ -11,19 +11,17 @@ use Rattle.error.specs.Refusals.{Answer, value, refusal}
 use Rattle.source.specs.declared.Rng64.{Rng64}
 use Rattle.source.specs.Random.{newOf, nextU64Of, nextF64Of}
 use Rattle.material.specs.declared.OpticalMedium.{OpticalMedium}
-use Rattle.material.specs.declared.OpticalMedium.the-variants.{Air, Constant, Sellmeier1, Schott}
-use Rattle.material.specs.Media.{refractiveIndexOf}
+use Rattle.material.specs.Media.{lastMedium, mediumOf, refractiveIndexOf}
 use Rattle.fields.specs.Number.{Read, number, malformed, bitsOf, wholeOf}
 use Rattle.vectors.specs.declared.lines.Kind.{Kind}
-use Rattle.vectors.specs.declared.lines.Kind.the-variants.{Root, Double, Draw, State, Vector, Matrix, Index}
+use Rattle.vectors.specs.declared.lines.Kind.the-variants.{Root, Double, Draw, State, Vector, Matrix, Index, Shape, Solid}
 use Rattle.rays.specs.declared.vector.Vec3.{Vec3}
-use Rattle.rays.specs.declared.matrix.Row.{Row}
-use Rattle.rays.specs.declared.matrix.Mat4.{Mat4}
 use Rattle.rays.specs.declared.Ray.{Ray}
 use Rattle.rays.specs.Vectors.{dotOf, crossOf, plusOf, minusOf, scaleOf, divideOf, negateOf, normOf, normalizeOf}
 use Rattle.rays.specs.Matrices.{transformPointOf, transformDirectionOf, transformNormalOf}
 use Rattle.rays.specs.Rays.{atOf}
-use Rattle.vector_lines.specs.Parts.{partOf, hasShape, isNumber, bitsAt, bitsBetween, doubleAt, isDouble, given, vecAt, isVec}
+use Rattle.vector_lines.specs.Parts.{partOf, hasShape, isNumber, bitsAt, bitsBetween, doubleAt, isDouble, given, vecAt, isVec, matAt}
+use Rattle.scene_lines.specs.SceneLines.{shapeLine, solidLine}
 
 -- x = the root of x
 unfoldable pub rootLine : List ℕ → Bool
@@ -72,26 +70,15 @@ vectorLine l =
     let r : Ray = record { origin = a; direction = b; «wavelength_nm» = ofBits binary64 0; energy = ofBits binary64 0 } in
     given l 34 7 && ((pairAgrees l a b && oneAgrees l a k) && isVec l 31 (atOf r k))
 
-unfoldable pub rowAt : List ℕ → ℕ → Row
-rowAt l k = record { a = doubleAt l k; b = doubleAt l (k + 1); c = doubleAt l (k + 2); d = doubleAt l (k + 3) }
-
-unfoldable pub matAt : List ℕ → Mat4
-matAt l = record { r0 = rowAt l 0; r1 = rowAt l 4; r2 = rowAt l 8; r3 = rowAt l 12 }
-
 -- matrix, v = it times v as a point and as a direction, its transpose times v as a normal
 unfoldable pub matrixLine : List ℕ → Bool
 matrixLine l =
-    let m = matAt l in
+    let m = matAt l 0 in
     let v = vecAt l 16 in
     given l 29 19 && (isVec l 20 (transformPointOf m v) && (isVec l 23 (transformDirectionOf m v) && isVec l 26 (transformNormalOf m v)))
 
--- 0 to 3 in document 01's order; Air for a number that is none
-unfoldable pub mediumOf : ℕ → List ℕ → OpticalMedium
-mediumOf n l =
-    cond (eqb n 1) (Constant (doubleAt l 1))
-    (cond (eqb n 2) (Sellmeier1 (doubleAt l 1) (doubleAt l 2) (doubleAt l 3) (doubleAt l 4) (doubleAt l 5) (doubleAt l 6))
-    (cond (eqb n 3) (Schott (doubleAt l 1) (doubleAt l 2) (doubleAt l 3) (doubleAt l 4) (doubleAt l 5) (doubleAt l 6))
-    Air))
+unfoldable pub mediumIn : ℕ → List ℕ → OpticalMedium
+mediumIn n l = mediumOf n (doubleAt l 1) (doubleAt l 2) (doubleAt l 3) (doubleAt l 4) (doubleAt l 5) (doubleAt l 6)
 
 -- r and the number
 unfoldable pub isRefusal : List ℕ → ℕ → Bool
@@ -103,7 +90,7 @@ isAnswer t (refusal n) = isRefusal t n
 
 unfoldable pub indexOfMedium : Read → List ℕ → Bool
 indexOfMedium (number n) l =
-    cond (ltb 3 n) false ((hasShape l 10 8 && bitsBetween l 1 8) && isAnswer (partOf l 9) (refractiveIndexOf (mediumOf n l) (doubleAt l 7)))
+    cond (ltb lastMedium n) false ((hasShape l 10 8 && bitsBetween l 1 8) && isAnswer (partOf l 9) (refractiveIndexOf (mediumIn n l) (doubleAt l 7)))
 indexOfMedium malformed l = false
 
 -- medium, its six coefficients, wavelength = index, or r with the number of the refusal
@@ -118,3 +105,5 @@ lineAgrees State l = stateLine l
 lineAgrees Vector l = vectorLine l
 lineAgrees Matrix l = matrixLine l
 lineAgrees Index l = indexLine l
+lineAgrees Shape l = shapeLine l
+lineAgrees Solid l = solidLine l

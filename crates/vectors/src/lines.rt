@@ -3,9 +3,7 @@ use error::NonSeqError;
 use fields::ReadWhole;
 use material::OpticalMedium;
 use material::RefractiveIndex;
-use rays::Mat4;
 use rays::Ray;
-use rays::Row;
 use rays::Vec3;
 use source::Rng64;
 use vector_lines::are_bits;
@@ -18,14 +16,14 @@ use vector_lines::is_double;
 use vector_lines::is_given;
 use vector_lines::is_vec;
 use vector_lines::is_whole;
+use vector_lines::mat_at;
 use vector_lines::one_if;
 use vector_lines::vec_at;
 ghost use mathlib.Core.Path.{_≡_};
-ghost use Prim.Native.Nat.{_<_};
 ghost use Rattle.error.specs.Refusals.{numberOf};
 ghost use Rattle.material.specs.Media.{answerOf};
 ghost use Rattle.vector_lines.specs.Parts.{partOf};
-ghost use Rattle.vectors.specs.Lines.{rootLine, doubleLine, drawsAgree, drawLine, stateLine, mediumOf, isRefusal, isAnswer, indexLine, pairAgrees, oneAgrees, vectorLine, rowAt, matAt, matrixLine, lineAgrees};
+ghost use Rattle.vectors.specs.Lines.{rootLine, doubleLine, drawsAgree, drawLine, stateLine, mediumIn, isRefusal, isAnswer, indexLine, pairAgrees, oneAgrees, vectorLine, matrixLine, lineAgrees};
 
 // What a file's lines say.
 pub enum Kind {
@@ -45,6 +43,10 @@ pub enum Kind {
     Matrix,
     // medium, its six coefficients, wavelength = index, or r with the number of the refusal
     Index,
+    // shape, its sizes, origin and direction = distance and normal, or -
+    Shape,
+    // shape, active, its sizes, matrix and inverse, a ray = where it meets the solid, or -
+    Solid,
 }
 
 fn root_line(line: &[u8]) -> bool
@@ -151,34 +153,10 @@ fn vector_line(line: &[u8]) -> bool
     )
 }
 
-// The row of four parts from k on.
-fn row_at(line: &[u8], k: usize) -> Row
-    requires { ⌜ k < 64 ⌝ }
-    ensures { λ r. ⌜ r ≡ rowAt (now (line .entry)) k ⌝ }
-{
-    Row {
-        a: double_at(line, k),
-        b: double_at(line, k + 1),
-        c: double_at(line, k + 2),
-        d: double_at(line, k + 3),
-    }
-}
-
-fn mat_at(line: &[u8]) -> Mat4
-    ensures { λ r. ⌜ r ≡ matAt (now (line .entry)) ⌝ }
-{
-    Mat4 {
-        r0: row_at(line, 0),
-        r1: row_at(line, 4),
-        r2: row_at(line, 8),
-        r3: row_at(line, 12),
-    }
-}
-
 fn matrix_line(line: &[u8]) -> bool
     ensures { λ r. ⌜ r ≡ matrixLine (now (line .entry)) ⌝ }
 {
-    let m = mat_at(line);
+    let m = mat_at(line, 0);
     let v = vec_at(line, 16);
     let p = is_vec(line, 20, m.transform_point(v));
     let d = is_vec(line, 23, m.transform_direction(v));
@@ -186,41 +164,19 @@ fn matrix_line(line: &[u8]) -> bool
     both(is_given(line, 29, 19), both(p, both(d, n)))
 }
 
-// The medium of an index line, by its number and as many coefficients as it takes; Air for a number
-// that is none.
-fn medium(number: u64, line: &[u8]) -> OpticalMedium
-    ensures { λ r. ⌜ r ≡ mediumOf number (now (line .entry)) ⌝ }
+// The medium of an index line, by its number and coefficients.
+fn medium(number: u32, line: &[u8]) -> OpticalMedium
+    ensures { λ r. ⌜ r ≡ mediumIn number (now (line .entry)) ⌝ }
 {
-    let a = double_at(line, 1);
-    let b = double_at(line, 2);
-    let c = double_at(line, 3);
-    let d = double_at(line, 4);
-    let e = double_at(line, 5);
-    let f = double_at(line, 6);
-    if number == 1 {
-        return OpticalMedium::Constant { n: a };
-    }
-    if number == 2 {
-        return OpticalMedium::Sellmeier1 {
-            b1: a,
-            c1: b,
-            b2: c,
-            c2: d,
-            b3: e,
-            c3: f,
-        };
-    }
-    if number == 3 {
-        return OpticalMedium::Schott {
-            a0: a,
-            a1: b,
-            a2: c,
-            a3: d,
-            a4: e,
-            a5: f,
-        };
-    }
-    OpticalMedium::Air
+    OpticalMedium::numbered(
+        number,
+        double_at(line, 1),
+        double_at(line, 2),
+        double_at(line, 3),
+        double_at(line, 4),
+        double_at(line, 5),
+        double_at(line, 6),
+    )
 }
 
 // Whether a part is r and the number of a refusal.
@@ -253,11 +209,11 @@ fn index_line(line: &[u8]) -> bool
 {
     match fields::read_whole(fields::part(line, b' ', 0)) {
         ReadWhole::Whole(number) => {
-            if 3 < number {
+            if OpticalMedium::LAST < number {
                 return false;
             }
             let ok = both(has_shape(line, 10, 8), are_bits(line, 1, 8));
-            let m = medium(number as u64, line);
+            let m = medium(number, line);
             both(ok, is_answer(line, m.refractive_index(double_at(line, 7))))
         }
         ReadWhole::Malformed => false,
@@ -275,5 +231,7 @@ pub fn line_agrees(kind: Kind, line: &[u8]) -> bool
         Kind::Vector => vector_line(line),
         Kind::Matrix => matrix_line(line),
         Kind::Index => index_line(line),
+        Kind::Shape => scene_lines::shape_line(line),
+        Kind::Solid => scene_lines::solid_line(line),
     }
 }

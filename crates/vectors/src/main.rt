@@ -66,4 +66,7 @@ fn main() {
     run(Kind::Matrix, b"mat4.txt");
     run(Kind::Index, b"index.txt");
     run(Kind::Index, b"index_edges.txt");
+    run(Kind::Shape, b"shapes.txt");
+    run(Kind::Shape, b"shape_edges.txt");
+    run(Kind::Solid, b"solids.txt");
 }

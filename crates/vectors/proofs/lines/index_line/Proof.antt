@@ -27,9 +27,6 @@ are-bits-requires c κs = search needs
 both-requires : tie.Need-both-requires
 both-requires c κs = search needs
 
-cast-medium : tie.Need-cast-medium
-cast-medium c = search needs
-
 medium-requires : tie.Need-medium-requires
 medium-requires c κs = search needs
 
@@ -67,7 +64,6 @@ index-line-spec =
     has-shape-requires
     are-bits-requires
     both-requires
-    cast-medium
     medium-requires
     double-at-requires
     refractive-index-requires

@@ -46,6 +46,18 @@ enum-told-7 c = search needs
 index-line-requires : tie.Need-index-line-requires
 index-line-requires c κs = search needs
 
+enum-told-8 : tie.Need-enum-told-8
+enum-told-8 c = search needs
+
+shape-line-requires : tie.Need-shape-line-requires
+shape-line-requires c κs = search needs
+
+enum-told-9 : tie.Need-enum-told-9
+enum-told-9 c = search needs
+
+solid-line-requires : tie.Need-solid-line-requires
+solid-line-requires c κs = search needs
+
 returns : tie.Need-returns
 unfolding lineAgrees
 returns c = simp (c .before .enum-told .given .1, ← c .root-line .ensures)
@@ -74,6 +86,14 @@ returns-7 : tie.Need-returns-7
 unfolding lineAgrees
 returns-7 c = simp (c .before .enum-told7 .given .1, ← c .index-line .ensures)
 
+returns-8 : tie.Need-returns-8
+unfolding lineAgrees
+returns-8 c = simp (c .before .enum-told8 .given .1, ← c .shape-line .ensures)
+
+returns-9 : tie.Need-returns-9
+unfolding lineAgrees
+returns-9 c = simp (c .before .enum-told9 .given .1, ← c .solid-line .ensures)
+
 pub line-agrees-spec : {M : Type 1} → statement M
 line-agrees-spec =
     tie.close
@@ -92,10 +112,16 @@ line-agrees-spec =
     matrix-line-requires
     enum-told-7
     index-line-requires
+    enum-told-8
+    shape-line-requires
+    enum-told-9
+    solid-line-requires
     returns
     returns-2
     returns-3
     returns-4
     returns-5
     returns-6
-    returns-7)
+    returns-7
+    returns-8
+    returns-9)

@@ -366,6 +366,16 @@ fn med_fields(m: &OpticalMedium) -> (u32, [f64; 6]) {
         _ => unreachable!(),
     }
 }
+fn shape_fields(g: &PrimitiveGeometry) -> (u32, [f64; 3]) {
+    match *g {
+        PrimitiveGeometry::Plane { half_width, half_height } => (0, [half_width, half_height, 0.0]),
+        PrimitiveGeometry::Disk { outer_radius, inner_radius } => (1, [outer_radius, inner_radius, 0.0]),
+        PrimitiveGeometry::Sphere { radius } => (2, [radius, 0.0, 0.0]),
+        PrimitiveGeometry::Cylinder { radius, half_length } => (3, [radius, half_length, 0.0]),
+        PrimitiveGeometry::Box { half_x, half_y, half_z } => (4, [half_x, half_y, half_z]),
+        _ => unreachable!(),
+    }
+}
 fn mat(m: &Matrix4<f64>) -> String {
     let v: Vec<String> = m.r.iter().flatten().map(|&x| hx(x)).collect();
     v.join(",")
@@ -379,14 +389,7 @@ fn scene_text(c: &Case, filter: &str) -> String {
     let _ = writeln!(o, "{} {} {} {} {}", hx(c.threshold), c.bounces, filter, ak, six(&ac));
     let _ = writeln!(o, "shape p q r active finish rho medium a b c d e f m w");
     for ob in &c.scene.objects {
-        let (k, p, q, r) = match ob.geometry {
-            PrimitiveGeometry::Plane { half_width, half_height } => (0, half_width, half_height, 0.0),
-            PrimitiveGeometry::Disk { outer_radius, inner_radius } => (1, outer_radius, inner_radius, 0.0),
-            PrimitiveGeometry::Sphere { radius } => (2, radius, 0.0, 0.0),
-            PrimitiveGeometry::Cylinder { radius, half_length } => (3, radius, half_length, 0.0),
-            PrimitiveGeometry::Box { half_x, half_y, half_z } => (4, half_x, half_y, half_z),
-            _ => unreachable!(),
-        };
+        let (k, [p, q, r]) = shape_fields(&ob.geometry);
         let (fk, rho) = match ob.material.finish {
             SurfaceFinish::Specular => (0, 0.0),
             SurfaceFinish::Mirror { reflectance } => (1, reflectance),
@@ -554,14 +557,7 @@ fn vectors(dir: &str) {
             let a = Vec3::new(s.r(-2.0, 2.0), s.r(-2.0, 2.0), s.r(-2.0, 2.0));
             (o, if s.chance(0.1) { let e = s.log(1e-14, 1e-5); Vec3::new(e, 0.0, 1.0).normalize() } else { (a - o).normalize() })
         };
-        let (n, v) = match g {
-            PrimitiveGeometry::Plane { half_width, half_height } => (0, [half_width, half_height, 0.0]),
-            PrimitiveGeometry::Disk { outer_radius, inner_radius } => (1, [outer_radius, inner_radius, 0.0]),
-            PrimitiveGeometry::Sphere { radius } => (2, [radius, 0.0, 0.0]),
-            PrimitiveGeometry::Cylinder { radius, half_length } => (3, [radius, half_length, 0.0]),
-            PrimitiveGeometry::Box { half_x, half_y, half_z } => (4, [half_x, half_y, half_z]),
-            _ => unreachable!(),
-        };
+        let (n, v) = shape_fields(&g);
         let r = g.intersect_local(&Ray::new(o, d, 550.0, 1.0).unwrap());
         let a = match r { Some((u, m, _)) => { some += 1; list(&[u, m.x, m.y, m.z]) } None => "-".into() };
         let _ = writeln!(t, "{} {} {} = {}", n, list(&v), list(&[o.x, o.y, o.z, d.x, d.y, d.z]), a);
@@ -684,6 +680,106 @@ fn edges(put: &dyn Fn(&str, String)) {
         let _ = writeln!(t, "{} {} = {} {} {}", e.iter().map(|&x| hx(x)).collect::<Vec<_>>().join(" "), v3(v), by(m, 1.0), by(m, 0.0), by(m.transpose(), 0.0));
     }
     put("mat4", t);
+    shape_edges(s, put);
+    #[cfg(feature = "given")]
+    solids(s, put);
+}
+
+/// intersect_local where the random lines above seldom fall: sizes met exactly, directions about
+/// 1e-12, distances about 1e-9, sizes and rays that are negative, infinite or NaN. As the lines of shapes.
+fn shape_edges(s: &mut Sm, put: &dyn Fn(&str, String)) {
+    let size = |s: &mut Sm| s.pick(&[1.0, 1.0, 1.0, 2.0, 0.5, 0.0, -1.0, f64::NAN, f64::INFINITY]);
+    let place = |s: &mut Sm| s.pick(&[0.0, 0.0, -0.0, 1.0, -1.0, 2.0, -2.0, 0.5, -5.0, 5.0, 1e-9, -1e-9, 1.0 + 1e-9, 2e-9, -0.5]);
+    let part = |s: &mut Sm| s.pick(&[0.0, 0.0, -0.0, 1.0, -1.0, 1.0, -1.0, 1e-12, -1e-12, 9.999999999999999e-13, 1.0000000000000002e-12, 1e-6, 1e-7, 0.6, -0.8, 2.0]);
+    let odd = |s: &mut Sm, x: f64| if s.chance(0.01) { s.pick(&[f64::NAN, f64::INFINITY, -f64::INFINITY, 1e300]) } else { x };
+    let mut t = String::new();
+    let (mut done, mut hits) = (0, 0);
+    while done < 2000 {
+        let (a, b, c) = (size(s), size(s), size(s));
+        let g = match s.n(5) {
+            0 => PrimitiveGeometry::Plane { half_width: a, half_height: b },
+            1 => PrimitiveGeometry::Disk { outer_radius: a, inner_radius: if s.chance(0.5) { 0.5 } else { b } },
+            2 => PrimitiveGeometry::Sphere { radius: a },
+            3 => PrimitiveGeometry::Cylinder { radius: a, half_length: b },
+            _ => PrimitiveGeometry::Box { half_x: a, half_y: b, half_z: c },
+        };
+        let mut v = [place(s), place(s), place(s), part(s), part(s), part(s)];
+        for x in &mut v { *x = odd(s, *x); }
+        let ray = Ray { origin: Vec3::new(v[0], v[1], v[2]), direction: Vec3::new(v[3], v[4], v[5]), wavelength_nm: 550.0, energy: 1.0 };
+        let r = g.intersect_local(&ray);
+        if r.is_none() && done % 2 == 1 { continue; }
+        done += 1;
+        hits += r.is_some() as u32;
+        let (n, w) = shape_fields(&g);
+        let list = |v: &[f64]| v.iter().map(|&x| hx(x)).collect::<Vec<_>>().join(" ");
+        let a = match r { Some((u, m, _)) => list(&[u, m.x, m.y, m.z]), None => "-".into() };
+        let _ = writeln!(t, "{} {} {} = {}", n, list(&w), list(&v), a);
+    }
+    put("shape_edges", t);
+    eprintln!("{hits} of 2000 lines at the limits of shapes are hits");
+}
+
+/// NonSeqObject::intersect: shape active p q r, the matrix and its inverse, a ray's eight doubles = t,
+/// point, normal, geometric normal, 1 if entering; or -. Of every four lines one has whole numbers and
+/// quarter turns, two have any rotation and scale, and one has matrices with parts that are not finite,
+/// extreme or no inverses of each other.
+#[cfg(feature = "given")]
+fn solids(s: &mut Sm, put: &dyn Fn(&str, String)) {
+    let list = |v: &[f64]| v.iter().map(|&x| hx(x)).collect::<Vec<_>>().join(" ");
+    let mut t = String::new();
+    let (mut done, mut hits) = (0, 0);
+    while done < 600 {
+        let (whole, wild) = (done % 4 == 0, done % 4 == 3);
+        let sk = s.n(5);
+        let g = if whole { ishape(s) } else { shape(s, sk, 2.5, wild) };
+        let tr = if whole {
+            let turn = |s: &mut Sm| s.pick(&[0.0, 0.0, 90.0, 180.0, 270.0]);
+            Transform3D {
+                translation: Vec3::new(s.n(5) as f64 - 2.0, s.n(5) as f64 - 2.0, s.n(5) as f64 - 2.0),
+                rotation_euler_deg: Vec3::new(turn(s), turn(s), turn(s)),
+                scale: Vec3::new(s.pick(&[1.0, -1.0, 2.0]), s.pick(&[1.0, -1.0, 0.5]), s.pick(&[1.0, -1.0, 4.0])),
+            }
+        } else {
+            Transform3D { translation: s.unit() * s.r(0.0, 4.0), rotation_euler_deg: Vec3::new(s.r(-180.0, 180.0), s.r(-180.0, 180.0), s.r(-180.0, 180.0)), scale: scale(s) }
+        };
+        nalgebra::given::MATRICES.set(None);
+        let mut m = tr.to_matrix4();
+        let mut w = tr.inverse_matrix4().unwrap();
+        if wild {
+            for _ in 0..=s.n(3) {
+                let x = s.wild();
+                let a = if s.chance(0.5) { &mut m } else { &mut w };
+                a.r[s.n(4) as usize][s.n(4) as usize] = x;
+            }
+        }
+        let (o, d) = if whole {
+            (Vec3::new(s.n(9) as f64 - 4.0, s.n(9) as f64 - 4.0, s.n(9) as f64 - 4.0), s.axis())
+        } else {
+            let o = s.unit() * s.r(0.0, 9.0);
+            (o, (tr.translation + s.unit() * s.r(0.0, 2.5) - o).normalize())
+        };
+        let mut v = [o.x, o.y, o.z, d.x, d.y, d.z, 550.0, 1.0];
+        if wild && s.chance(0.05) { v[s.n(8) as usize] = s.wild(); }
+        let mut ob = obj(g, tr, OpticalMedium::Air, SurfaceFinish::Specular);
+        ob.is_active = !s.chance(0.02);
+        let ray = Ray { origin: Vec3::new(v[0], v[1], v[2]), direction: Vec3::new(v[3], v[4], v[5]), wavelength_nm: v[6], energy: v[7] };
+        nalgebra::given::MATRICES.set(Some((m, w)));
+        let r = ob.intersect(&ray);
+        if r.is_none() && done % 3 == 0 { continue; }
+        done += 1;
+        hits += r.is_some() as u32;
+        let a = match r {
+            Some(h) => format!(
+                "{} {}", list(&[h.t, h.point.x, h.point.y, h.point.z, h.normal.x, h.normal.y, h.normal.z, h.geometric_normal.x, h.geometric_normal.y, h.geometric_normal.z]), h.entering as u32
+            ),
+            None => "-".into(),
+        };
+        let (n, p) = shape_fields(&ob.geometry);
+        let flat = |m: &Matrix4<f64>| m.r.iter().flatten().map(|&x| hx(x)).collect::<Vec<_>>().join(" ");
+        let _ = writeln!(t, "{} {} {} {} {} {} = {}", n, ob.is_active as u32, list(&p), flat(&m), flat(&w), list(&v), a);
+    }
+    put("solids", t);
+    eprintln!("{hits} of 600 solid lines are hits");
 }
 
 fn main() {

@@ -1,0 +1,2 @@
+-- What a stored line of shapes or solids says.
+pub mod SceneLines
