@@ -1,2 +1,3 @@
 -- What the benchmark's loops compute.
 pub mod Loops
+pub mod Hits
