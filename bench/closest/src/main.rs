@@ -157,16 +157,6 @@ fn rays(n: usize) -> Vec<Ray> {
 fn main() {
     let s = Scene::typical();
     let many = rays(200_000);
-    let (mut differ, mut met) = (0, 0);
-    for r in &many {
-        let h = bits(original(&s, r));
-        met += h[0];
-        if [ours, software, software_lazy, hardware, hardware_lazy].iter().any(|f| bits(f(&s, r)) != h) {
-            differ += 1;
-        }
-    }
-    println!("{differ} of {} rays differ from the original, {met} meet a solid", many.len());
-
     let few = &many[..4096];
     let ways: [(&str, fn(&Scene, &Ray) -> BenchHit); 6] = [
         ("proved", ours),
@@ -184,6 +174,15 @@ fn main() {
         }
         return;
     }
+    let (mut differ, mut met) = (0, 0);
+    for r in &many {
+        let h = bits(original(&s, r));
+        met += h[0];
+        if [ours, software, software_lazy, hardware, hardware_lazy].iter().any(|f| bits(f(&s, r)) != h) {
+            differ += 1;
+        }
+    }
+    println!("{differ} of {} rays differ from the original, {met} meet a solid", many.len());
     let mut ns = vec![Vec::new(); ways.len()];
     for _ in 0..200 {
         for (k, (_, f)) in ways.iter().enumerate() {

@@ -9,7 +9,7 @@ use Rattle.error.specs.Refusals.{Checked, passed, refusedAt}
 use Rattle.scene.specs.Solids.{tagsFitOf, checkTagsOf}
 
 -- whether solid i's whole numbers fit
-abbrev fit-at : List ℕ → ℕ → Bool
+abbrev pub fit-at : List ℕ → ℕ → Bool
 fit-at k i = tagsFitOf (getD k (i * 4) 0) (getD k (i * 4 + 1) 0) (getD k (i * 4 + 2) 0) (getD k (i * 4 + 3) 0)
 
 pub tags-turn : (k : List ℕ) (n i : ℕ) (t : Bool) (z : Checked Unit) → i < n → t ≡ fit-at k i → t ≡ true → checkTagsOf k (n - i) i ≡ z → checkTagsOf k (n - (i + 1)) (i + 1) ≡ z

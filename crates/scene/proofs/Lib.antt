@@ -2,3 +2,5 @@
 pub mod Search
 pub mod Checks
 pub mod Meaning
+pub mod There
+pub mod Examples

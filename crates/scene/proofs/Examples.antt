@@ -1,0 +1,102 @@
+-- Small scenes, worked out by the definitions.
+use Prim.Native.Nat.{ℕ, zero, suc}
+use mathlib.Core.Path.{_≡_, refl}
+use mathlib.Core.Bool.{true, false}
+use mathlib.Core.List.{List, [], _∷_}
+use mathlib.Core.Option.{Option, none, some}
+use lib.Ieee.{Float, binary64, inf, add, sub, mul, div, neg, lt, le, ofBits, toBits}
+use Rattle.doubles.specs.Doubles.{absOf, finiteOf}
+use Rattle.doubles.specs.Root.{sqrtOf}
+use Rattle.error.specs.Refusals.{passed, refusedAt}
+use Rattle.rays.specs.declared.Ray.{Ray}
+use Rattle.rays.specs.declared.vector.Vec3.{Vec3}
+use Rattle.rays.specs.declared.matrix.Mat4.{Mat4}
+use Rattle.rays.specs.Rays.{atOf, newRayOf, finiteRayOf}
+use Rattle.rays.specs.Vectors.{vec3, dotOf, plusOf, minusOf, scaleOf, divideOf, negateOf, normOf, finiteVecOf}
+use Rattle.rays.specs.Matrices.{rowTimesOf, timesOf, transposeOf, transformPointOf, transformDirectionOf, transformNormalOf}
+use Rattle.geometry.specs.declared.PrimitiveGeometry.the-variants.{Sphere}
+use Rattle.geometry.specs.Hits.{firstOf}
+use Rattle.geometry.specs.Round.{intersectSphereOf, sphereAmongOf, sphereAtOf, solveOf}
+use Rattle.geometry.specs.Shapes.{intersectLocalOf}
+use Rattle.geometry.specs.Transforms.{unitOf, madeOf, rayAlongOf, inverseTransformRayOf, worldNormalOf}
+use Rattle.nearest.specs.Nearest.{isNearerOf, nearerOf, nearestFrom, nearestOf}
+use Rattle.scene.specs.declared.NonSeqObject.{NonSeqObject}
+use Rattle.scene.specs.declared.NonSeqHit.{NonSeqHit}
+use Rattle.scene.specs.Objects.{approachAtOf, approachByOf, approachAlongOf, approachFromOf, approachOf, facingOf, turnedOf, arriveWithOf, arriveOf, arriveFromOf, intersectOf}
+use Rattle.scene.specs.Solids.{tagsFitOf, checkTagsOf, checkSolidsOf}
+use Rattle.scene.specs.Closest.{offerOf, closestOf, intersectClosestOf}
+
+abbrev #0 : Float
+#0 = ofBits binary64 0
+
+abbrev #1 : Float
+#1 = ofBits binary64 0x3ff0000000000000
+
+abbrev #2 : Float
+#2 = ofBits binary64 0x4000000000000000
+
+abbrev #½ : Float
+#½ = ofBits binary64 0x3fe0000000000000
+
+abbrev #5 : Float
+#5 = ofBits binary64 0x4014000000000000
+
+abbrev #8 : Float
+#8 = ofBits binary64 0x4020000000000000
+
+abbrev #10 : Float
+#10 = ofBits binary64 0x4024000000000000
+
+abbrev zeros : {A : Type 0} → A → ℕ → List A
+zeros a zero = []
+zeros a (suc n) = a ∷ zeros a n
+
+-- ---- refusals
+
+-- no solids, no hit
+pub empty-scene : (r : Ray) → intersectClosestOf [] [] 0 r ≡ passed none
+unfolding intersectClosestOf checkSolidsOf checkTagsOf closestOf nearestOf nearestFrom
+empty-scene r = refl
+
+-- one solid announced and none given
+pub short-lists : (r : Ray) → intersectClosestOf [] [] 1 r ≡ refusedAt 17 0
+unfolding intersectClosestOf checkSolidsOf
+short-lists r = refl
+
+-- the second of two solids has shape 9
+pub shape-9 : (r : Ray) → intersectClosestOf (zeros #0 84) (0 ∷ 0 ∷ 0 ∷ 0 ∷ 9 ∷ 0 ∷ 0 ∷ 0 ∷ []) 2 r ≡ refusedAt 17 1
+unfolding intersectClosestOf checkSolidsOf checkTagsOf tagsFitOf
+shape-9 r = refl
+
+-- 33 solids
+pub too-many : (r : Ray) → intersectClosestOf (zeros #0 1386) (zeros 0 132) 33 r ≡ refusedAt 3 0
+unfolding intersectClosestOf checkSolidsOf checkTagsOf tagsFitOf
+too-many r = refl
+
+-- ---- a sphere of radius 1 at (0, 0, 10), twice as long along z, met from the origin along +z: 4 away in its own coordinates, 8 in the world
+
+-- z times k, and z more
+abbrev scaled : Float → Float → Mat4
+scaled k z =
+    record {
+      r0 = record { a = #1; b = #0; c = #0; d = #0 };
+      r1 = record { a = #0; b = #1; c = #0; d = #0 };
+      r2 = record { a = #0; b = #0; c = k; d = z };
+      r3 = record { a = #0; b = #0; c = #0; d = #1 };
+    }
+
+abbrev long-sphere : NonSeqObject
+long-sphere =
+    record {
+      id = record { 0 = 3 };
+      geometry = Sphere #1;
+      transform = record { matrix = scaled #2 #10; inverse = scaled #½ (neg #5) };
+      «is_active» = true;
+    }
+
+abbrev ahead : Ray
+ahead = record { origin = vec3 #0 #0 #0; direction = vec3 #0 #0 #1; «wavelength_nm» = #1; energy = #1 }
+
+pub world-distance : intersectOf long-sphere ahead ≡ some (record { t = #8; point = vec3 #0 #0 #8; normal = vec3 #0 #0 (neg #1); «geometric_normal» = vec3 #0 #0 (neg #1); «object_id» = record { 0 = 3 }; entering = true })
+unfolding intersectOf arriveFromOf arriveOf arriveWithOf turnedOf facingOf approachOf approachFromOf approachAlongOf approachByOf approachAtOf inverseTransformRayOf rayAlongOf unitOf madeOf worldNormalOf intersectLocalOf intersectSphereOf sphereAmongOf sphereAtOf solveOf firstOf rowTimesOf timesOf transposeOf transformPointOf transformDirectionOf transformNormalOf atOf newRayOf finiteRayOf dotOf plusOf minusOf scaleOf divideOf negateOf normOf finiteVecOf sqrtOf absOf finiteOf add sub mul div neg lt le ofBits toBits
+world-distance = refl

@@ -1,0 +1,66 @@
+-- After the check every solid of the count is there, and refusals in small scenes. Assumes nothing.
+use Prim.Native.Nat.{ℕ, zero, suc, _+_, _*_, _-_, _≤_, _<_}
+use mathlib.Core.Path.{_≡_, refl, sym, ap, _∙_, subst}
+use mathlib.Core.Bool.{Bool, true, false, cond, _&&_}
+use mathlib.Core.List.{List, [], _∷_}
+use mathlib.Core.Option.{Option, none, some}
+use native.Mathlib.Omega.{arith}
+use native.Mathlib.Decide.{decLt}
+use lib.Dec.{T, leb, eqb, eqb→eq}
+use lib.Ieee.{Float, nan}
+use lib.ListN.{length, getD}
+use borrow.Author.Tests.{le-leb}
+use Rattle.doubles.proofs.Floats.{clash}
+use Rattle.nearest.proofs.Order.{and-left, and-right, and-both}
+use Rattle.error.specs.Refusals.{Checked, passed, refusedAt}
+use Rattle.geometry.specs.Shapes.{lastShape}
+use Rattle.scene.specs.Solids.{holds, solidAt, readObjectOf, tagsFitOf, checkTagsOf, checkSolidsOf}
+use Rattle.scene.proofs.Checks.{fit-at}
+
+equal : {a b : ℕ} → eqb a b ≡ true → a ≡ b
+equal {a} {b} e = eqb→eq a b (subst T (sym e) tt)
+
+abbrev isPassed : Checked Unit → Bool
+isPassed (passed u) = true
+isPassed (refusedAt n p) = false
+
+-- of n solids from i on that pass, each fits
+tags-passed : (k : List ℕ) (n i j : ℕ) → checkTagsOf k n i ≡ passed tt → i ≤ j → j < i + n → fit-at k j ≡ true
+unfolding checkTagsOf
+tags-passed k zero i j e p q = absurd (none-left i j p q)
+  where
+    none-left : (i j : ℕ) → i ≤ j → j < i + 0 → ⊥
+    none-left i j p q = omega arith
+tags-passed k (suc n) i j e p q =
+    first (λ (g : checkTagsOf k n (i + 1) ≡ passed tt) (l : i + 1 ≤ j) (m : j < i + 1 + n). tags-passed k n (i + 1) j g l m) (fit-at k i) refl e (decLt i j)
+  where
+    first : (checkTagsOf k n (i + 1) ≡ passed tt → i + 1 ≤ j → j < i + 1 + n → fit-at k j ≡ true) → (b : Bool) → fit-at k i ≡ b → cond b (checkTagsOf k n (i + 1)) (refusedAt 17 i) ≡ passed tt → Dec (i < j) → fit-at k j ≡ true
+    first rest false f g d = absurd (clash (sym (ap isPassed g)))
+    first rest true f g (yes l) = rest g (omega arith) (omega arith)
+    first rest true f g (no l) = subst (λ (m : ℕ). fit-at k m ≡ true) (same i j p l) f
+      where
+        same : (i j : ℕ) → i ≤ j → (i < j → ⊥) → i ≡ j
+        same i j p l = omega (arith, l)
+
+-- lists that pass have the lengths of n solids
+lengths : (x : List Float) (k : List ℕ) (n : ℕ) → checkSolidsOf x k n ≡ passed tt → ((length x ≡ n * 42) × (length k ≡ n * 4)) × (checkTagsOf k n 0 ≡ passed tt)
+unfolding checkSolidsOf
+lengths x k n e = judged (eqb (length x) (n * 42)) (eqb (length k) (n * 4)) refl refl e
+  where
+    judged : (a b : Bool) → eqb (length x) (n * 42) ≡ a → eqb (length k) (n * 4) ≡ b → cond (a && b) (checkTagsOf k n 0) (refusedAt 17 0) ≡ passed tt → ((length x ≡ n * 42) × (length k ≡ n * 4)) × (checkTagsOf k n 0 ≡ passed tt)
+    judged true true p q g = ((equal p, equal q), g)
+    judged true false p q g = absurd (clash (sym (ap isPassed g)))
+    judged false b p q g = absurd (clash (sym (ap isPassed g)))
+
+-- so the search looks at every solid of the count, and at no other number in its place
+pub checked-there : (x : List Float) (k : List ℕ) (n i : ℕ) → checkSolidsOf x k n ≡ passed tt → i < n → solidAt x k i ≡ some (readObjectOf x k i)
+unfolding solidAt holds tagsFitOf
+checked-there x k n i e l =
+    let u = lengths x k n e in
+    let v : length x ≡ n * 42 = u .0 .0 in
+    let w : length k ≡ n * 4 = u .0 .1 in
+    let f : fit-at k i ≡ true = tags-passed k n 0 i (u .1) (omega arith) (omega arith) in
+    let p : leb (i * 42 + 42) (length x) ≡ true = le-leb (i * 42 + 42) (length x) (omega (arith, v, l)) in
+    let q : leb (i * 4 + 4) (length k) ≡ true = le-leb (i * 4 + 4) (length k) (omega (arith, w, l)) in
+    let s : leb (getD k (i * 4) 0) lastShape ≡ true = and-left (leb (getD k (i * 4) 0) lastShape) _ f in
+    rw (p, q, s)
