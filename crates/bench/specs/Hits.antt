@@ -15,8 +15,8 @@ unfoldable pub rayOf : Float → Float → Float → Float → Float → Float �
 rayOf ox oy oz dx dy dz =
     record { origin = vec3 ox oy oz; direction = vec3 dx dy dz; «wavelength_nm» = ofBits binary64 0x4081300000000000; energy = ofBits binary64 0x3ff0000000000000 }
 
-unfoldable pub benchHitOf : Option NonSeqHit → BenchHit
-benchHitOf (some h) =
+unfoldable pub metOf : NonSeqHit → BenchHit
+metOf h =
     record {
       met = 1;
       solid = h .«object_id» .0;
@@ -32,5 +32,10 @@ benchHitOf (some h) =
       gy = h .«geometric_normal» .y;
       gz = h .«geometric_normal» .z;
     }
-benchHitOf none =
-    record { met = 0; solid = 0; entering = 0; t = #0; x = #0; y = #0; z = #0; nx = #0; ny = #0; nz = #0; gx = #0; gy = #0; gz = #0 }
+
+unfoldable pub missedOf : BenchHit
+missedOf = record { met = 0; solid = 0; entering = 0; t = #0; x = #0; y = #0; z = #0; nx = #0; ny = #0; nz = #0; gx = #0; gy = #0; gz = #0 }
+
+unfoldable pub benchHitOf : Option NonSeqHit → BenchHit
+benchHitOf (some h) = metOf h
+benchHitOf none = missedOf

@@ -2,6 +2,7 @@
 use rays::Ray;
 use rays::Vec3;
 use scene::Intersection;
+use scene::NonSeqHit;
 ghost use mathlib.Core.Path.{_≡_};
 ghost use mathlib.Core.Bool.{cond};
 ghost use lib.Ieee.{ofBits, binary64};
@@ -9,7 +10,7 @@ ghost use Rattle.scene.specs.Objects.{hitOf};
 ghost use Rattle.scene.specs.Solids.{solidAt};
 ghost use Rattle.scene.specs.Closest.{closestOf};
 ghost use Rattle.bench.specs.Loops.{rootSumOf, rootChainOf};
-ghost use Rattle.bench.specs.Hits.{rayOf, benchHitOf};
+ghost use Rattle.bench.specs.Hits.{rayOf, metOf, missedOf, benchHitOf};
 
 // A hit in plain numbers; all zero but for `met` where there is none.
 #[repr(C)]
@@ -66,46 +67,56 @@ fn flag(b: bool) -> u32
     0
 }
 
+fn met(h: NonSeqHit) -> BenchHit
+    ensures { λ r. ⌜ r ≡ metOf h ⌝ }
+{
+    let p = h.point;
+    let n = h.normal;
+    let g = h.geometric_normal;
+    let id = h.object_id;
+    BenchHit {
+        met: 1,
+        solid: id.0,
+        entering: flag(h.entering),
+        t: h.t,
+        x: p.x,
+        y: p.y,
+        z: p.z,
+        nx: n.x,
+        ny: n.y,
+        nz: n.z,
+        gx: g.x,
+        gy: g.y,
+        gz: g.z,
+    }
+}
+
+fn missed() -> BenchHit
+    ensures { λ r. ⌜ r ≡ missedOf ⌝ }
+{
+    BenchHit {
+        met: 0,
+        solid: 0,
+        entering: 0,
+        t: 0.0,
+        x: 0.0,
+        y: 0.0,
+        z: 0.0,
+        nx: 0.0,
+        ny: 0.0,
+        nz: 0.0,
+        gx: 0.0,
+        gy: 0.0,
+        gz: 0.0,
+    }
+}
+
 fn bench_hit(h: Intersection) -> BenchHit
     ensures { λ r. ⌜ r ≡ benchHitOf (hitOf h) ⌝ }
 {
     match h {
-        Intersection::Hit(m) => {
-            let p = m.point;
-            let n = m.normal;
-            let g = m.geometric_normal;
-            let id = m.object_id;
-            BenchHit {
-                met: 1,
-                solid: id.0,
-                entering: flag(m.entering),
-                t: m.t,
-                x: p.x,
-                y: p.y,
-                z: p.z,
-                nx: n.x,
-                ny: n.y,
-                nz: n.z,
-                gx: g.x,
-                gy: g.y,
-                gz: g.z,
-            }
-        }
-        Intersection::Miss => BenchHit {
-            met: 0,
-            solid: 0,
-            entering: 0,
-            t: 0.0,
-            x: 0.0,
-            y: 0.0,
-            z: 0.0,
-            nx: 0.0,
-            ny: 0.0,
-            nz: 0.0,
-            gx: 0.0,
-            gy: 0.0,
-            gz: 0.0,
-        },
+        Intersection::Hit(m) => met(m),
+        Intersection::Miss => missed(),
     }
 }
 
