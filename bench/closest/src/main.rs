@@ -91,26 +91,6 @@ fn packed(h: Option<Hit>) -> BenchHit {
     }
 }
 
-#[inline(never)]
-fn software(s: &Scene, r: &Ray) -> BenchHit {
-    packed(plain::closest::<false>(&s.solids, r, root::sqrt))
-}
-
-#[inline(never)]
-fn software_lazy(s: &Scene, r: &Ray) -> BenchHit {
-    packed(plain::closest::<true>(&s.solids, r, root::sqrt))
-}
-
-#[inline(never)]
-fn hardware(s: &Scene, r: &Ray) -> BenchHit {
-    packed(plain::closest::<false>(&s.solids, r, f64::sqrt))
-}
-
-#[inline(never)]
-fn hardware_lazy(s: &Scene, r: &Ray) -> BenchHit {
-    packed(plain::closest::<true>(&s.solids, r, f64::sqrt))
-}
-
 fn original(s: &Scene, r: &Ray) -> BenchHit {
     let v = |a: V3| Vec3::new(a.x, a.y, a.z);
     let a = |v: Vec3| V3 { x: v.x, y: v.y, z: v.z };
@@ -160,10 +140,10 @@ fn main() {
     let few = &many[..4096];
     let ways: [(&str, fn(&Scene, &Ray) -> BenchHit); 6] = [
         ("proved", ours),
-        ("Rust, software root", software),
-        ("Rust, software root, no normal for the farther", software_lazy),
-        ("Rust, hardware root", hardware),
-        ("Rust, hardware root, no normal for the farther", hardware_lazy),
+        ("Rust, software root", |s, r| packed(plain::closest::<false>(&s.solids, r, root::sqrt))),
+        ("Rust, software root, no normal for the farther", |s, r| packed(plain::closest::<true>(&s.solids, r, root::sqrt))),
+        ("Rust, hardware root", |s, r| packed(plain::closest::<false>(&s.solids, r, f64::sqrt))),
+        ("Rust, hardware root, no normal for the farther", |s, r| packed(plain::closest::<true>(&s.solids, r, f64::sqrt))),
         ("original", original),
     ];
     if let Some(k) = std::env::args().nth(1) {
@@ -178,7 +158,7 @@ fn main() {
     for r in &many {
         let h = bits(original(&s, r));
         met += h[0];
-        if [ours, software, software_lazy, hardware, hardware_lazy].iter().any(|f| bits(f(&s, r)) != h) {
+        if ways[..5].iter().any(|(_, f)| bits(f(&s, r)) != h) {
             differ += 1;
         }
     }

@@ -1,15 +1,12 @@
 -- Document 01's marked facts M3 to M5, of the definitions.
 use mathlib.Core.Path.{_≡_, refl}
-use mathlib.Core.Bool.{false, true}
-use mathlib.Core.Option.{Option, none, some}
-use lib.Ieee.{Float, binary64, inf, add, sub, mul, div, neg, lt, le, ofBits, toBits}
+use mathlib.Core.Option.{none}
+use lib.Ieee.{Float, binary64, add, sub, mul, div, neg, lt, le, ofBits, toBits}
 use Rattle.doubles.specs.Doubles.{absOf}
 use Rattle.doubles.specs.Root.{sqrtOf}
 use Rattle.rays.specs.declared.Ray.{Ray}
 use Rattle.rays.specs.Rays.{atOf}
 use Rattle.rays.specs.Vectors.{vec3, dotOf, plusOf, scaleOf, divideOf}
-use Rattle.geometry.specs.declared.LocalHit.{LocalHit}
-use Rattle.geometry.specs.declared.PrimitiveGeometry.{PrimitiveGeometry}
 use Rattle.geometry.specs.declared.PrimitiveGeometry.the-variants.{Plane, Sphere, Box}
 use Rattle.geometry.specs.Hits.{#0, #1, hitAt, firstOf}
 use Rattle.geometry.specs.Flat.{intersectPlaneOf, planeFromOf, flatDistanceOf, planeAtOf, flatHitOf, reachOf}

@@ -1,5 +1,5 @@
 -- Rays into a shape's own coordinates, normals back into the world. What can't be made is none.
-use lib.Ieee.{Float, binary64, le, ofBits}
+use lib.Ieee.{binary64, le, ofBits}
 use mathlib.Core.Bool.{cond}
 use mathlib.Core.Option.{Option, none, some}
 use Rattle.doubles.specs.Doubles.{finiteOf}

@@ -1,15 +1,14 @@
 -- Small scenes, worked out by the definitions.
 use Prim.Native.Nat.{ℕ, zero, suc}
 use mathlib.Core.Path.{_≡_, refl}
-use mathlib.Core.Bool.{true, false}
+use mathlib.Core.Bool.{true}
 use mathlib.Core.List.{List, [], _∷_}
-use mathlib.Core.Option.{Option, none, some}
-use lib.Ieee.{Float, binary64, inf, add, sub, mul, div, neg, lt, le, ofBits, toBits}
+use mathlib.Core.Option.{none, some}
+use lib.Ieee.{Float, binary64, add, sub, mul, div, neg, lt, le, ofBits, toBits}
 use Rattle.doubles.specs.Doubles.{absOf, finiteOf}
 use Rattle.doubles.specs.Root.{sqrtOf}
 use Rattle.error.specs.Refusals.{passed, refusedAt}
 use Rattle.rays.specs.declared.Ray.{Ray}
-use Rattle.rays.specs.declared.vector.Vec3.{Vec3}
 use Rattle.rays.specs.declared.matrix.Mat4.{Mat4}
 use Rattle.rays.specs.Rays.{atOf, newRayOf, finiteRayOf}
 use Rattle.rays.specs.Vectors.{vec3, dotOf, plusOf, minusOf, scaleOf, divideOf, negateOf, normOf, finiteVecOf}
@@ -19,12 +18,11 @@ use Rattle.geometry.specs.Hits.{firstOf}
 use Rattle.geometry.specs.Round.{intersectSphereOf, sphereAmongOf, sphereAtOf, solveOf}
 use Rattle.geometry.specs.Shapes.{intersectLocalOf}
 use Rattle.geometry.specs.Transforms.{unitOf, madeOf, rayAlongOf, inverseTransformRayOf, worldNormalOf}
-use Rattle.nearest.specs.Nearest.{isNearerOf, nearerOf, nearestFrom, nearestOf}
+use Rattle.nearest.specs.Nearest.{nearestFrom, nearestOf}
 use Rattle.scene.specs.declared.NonSeqObject.{NonSeqObject}
-use Rattle.scene.specs.declared.NonSeqHit.{NonSeqHit}
 use Rattle.scene.specs.Objects.{approachAtOf, approachByOf, approachAlongOf, approachFromOf, approachOf, facingOf, turnedOf, arriveWithOf, arriveOf, arriveFromOf, intersectOf}
 use Rattle.scene.specs.Solids.{tagsFitOf, checkTagsOf, checkSolidsOf}
-use Rattle.scene.specs.Closest.{offerOf, closestOf, intersectClosestOf}
+use Rattle.scene.specs.Closest.{closestOf, intersectClosestOf}
 
 abbrev #0 : Float
 #0 = ofBits binary64 0

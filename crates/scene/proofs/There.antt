@@ -1,17 +1,17 @@
 -- After the check every solid of the count is there, and refusals in small scenes. Assumes nothing.
-use Prim.Native.Nat.{ℕ, zero, suc, _+_, _*_, _-_, _≤_, _<_}
-use mathlib.Core.Path.{_≡_, refl, sym, ap, _∙_, subst}
+use Prim.Native.Nat.{ℕ, zero, suc, _+_, _*_, _≤_, _<_}
+use mathlib.Core.Path.{_≡_, refl, sym, ap, subst}
 use mathlib.Core.Bool.{Bool, true, false, cond, _&&_}
-use mathlib.Core.List.{List, [], _∷_}
-use mathlib.Core.Option.{Option, none, some}
+use mathlib.Core.List.{List}
+use mathlib.Core.Option.{some}
 use native.Mathlib.Omega.{arith}
 use native.Mathlib.Decide.{decLt}
 use lib.Dec.{T, leb, eqb, eqb→eq}
-use lib.Ieee.{Float, nan}
+use lib.Ieee.{Float}
 use lib.ListN.{length, getD}
 use borrow.Author.Tests.{le-leb}
 use Rattle.doubles.proofs.Floats.{clash}
-use Rattle.nearest.proofs.Order.{and-left, and-right, and-both}
+use Rattle.nearest.proofs.Order.{and-left}
 use Rattle.error.specs.Refusals.{Checked, passed, refusedAt}
 use Rattle.geometry.specs.Shapes.{lastShape}
 use Rattle.scene.specs.Solids.{holds, solidAt, readObjectOf, tagsFitOf, checkTagsOf, checkSolidsOf}
@@ -52,14 +52,18 @@ lengths x k n e = judged (eqb (length x) (n * 42)) (eqb (length k) (n * 4)) refl
     judged true false p q g = absurd (clash (sym (ap isPassed g)))
     judged false b p q g = absurd (clash (sym (ap isPassed g)))
 
--- so the search looks at every solid of the count, and at no other number in its place
+-- every whole number of a solid that passed is one of its kind
+pub checked-fit : (x : List Float) (k : List ℕ) (n i : ℕ) → checkSolidsOf x k n ≡ passed tt → i < n → fit-at k i ≡ true
+checked-fit x k n i e l = tags-passed k n 0 i (lengths x k n e .1) (omega arith) (omega arith)
+
+-- so the search looks at every solid of the count
 pub checked-there : (x : List Float) (k : List ℕ) (n i : ℕ) → checkSolidsOf x k n ≡ passed tt → i < n → solidAt x k i ≡ some (readObjectOf x k i)
 unfolding solidAt holds tagsFitOf
 checked-there x k n i e l =
     let u = lengths x k n e in
     let v : length x ≡ n * 42 = u .0 .0 in
     let w : length k ≡ n * 4 = u .0 .1 in
-    let f : fit-at k i ≡ true = tags-passed k n 0 i (u .1) (omega arith) (omega arith) in
+    let f : fit-at k i ≡ true = checked-fit x k n i e l in
     let p : leb (i * 42 + 42) (length x) ≡ true = le-leb (i * 42 + 42) (length x) (omega (arith, v, l)) in
     let q : leb (i * 4 + 4) (length k) ≡ true = le-leb (i * 4 + 4) (length k) (omega (arith, w, l)) in
     let s : leb (getD k (i * 4) 0) lastShape ≡ true = and-left (leb (getD k (i * 4) 0) lastShape) _ f in

@@ -1,5 +1,5 @@
 -- Where a ray in the world meets a solid, if anywhere.
-use lib.Ieee.{Float, binary64, lt, le, ofBits}
+use lib.Ieee.{binary64, lt, le, ofBits}
 use mathlib.Core.Bool.{Bool, cond}
 use mathlib.Core.Option.{Option, none, some}
 use Rattle.rays.specs.declared.vector.Vec3.{Vec3}

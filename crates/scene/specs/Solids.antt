@@ -17,6 +17,8 @@ use Rattle.material.specs.Media.{lastFinish, finishOf, lastMedium, mediumOf}
 use Rattle.geometry.specs.Shapes.{lastShape, shapeOf}
 use Rattle.scene.specs.declared.SolidNo.{SolidNo}
 use Rattle.scene.specs.declared.NonSeqObject.{NonSeqObject}
+use Rattle.scene.specs.declared.solids.Listed.{Listed}
+use Rattle.scene.specs.declared.solids.Listed.the-variants.{Object, Nothing}
 
 -- double j and whole number j of solid i
 abbrev valueOf : List Float → ℕ → ℕ → Float
@@ -47,6 +49,11 @@ holds x k i = leb (i * 42 + 42) (length x) && leb (i * 4 + 4) (length k)
 -- solid i, where the lists hold it and its shape has a number that is one
 unfoldable pub solidAt : List Float → List ℕ → ℕ → Option NonSeqObject
 solidAt x k i = cond (holds x k i && leb (getD k (i * 4) 0) lastShape) (some (readObjectOf x k i)) none
+
+-- what the code's answer says
+abbrev pub listedOf : Listed → Option NonSeqObject
+listedOf (Object o) = some o
+listedOf Nothing = none
 
 unfoldable pub finishAt : List Float → List ℕ → SolidNo → SurfaceFinish
 finishAt x k s = cond (holds x k (s .0)) (finishOf (tagOf k (s .0) 2) (valueOf x (s .0) 3)) Specular

@@ -3,9 +3,9 @@ use crate::Intersection;
 use crate::NonSeqObject;
 use crate::object::Approached;
 use crate::solids;
+use crate::solids::Listed;
 use error::Check;
 use error::NonSeqError;
-use geometry::PrimitiveGeometry;
 use rays::Ray;
 ghost use mathlib.Core.Path.{_≡_};
 ghost use Rattle.nearest.specs.Nearest.{distanceOf, nearerOf};
@@ -53,15 +53,10 @@ fn nearer(object: NonSeqObject, ray: Ray, best: Intersection) -> Intersection
 fn nearer_at(values: &[f64], tags: &[u32], i: u32, ray: Ray, best: Intersection) -> Intersection
     ensures { λ r. ⌜ hitOf r ≡ nearerOf NonSeqHit hitDistance (hitOf best) (offerOf (solidAt (now (values .entry)) (now (tags .entry)) i) ray) ⌝ }
 {
-    let b = i as usize * 4;
-    if i as usize * 42 + 42 <= values.len() {
-        if b + 4 <= tags.len() {
-            if tags[b] <= PrimitiveGeometry::LAST {
-                return nearer(solids::read_object(values, tags, i), ray, best);
-            }
-        }
+    match solids::object_at(values, tags, i) {
+        Listed::Object(object) => nearer(object, ray, best),
+        Listed::Nothing => best,
     }
-    best
 }
 
 // The nearest of the first `count` solids, passing over what is no solid of these lists: for callers

@@ -10,9 +10,11 @@ pub use closest::intersect_closest_object;
 use geometry::PrimitiveGeometry;
 use geometry::Transform3D;
 use rays::Vec3;
+pub use solids::Listed;
 pub use solids::check_solids;
 pub use solids::finish_at;
 pub use solids::medium_at;
+pub use solids::object_at;
 
 // The number of a solid: its place in the list, from 0.
 pub struct SolidNo(pub u32);

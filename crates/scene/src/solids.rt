@@ -15,7 +15,12 @@ ghost use mathlib.Core.Path.{_≡_};
 ghost use Prim.Native.Nat.{_+_, _*_, _≤_};
 ghost use lib.ListN.{length};
 ghost use Rattle.error.specs.Refusals.{checkOf};
-ghost use Rattle.scene.specs.Solids.{rowAt, matAt, readObjectOf, finishAt, mediumAt, tagsFitOf, checkTagsOf, checkSolidsOf};
+ghost use Rattle.scene.specs.Solids.{rowAt, matAt, readObjectOf, listedOf, solidAt, finishAt, mediumAt, tagsFitOf, checkTagsOf, checkSolidsOf};
+
+pub enum Listed {
+    Object(NonSeqObject),
+    Nothing,
+}
 
 fn row_at(values: &[f64], i: usize) -> Row
     requires { ⌜ i + 4 ≤ length (now values) ⌝ }
@@ -42,7 +47,7 @@ fn mat_at(values: &[f64], i: usize) -> Mat4
 }
 
 // Solid i of lists that hold it.
-pub fn read_object(values: &[f64], tags: &[u32], i: u32) -> NonSeqObject
+fn read_object(values: &[f64], tags: &[u32], i: u32) -> NonSeqObject
     requires { ⌜ (i * 42 + 42 ≤ length (now values)) × (i * 4 + 4 ≤ length (now tags)) ⌝ }
     ensures { λ r. ⌜ r ≡ readObjectOf (now (values .entry)) (now (tags .entry)) i ⌝ }
 {
@@ -57,6 +62,21 @@ pub fn read_object(values: &[f64], tags: &[u32], i: u32) -> NonSeqObject
         transform: Transform3D { matrix, inverse },
         is_active: tags[b + 1] == 1,
     }
+}
+
+// Solid i, if the lists hold it and its shape has a number that is one.
+pub fn object_at(values: &[f64], tags: &[u32], i: u32) -> Listed
+    ensures { λ r. ⌜ listedOf r ≡ solidAt (now (values .entry)) (now (tags .entry)) i ⌝ }
+{
+    let b = i as usize * 4;
+    if i as usize * 42 + 42 <= values.len() {
+        if b + 4 <= tags.len() {
+            if tags[b] <= PrimitiveGeometry::LAST {
+                return Listed::Object(read_object(values, tags, i));
+            }
+        }
+    }
+    Listed::Nothing
 }
 
 // The finish of a solid; clear for one that the lists do not hold.

@@ -1,10 +1,10 @@
 -- Whether a stored line agrees with the definitions that the functions equal. So the number of lines that agree says how the definitions do on the stored answers.
 use Prim.Native.Nat.{ℕ, zero, suc, _+_}
-use mathlib.Core.Bool.{Bool, true, false, cond, _&&_}
-use mathlib.Core.List.{List, []}
+use mathlib.Core.Bool.{Bool, false, cond, _&&_}
+use mathlib.Core.List.{List}
 use lib.Dec.{eqb, ltb}
 use lib.ListN.{length, getD, drop}
-use lib.Ieee.{Float, binary64, ofBits, toBits, toUnsigned}
+use lib.Ieee.{Float, binary64, ofBits, toUnsigned}
 use Rattle.doubles.specs.Doubles.{absOf, maxZeroOf, clampOf, finiteOf}
 use Rattle.doubles.specs.Root.{sqrtOf}
 use Rattle.error.specs.Refusals.{Answer, value, refusal}

@@ -1,6 +1,6 @@
 -- `scene::closest::closest_object` meets its contract. Assumes nothing.
 use Prim.Native.Nat.{_≤_, _-_}
-use mathlib.Core.Path.{_≡_, refl}
+use mathlib.Core.Path.{_≡_}
 use borrow.Author.Needs.{needs}
 use Rattle.nearest.specs.Nearest.{nearestFrom}
 use Rattle.nearest.proofs.Turns.{nearest-start, nearest-turn, nearest-end}
@@ -8,7 +8,7 @@ use Rattle.scene.specs.declared.NonSeqHit.{NonSeqHit}
 use Rattle.scene.specs.Objects.{hitOf}
 use Rattle.scene.specs.Closest.{hitDistance, offersOf}
 use Rattle.scene.specs.Closest.{closestOf}
-use Rattle.scene.specs.Solids.{holds, solidAt}
+use Rattle.scene.specs.Solids.{solidAt}
 use Rattle.scene.proofs.closest.closest_object.Statement.{statement}
 use Rattle.scene.proofs.closest.closest_object.Tie as tie
 

@@ -1,7 +1,7 @@
 -- `scene::solids::check_tags` meets its contract. Assumes nothing.
 use Prim.Native.Nat.{_≤_, _-_}
 use native.Mathlib.Nat.{sub-zero}
-use mathlib.Core.Path.{_≡_, refl}
+use mathlib.Core.Path.{_≡_}
 use borrow.Author.Needs.{needs}
 use Rattle.scene.proofs.Checks.{tags-turn, tags-refused, tags-end}
 use Rattle.scene.specs.Solids.{checkTagsOf}
