@@ -6,8 +6,8 @@ use borrow.Author.Tests.{le-ltb}
 use native.Mathlib.Omega.{arith}
 use mathlib.Core.Bool.{Bool, true, false, not, cond, _&&_}
 use lib.IntN.{ℤ, pos, negsuc}
-use lib.Dec.{T, leb, ltb, eqb, nltb→le, lt→ltb, leb→le}
-use lib.Ieee.{Float, nan, inf, fin, binary64, up, down, odd, ofFields, ofBits, toBits, fits, isNan, nanBits, lt, eq, level, add, sub, neg, sum, round, toUnsigned}
+use lib.Dec.{T, leb, ltb, eqb, nltb→le, lt→ltb, leb→le, le→leb}
+use lib.Ieee.{Float, nan, inf, fin, binary64, up, down, odd, ofFields, ofBits, toBits, fits, isNan, nanBits, lt, eq, level, add, sub, neg, sum, round, toUnsigned, inFloat}
 use lib.Ieee.Bits.{is-true, ofBits-toBits, nanBits-is, nanBits-above}
 use lib.Pow.{pow-pos}
 use lib.Ieee.Fits.{down-pos}
@@ -162,3 +162,9 @@ finite-is (fin s m e) =
     let a = m * up e * down e in
     let c = down e * down e in
     ap (λ (v : Float). eq v (fin false 0 (pos 0))) (same-sum s a c) ∙ zero-rounded s a c (mul-pos (down-pos e) (down-pos e))
+
+-- ---- a whole number as a float
+
+pub in-float : (n : ℕ) → n ≤ 2 ^ 53 → T (inFloat binary64 (pos n))
+unfolding inFloat
+in-float n h = le→leb n (2 ^ 53) h

@@ -1,14 +1,14 @@
 -- Rays, and the three distances that belong to them.
 use mathlib.Core.Bool.{Bool, cond, _&&_}
-use lib.Ieee.{Float, binary64, ofBits}
-use Rattle.doubles.specs.Doubles.{finiteOf}
+use lib.Ieee.{Float, binary64, ofBits, sub, le}
+use Rattle.doubles.specs.Doubles.{absOf, finiteOf}
 use Rattle.error.specs.Refusals.{numberOf, Answer, value, refusal}
 use Rattle.error.specs.declared.NonSeqError.the-variants.{RayNotFinite}
 use Rattle.rays.specs.declared.vector.Vec3.{Vec3}
 use Rattle.rays.specs.declared.Ray.{Ray}
 use Rattle.rays.specs.declared.NewRay.{NewRay}
 use Rattle.rays.specs.declared.NewRay.the-variants.{Made, Refused}
-use Rattle.rays.specs.Vectors.{plusOf, scaleOf, finiteVecOf}
+use Rattle.rays.specs.Vectors.{dotOf, plusOf, scaleOf, finiteVecOf}
 
 -- 1e-9, 1e-8 and 1e-6 as doubles
 abbrev pub minLocalDistance : Float
@@ -27,6 +27,12 @@ atOf r t = plusOf (r .origin) (scaleOf (r .direction) t)
 -- all eight parts
 unfoldable pub finiteRayOf : Ray → Bool
 finiteRayOf r = finiteVecOf (r .origin) && finiteVecOf (r .direction) && finiteOf (r .«wavelength_nm») && finiteOf (r .energy)
+
+-- a ray that may be given: what 10 does not refuse
+unfoldable pub validRayOf : Ray → Bool
+validRayOf r =
+    let off = absOf (sub binary64 (dotOf (r .direction) (r .direction)) (ofBits binary64 0x3ff0000000000000)) in
+    finiteRayOf r && le (ofBits binary64 0) (r .energy) && le off (ofBits binary64 0x3e112e0be826d695)
 
 -- building a ray stores its parts, and refuses a part that isn't finite
 unfoldable pub newRayOf : Vec3 → Vec3 → Float → Float → Answer Ray

@@ -8,7 +8,7 @@ pub use matrix::Mat4;
 pub use matrix::Row;
 pub use vector::Vec3;
 ghost use mathlib.Core.Path.{_≡_};
-ghost use Rattle.rays.specs.Rays.{atOf, finiteRayOf, newRayOf, answerOf};
+ghost use Rattle.rays.specs.Rays.{atOf, finiteRayOf, validRayOf, newRayOf, answerOf};
 
 // A ray: where it starts, where it goes, its wavelength in nanometres and its power in watts.
 pub struct Ray {
@@ -60,6 +60,20 @@ impl Ray {
                 if doubles::is_finite(self.wavelength_nm) {
                     return doubles::is_finite(self.energy);
                 }
+            }
+        }
+        false
+    }
+
+    // Whether this is a ray that a caller may give: all parts finite, a power that is not below 0, and a
+    // direction dotted with itself within 1e-9 of 1. Any other is refused by 10.
+    pub fn is_valid(self) -> bool
+        ensures { λ r. ⌜ r ≡ validRayOf self ⌝ }
+    {
+        let direction = self.direction;
+        if self.is_finite() {
+            if self.energy >= 0.0 {
+                return doubles::abs(direction.dot(direction) - 1.0) <= 1e-9;
             }
         }
         false

@@ -1,9 +1,6 @@
 -- The low 64 bits of a product by halves of 32 bits, and that a drawn number has 64 bits. Assumes nothing.
 use mathlib.Core.Path.{_≡_, refl, sym, ap, subst, _∙_}
-use Prim.Native.Nat.{ℕ, _+_, _*_, _/_, _%_, _^_, _≤_, _<_}
-use lib.Dec.{T, le→leb}
-use lib.IntN.{pos}
-use lib.Ieee.{binary64, inFloat}
+use Prim.Native.Nat.{ℕ, _+_, _*_, _/_, _%_, _^_, _<_}
 use native.Mathlib.Nat.{mul-add, add-mul, mul-assoc, mul-comm, mul-left-comm, add-assoc, add-comm, add-left-comm, div-add-mod'}
 use native.Mathlib.Omega.{arith}
 use Rattle.source.specs.declared.Rng64.{Rng64}
@@ -28,8 +25,3 @@ drawn-fits g d e = subst (λ (n : ℕ). n < 2 ^ 64) (sym (ap (λ (x : DrawnU64).
   where
     below : (n : ℕ) → n % 2 ^ 64 < 2 ^ 64
     below n = omega arith
-
--- a whole number up to 2 ^ 53 is a double
-pub in-float : (n : ℕ) → n ≤ 2 ^ 53 → T (inFloat binary64 (pos n))
-unfolding inFloat
-in-float n h = le→leb n (2 ^ 53) h

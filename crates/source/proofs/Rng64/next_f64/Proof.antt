@@ -2,7 +2,8 @@
 use Rattle.source.specs.Random.{nextF64Of, unitOf}
 use native.Mathlib.Omega.{arith}
 use borrow.Author.Needs.{needs}
-use Rattle.source.proofs.Products.{drawn-fits, in-float}
+use Rattle.source.proofs.Products.{drawn-fits}
+use Rattle.doubles.proofs.Small.{in-float}
 use Rattle.source.proofs.Rng64.next_f64.Statement.{statement}
 use Rattle.source.proofs.Rng64.next_f64.Tie as tie
 

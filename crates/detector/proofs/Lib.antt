@@ -1,0 +1,4 @@
+-- What holds of the definitions.
+pub mod Along
+pub mod Grid
+pub mod Marks

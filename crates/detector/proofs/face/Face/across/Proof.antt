@@ -1,0 +1,49 @@
+-- `detector::face::Face::across` meets its contract. Assumes nothing.
+use Rattle.detector.specs.Faces.{acrossOf}
+use borrow.Author.Needs.{needs}
+use Rattle.detector.proofs.face.Face.across.Statement.{statement}
+use Rattle.detector.proofs.face.Face.across.Tie as tie
+
+at-requires : tie.Need-at-requires
+at-requires c κs = search needs
+
+minus-requires : tie.Need-minus-requires
+minus-requires c κs = search needs
+
+dot-requires : tie.Need-dot-requires
+dot-requires c κs = search needs
+
+dot-requires-2 : tie.Need-dot-requires-2
+dot-requires-2 c κs = search needs
+
+abs-requires : tie.Need-abs-requires
+abs-requires c κs = search needs
+
+abs-requires-2 : tie.Need-abs-requires-2
+abs-requires-2 c κs = search needs
+
+returns : tie.Need-returns
+unfolding acrossOf
+returns c = simp (← c .before .before .before .before .before .before .before .before .before .at .ensures, ← c .before .before .before .before .before .before .before .before .minus .ensures, ← c .before .before .before .before .before .before .before .dot .ensures, ← c .before .before .before .before .before .before .dot2 .ensures, ← c .before .before .before .before .before .abs .ensures, c .before .before .before .if1 .taken, ← c .before .before .abs2 .ensures, c .if2 .taken)
+
+returns-2 : tie.Need-returns-2
+unfolding acrossOf
+returns-2 c = simp (← c .before .before .before .before .before .before .before .before .before .at .ensures, ← c .before .before .before .before .before .before .before .before .minus .ensures, ← c .before .before .before .before .before .before .before .dot .ensures, ← c .before .before .before .before .before .before .dot2 .ensures, ← c .before .before .before .before .before .abs .ensures, c .before .before .before .if1 .taken, ← c .before .before .abs2 .ensures, c .if2 .left)
+
+returns-3 : tie.Need-returns-3
+unfolding acrossOf
+returns-3 c = simp (← c .before .before .before .before .before .before .at .ensures, ← c .before .before .before .before .before .minus .ensures, ← c .before .before .before .before .dot .ensures, ← c .before .before .before .dot2 .ensures, ← c .before .before .abs .ensures, c .if1 .left)
+
+pub across-spec : {M : Type 1} → statement M
+across-spec =
+    tie.close
+    (tie.spec
+    at-requires
+    minus-requires
+    dot-requires
+    dot-requires-2
+    abs-requires
+    abs-requires-2
+    returns
+    returns-2
+    returns-3)

@@ -1,0 +1,45 @@
+-- `detector::face::Face::intersect_ray` meets its contract. Assumes nothing.
+use Rattle.detector.specs.Faces.{crossingOf}
+use borrow.Author.Needs.{needs}
+use Rattle.detector.proofs.face.Face.intersect_ray.Statement.{statement}
+use Rattle.detector.proofs.face.Face.intersect_ray.Tie as tie
+
+dot-requires : tie.Need-dot-requires
+dot-requires c κs = search needs
+
+abs-requires : tie.Need-abs-requires
+abs-requires c κs = search needs
+
+returns : tie.Need-returns
+unfolding crossingOf
+returns c = simp (← c .before .before .dot .ensures, ← c .before .abs .ensures, c .if1 .taken)
+
+minus-requires : tie.Need-minus-requires
+minus-requires c κs = search needs
+
+dot-requires-2 : tie.Need-dot-requires-2
+dot-requires-2 c κs = search needs
+
+returns-2 : tie.Need-returns-2
+unfolding crossingOf
+returns-2 c = simp (← c .before .before .before .before .before .dot .ensures, ← c .before .before .before .before .abs .ensures, c .before .before .before .if1 .left, ← c .before .before .minus .ensures, ← c .before .dot2 .ensures, c .if2 .taken)
+
+across-requires : tie.Need-across-requires
+across-requires c κs = search needs
+
+returns-3 : tie.Need-returns-3
+unfolding crossingOf
+returns-3 c = simp (← c .before .before .before .before .before .before .dot .ensures, ← c .before .before .before .before .before .abs .ensures, c .before .before .before .before .if1 .left, ← c .before .before .before .minus .ensures, ← c .before .before .dot2 .ensures, c .before .if2 .left, ← c .across .ensures)
+
+pub intersect-ray-spec : {M : Type 1} → statement M
+intersect-ray-spec =
+    tie.close
+    (tie.spec
+    dot-requires
+    abs-requires
+    returns
+    minus-requires
+    dot-requires-2
+    returns-2
+    across-requires
+    returns-3)
