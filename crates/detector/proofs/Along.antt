@@ -124,7 +124,7 @@ round-below a c = ap (toUnsigned 64) (round-is binary64 true a c) ∙ units-belo
 -- ---- the step
 
 times : (u r : Float) (n a b : ℕ) → AtMost u most (2 ^ 53) → HasValue r false n 1 → 0 < b → most * n * b ≤ a * 2 ^ 53 → HasValue (round binary64 false a b) false a b
-  → toUnsigned 64 (mul binary64 u r) ≤ a / b
+    → toUnsigned 64 (mul binary64 u r) ≤ a / b
 unfolding mul toUnsigned
 times u nan n a b k v p h w = absurd v
 times u (inf s) n a b k v p h w = absurd v

@@ -59,7 +59,7 @@ pub record Gridded (d : Detector2D) : Type 0 where
   pub most-x : d .«res_x» ≤ maxRes
   pub most-y : d .«res_y» ≤ maxRes
 
-abbrev Passes : Checked Unit → Type 0
+abbrev pub Passes : Checked Unit → Type 0
 Passes (passed u) = Unit {0}
 Passes (refusedAt n p) = ⊥
 
@@ -68,7 +68,7 @@ unfolding checkDetectorOf checkGridOf
 passed-grid d place e = size (isSizeOf (d .«width_mm») && isSizeOf (d .«height_mm»)) e
   where
     grid : (zx zy lx ly p : Bool) → eqb (d .«res_x») 0 ≡ zx → eqb (d .«res_y») 0 ≡ zy → leb (d .«res_x») maxRes ≡ lx → leb (d .«res_y») maxRes ≡ ly
-      → Passes (cond (zx || zy) (refusedAt 6 place) (cond (lx && ly) (cond p (refusedAt 8 place) (passed tt)) (refusedAt 7 place))) → Gridded d
+        → Passes (cond (zx || zy) (refusedAt 6 place) (cond (lx && ly) (cond p (refusedAt 8 place) (passed tt)) (refusedAt 7 place))) → Gridded d
     grid true zy lx ly p a b c f t = absurd t
     grid false true lx ly p a b c f t = absurd t
     grid false false false ly p a b c f t = absurd t

@@ -79,7 +79,15 @@ impl Detector2D {
     }
 
     // A detector that has caught nothing yet.
-    pub fn new(center: Vec3, normal: Vec3, up: Vec3, width_mm: f64, height_mm: f64, res_x: u32, res_y: u32) -> NewDetector
+    pub fn new(
+        center: Vec3,
+        normal: Vec3,
+        up: Vec3,
+        width_mm: f64,
+        height_mm: f64,
+        res_x: u32,
+        res_y: u32,
+    ) -> NewDetector
         ensures { λ r. ⌜ newAnswerOf r ≡ newDetectorOf center normal up «width_mm» «height_mm» «res_x» «res_y» ⌝ }
     {
         let d = Detector2D {

@@ -52,7 +52,11 @@ impl Face {
         let local_y = offset.dot(self.up);
         if doubles::abs(local_x) <= self.half_width {
             if doubles::abs(local_y) <= self.half_height {
-                return Crossed::At(Crossing { t, local_x, local_y });
+                return Crossed::At(Crossing {
+                    t,
+                    local_x,
+                    local_y,
+                });
             }
         }
         Crossed::Miss

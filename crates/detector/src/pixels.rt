@@ -3,6 +3,7 @@ use crate::Detector2D;
 use error::Check;
 use error::NonSeqError;
 ghost use mathlib.Core.Path.{_≡_};
+ghost use Prim.Native.Nat.{_*_, _≤_};
 ghost use Rattle.detector.specs.Pixels.{indexAlongOf, pixelAtOf, pixelsOf, areaOf, readingOf, pixelAreaOf, irradianceOf};
 
 // A double that was asked for, or the refusal and its place.
@@ -35,7 +36,7 @@ impl Detector2D {
 
     // The place of a point's pixel, row by row.
     pub fn pixel_at(self, local_x: f64, local_y: f64) -> usize
-        ensures { λ r. ⌜ r ≡ pixelAtOf self «local_x» «local_y» ⌝ }
+        ensures { λ r. ⌜ (r ≡ pixelAtOf self «local_x» «local_y») × (r ≤ 4294967295 * 4294967296) ⌝ }
     {
         let px = index_along(local_x, self.width_mm, self.res_x);
         let py = index_along(local_y, self.height_mm, self.res_y);

@@ -1,7 +1,7 @@
 -- `detector::Detector2D::pixel_at` meets its contract. Assumes nothing.
 use Rattle.detector.specs.Pixels.{pixelAtOf}
 use native.Mathlib.Omega.{arith}
-use Rattle.detector.proofs.Grid.{row-fits, place-fits}
+use Rattle.detector.proofs.Grid.{row-fits, place-fits, place-most}
 use borrow.Author.Needs.{needs}
 use Rattle.detector.proofs.Detector2D.pixel_at.Statement.{statement}
 use Rattle.detector.proofs.Detector2D.pixel_at.Tie as tie
@@ -27,7 +27,11 @@ add-result c =
 
 returns : tie.Need-returns
 unfolding pixelAtOf
-returns c = simp (← c .before .before .index-along .ensures, ← c .before .index-along2 .ensures)
+returns c =
+    let a = c .before .before .before in (
+      simp (← c .before .before .index-along .ensures, ← c .before .index-along2 .ensures),
+      place-most _ _ _ (a .args .self .«res_x») _ (c .before .index-along2 .ensures) (omega (arith, a .good)) (omega (arith, a .good)) _ _ _ (c .before .before .index-along .ensures),
+    )
 
 pub pixel-at-spec : {M : Type 1} → statement M
 pixel-at-spec =

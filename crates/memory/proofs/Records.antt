@@ -1,0 +1,85 @@
+-- What the code of a recording knows at each of its returns, as one equation with the definition. Assumes nothing.
+use Prim.Native.Nat.{ℕ, _+_, _*_, _/_, _≤_, _<_}
+use mathlib.Core.Path.{_≡_, refl, sym, ap, _∙_}
+use mathlib.Core.Bool.{Bool, true, false, _&&_}
+use mathlib.Core.List.{List}
+use lib.Dec.{leb, ltb, eqb}
+use lib.Ieee.{Float, nan, binary64, add}
+use lib.ListN.{length, getD, set}
+use borrow.Author.Tests.{le-leb, lt-leb, le-ltb, lt-ltb, eq-eqb, ne-eqb, ltb-true, eqb-true}
+use Rattle.doubles.proofs.Floats.{clash}
+use Rattle.error.specs.declared.NonSeqError.{NonSeqError}
+use Rattle.error.specs.Refusals.{numberOf}
+use Rattle.detector.specs.declared.Detector2D.{Detector2D}
+use Rattle.memory.specs.declared.hits.DetectorHit.{DetectorHit}
+use Rattle.memory.specs.declared.detectors.Placed.{Placed}
+use Rattle.memory.specs.declared.detectors.Asked.{Asked}
+use Rattle.memory.specs.declared.detectors.Asked.the-variants.{There, Refused}
+use Rattle.memory.specs.Detectors.{askedOf, askedAnswerOf}
+use Rattle.memory.specs.Memory.{Memory, Outcome, done, refused, memoryOf, capacityOf, detectorOf, raised, four, writtenAt, maxCount, judged, recordAt, cellOf, inMapsOf, holdsOf, recordHit, areLengthsOf, isMemoryOf, recordClassifiedOf}
+
+module _ (s : Memory) (p : ℕ) (h : DetectorHit) where
+  pub put-full : length (s .values) / 4 ≤ s .used → refused 12 0 s ≡ recordAt s p h
+  unfolding recordAt judged capacityOf
+  put-full k = rw (le-leb (length (s .values) / 4) (s .used) k)
+
+  module _ (room : s .used < length (s .values) / 4) where
+    pub put-pixel : getD (s .hits) p 0 ≡ maxCount → refused 13 0 s ≡ recordAt s p h
+    unfolding recordAt judged capacityOf
+    put-pixel k = rw (lt-leb (length (s .values) / 4) (s .used) room, eq-eqb (getD (s .hits) p 0) maxCount k)
+
+    module _ (more : getD (s .hits) p 0 ≡ maxCount → ⊥) where
+      pub put-count : detectorOf s h .«total_rays_hit» ≡ maxCount → refused 13 0 s ≡ recordAt s p h
+      unfolding recordAt judged capacityOf
+      put-count k = rw (lt-leb (length (s .values) / 4) (s .used) room, ne-eqb (getD (s .hits) p 0) maxCount more, eq-eqb (detectorOf s h .«total_rays_hit») maxCount k)
+
+      pub put-done : (detectorOf s h .«total_rays_hit» ≡ maxCount → ⊥) → (l : List Detector2D) (v : List Float) (t : List ℕ)
+          → v ≡ four Float (s .values) (4 * s .used) (h .«local_x») (h .«local_y») (h .«flux_watts») (h .«wavelength_nm»)
+          → t ≡ four ℕ (s .tags) (4 * s .used) (h .detector .0) (h .«bounce_count») (h .«reflection_count») (h .«tir_count»)
+          → l ≡ set (s .detectors .list) (h .detector .0) (raised (detectorOf s h) (h .«flux_watts»))
+          → done (memoryOf (record { list = l; count = s .detectors .count }) (set (s .flux) p (add binary64 (getD (s .flux) p nan) (h .«flux_watts»))) (set (s .hits) p (getD (s .hits) p 0 + 1)) v t (s .used + 1))
+          ≡ recordAt s p h
+      unfolding recordAt judged capacityOf writtenAt
+      put-done k l v t ev et el =
+          rw (ev, et, el, lt-leb (length (s .values) / 4) (s .used) room, ne-eqb (getD (s .hits) p 0) maxCount more, ne-eqb (detectorOf s h .«total_rays_hit») maxCount k)
+
+pub told-lengths : (p nf nh nv nt : ℕ) (b : Bool) → b ≡ inMapsOf p nf nh nv nt → b ≡ true → (p < nf) × (p < nh) × (nv ≡ nt)
+unfolding inMapsOf
+told-lengths p nf nh nv nt b told k = go (ltb p nf) (ltb p nh) (eqb nv nt) refl refl refl (sym told ∙ k)
+  where
+    go : (x y z : Bool) → ltb p nf ≡ x → ltb p nh ≡ y → eqb nv nt ≡ z → (x && (y && z)) ≡ true → (p < nf) × (p < nh) × (nv ≡ nt)
+    go true true true u v w e = (ltb-true _ _ u, ltb-true _ _ v, eqb-true _ _ w)
+    go false y z u v w e = absurd (clash (sym e))
+    go true false z u v w e = absurd (clash (sym e))
+    go true true false u v w e = absurd (clash (sym e))
+
+-- what `record` and `record_hit_classified` know at theirs
+module _ (s : Memory) (h : DetectorHit) where
+  pub record-nowhere : 8 ≤ h .detector .0 → refused 9 0 s ≡ recordHit s h
+  unfolding recordHit holdsOf
+  record-nowhere k = rw (le-ltb (h .detector .0) 8 k)
+
+  module _ (below : h .detector .0 < 8) (p : ℕ) (placed : p ≡ cellOf (s .detectors .list) h) (b : Bool)
+      (told : b ≡ inMapsOf p (length (s .flux)) (length (s .hits)) (length (s .values)) (length (s .tags))) where
+    pub record-outside : b ≡ false → refused 9 0 s ≡ recordHit s h
+    unfolding recordHit holdsOf
+    record-outside k = rw (lt-ltb (h .detector .0) 8 below, ← placed, ← told, k)
+
+    pub record-put : b ≡ true → (o : Outcome Memory) → o ≡ recordAt s p h → o ≡ recordHit s h
+    unfolding recordHit holdsOf
+    record-put k o e = rw (lt-ltb (h .detector .0) 8 below, ← placed, ← told, k) e
+
+  module _ (a : Asked) (said : askedAnswerOf a ≡ askedOf (s .detectors) (h .detector)) where
+    pub asked-refused : (x : NonSeqError) (place : ℕ) → a ≡ Refused x place → refused (numberOf x) place s ≡ recordClassifiedOf s h
+    unfolding recordClassifiedOf
+    asked-refused x place k = rw (← said, k)
+
+    module _ (d : Placed) (there : a ≡ There d) (b : Bool)
+        (told : b ≡ areLengthsOf (s .detectors) (length (s .flux)) (length (s .hits)) (length (s .values)) (length (s .tags)) (s .used)) where
+      pub lengths-refused : b ≡ false → refused 9 0 s ≡ recordClassifiedOf s h
+      unfolding recordClassifiedOf isMemoryOf
+      lengths-refused k = rw (← said, there, ← told, k)
+
+      pub recorded : b ≡ true → (o : Outcome Memory) → o ≡ recordHit s h → o ≡ recordClassifiedOf s h
+      unfolding recordClassifiedOf isMemoryOf
+      recorded k o e = rw (← said, there, ← told, k) e

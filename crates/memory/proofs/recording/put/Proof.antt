@@ -1,0 +1,124 @@
+-- `memory::recording::put` meets its contract. Assumes nothing.
+use native.Mathlib.Omega.{arith}
+use Rattle.memory.proofs.Records.{put-full, put-pixel, put-count, put-done}
+use borrow.Author.Needs.{needs}
+use Rattle.memory.proofs.recording.put.Statement.{statement}
+use Rattle.memory.proofs.recording.put.Tie as tie
+
+cast-d : tie.Need-cast-d
+cast-d c = search needs
+
+mul-e : tie.Need-mul-e
+mul-e c = search needs
+
+array-copy-out-e : tie.Need-array-copy-out-e
+array-copy-out-e c = search needs
+
+returns : tie.Need-returns
+returns c = put-full _ _ _ (c .if1 .taken)
+
+mul-if2 : tie.Need-mul-if2
+mul-if2 c = search needs
+
+slice-read-if2 : tie.Need-slice-read-if2
+slice-read-if2 c = search needs
+
+returns-2 : tie.Need-returns-2
+returns-2 c = put-pixel _ _ _ (c .before .before .if1 .left) (c .if2 .taken)
+
+returns-3 : tie.Need-returns-3
+returns-3 c = put-count _ _ _ (c .before .before .before .before .if1 .left) (c .before .before .if2 .left) (c .if3 .taken)
+
+mul-flux : tie.Need-mul-flux
+mul-flux c = search needs
+
+slice-read-flux : tie.Need-slice-read-flux
+slice-read-flux c = search needs
+
+mul-flux-2 : tie.Need-mul-flux-2
+mul-flux-2 c = search needs
+
+slice-write-flux : tie.Need-slice-write-flux
+slice-write-flux c = search needs
+
+mul-hits : tie.Need-mul-hits
+mul-hits c = search needs
+
+slice-read-hits : tie.Need-slice-read-hits
+slice-read-hits c = search needs
+
+add-hits : tie.Need-add-hits
+add-hits c = omega (arith, c .before .before .before .before .before .before .slice-known5 .given (c .before .before .before .before .before .before .before .before .before .before .before .before .before .before .before .args .p), c .before .before .before .before .before .if2 .left)
+
+mul-hits-2 : tie.Need-mul-hits-2
+mul-hits-2 c = search needs
+
+slice-write-hits : tie.Need-slice-write-hits
+slice-write-hits c = search needs
+
+mul-put-values : tie.Need-mul-put-values
+mul-put-values c = search needs
+
+put-values-requires : tie.Need-put-values-requires
+put-values-requires c κs = search needs
+
+mul-put-tags : tie.Need-mul-put-tags
+mul-put-tags c = omega (arith, c .before .before .before .before .before .before .before .before .before .before .before .before .if1 .left, c .before .before .before .before .before .before .before .before .before .before .before .before .before .before .before .before .before .before .before .before .good)
+
+put-tags-requires : tie.Need-put-tags-requires
+put-tags-requires c κs = search needs
+
+raise-requires : tie.Need-raise-requires
+raise-requires c κs = search needs
+
+add-t17 : tie.Need-add-t17
+add-t17 c = omega (arith, c .before .before .before .before .before .before .before .before .before .before .before .before .before .before .before .before .if1 .left, c .before .before .before .before .before .before .before .before .before .before .before .before .before .before .before .before .before .before .before .before .before .before .before .before .good)
+
+same-length : tie.Need-same-length
+same-length c = search needs
+
+same-length-2 : tie.Need-same-length-2
+same-length-2 c = search needs
+
+same-length-3 : tie.Need-same-length-3
+same-length-3 c = search needs
+
+same-length-4 : tie.Need-same-length-4
+same-length-4 c = search needs
+
+returns-4 : tie.Need-returns-4
+returns-4 c =
+    put-done _ _ _ (c .before .before .before .before .before .before .before .before .before .before .before .before .before .before .before .before .if1 .left) (c .before .before .before .before .before .before .before .before .before .before .before .before .before .before .if2 .left) (c .before .before .before .before .before .before .before .before .before .before .before .before .if3 .left) _ _ _ (c .before .before .before .before .before .before .before .put-values .ensures) (c .before .before .before .put-tags .ensures) (c .raise .ensures)
+
+pub put-spec : {M : Type 1} → statement M
+put-spec =
+    tie.close
+    (tie.spec
+    cast-d
+    mul-e
+    array-copy-out-e
+    returns
+    mul-if2
+    slice-read-if2
+    returns-2
+    returns-3
+    mul-flux
+    slice-read-flux
+    mul-flux-2
+    slice-write-flux
+    mul-hits
+    slice-read-hits
+    add-hits
+    mul-hits-2
+    slice-write-hits
+    mul-put-values
+    put-values-requires
+    mul-put-tags
+    put-tags-requires
+    raise-requires
+    add-t17
+    same-length
+    same-length-2
+    same-length-3
+    same-length-4
+    returns-4)

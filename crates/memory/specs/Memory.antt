@@ -1,0 +1,175 @@
+-- The memory that maps are made of, as one value, and what recording a hit makes of it.
+use Prim.Native.Nat.{ℕ, zero, suc, _+_, _*_, _/_, _%_}
+use mathlib.Core.Bool.{Bool, cond, _&&_, _||_}
+use mathlib.Core.List.{List, [], _∷_}
+use lib.Dec.{leb, ltb, eqb}
+use lib.Ieee.{Float, nan, binary64, add}
+use lib.ListN.{length, getD, set}
+use Rattle.error.specs.declared.Check.{Check}
+use Rattle.error.specs.declared.Check.the-variants.{Passed, Refused}
+use Rattle.error.specs.Refusals.{numberOf, Checked, passed, refusedAt}
+use Rattle.detector.specs.declared.Detector2D.{Detector2D}
+use Rattle.detector.specs.Pixels.{pixelAtOf}
+use Rattle.memory.specs.declared.detectors.Detectors.{Detectors}
+use Rattle.memory.specs.declared.hits.DetectorHit.{DetectorHit}
+use Rattle.memory.specs.declared.recording.Recorded.{Recorded}
+use Rattle.memory.specs.Detectors.{maxDetectors, detectorAt, firstPixelOf, allPixelsOf, askedOf}
+
+-- detectors, flux and hits of all pixels, the doubles and the whole numbers of the hit list, how many hits are used
+pub record Memory : Type 0 where
+  pub detectors : Detectors
+  pub flux : List Float
+  pub hits : List ℕ
+  pub values : List Float
+  pub tags : List ℕ
+  pub used : ℕ
+
+abbrev pub memoryOf : Detectors → List Float → List ℕ → List Float → List ℕ → ℕ → Memory
+memoryOf ds f h v t n = record { detectors = ds; flux = f; hits = h; values = v; tags = t; used = n }
+
+-- what a call leaves: done, or the number and the place of the refusal
+pub data Outcome (M : Type 0) : Type 0 where
+  done : M → Outcome M
+  refused : ℕ → ℕ → M → Outcome M
+
+-- ---- the hit list: x, y, flux, wavelength, and detector, bounce, reflections, total reflections
+
+abbrev pub readHit : List Float → List ℕ → ℕ → DetectorHit
+readHit v t i =
+    record {
+      «local_x» = getD v (4 * i) nan;
+      «local_y» = getD v (4 * i + 1) nan;
+      «flux_watts» = getD v (4 * i + 2) nan;
+      «wavelength_nm» = getD v (4 * i + 3) nan;
+      detector = record { 0 = getD t (4 * i) 0 };
+      «bounce_count» = getD t (4 * i + 1) 0;
+      «reflection_count» = getD t (4 * i + 2) 0;
+      «tir_count» = getD t (4 * i + 3) 0;
+    }
+
+-- what stands for a hit that the slices do not hold
+abbrev pub noHit : DetectorHit
+noHit =
+    record {
+      «local_x» = nan;
+      «local_y» = nan;
+      «flux_watts» = nan;
+      «wavelength_nm» = nan;
+      detector = record { 0 = 0 };
+      «bounce_count» = 0;
+      «reflection_count» = 0;
+      «tir_count» = 0;
+    }
+
+-- hit i of the list
+unfoldable pub hitAt : List Float → List ℕ → ℕ → DetectorHit
+hitAt v t i = cond (ltb i (length v / 4) && ltb i (length t / 4)) (readHit v t i) noHit
+
+-- the n hits from place i on
+unfoldable pub hitsFrom : List Float → List ℕ → ℕ → ℕ → List DetectorHit
+hitsFrom v t zero i = []
+hitsFrom v t (suc n) i = hitAt v t i ∷ hitsFrom v t n (i + 1)
+
+abbrev pub listed : Memory → List DetectorHit
+listed s = hitsFrom (s .values) (s .tags) (s .used) 0
+
+unfoldable pub capacityOf : Memory → ℕ
+capacityOf s = length (s .values) / 4
+
+-- four values stored from a place on
+unfoldable pub four : (A : Type 0) → List A → ℕ → A → A → A → A → List A
+four A l i a b c d = set (set (set (set l i a) (i + 1) b) (i + 2) c) (i + 3) d
+
+-- ---- recording
+
+abbrev pub detectorOf : Memory → DetectorHit → Detector2D
+detectorOf s h = detectorAt (s .detectors .list) (h .detector .0)
+
+-- the place of a hit's pixel among the pixels of all detectors
+unfoldable pub cellOf : List Detector2D → DetectorHit → ℕ
+cellOf l h = firstPixelOf l (h .detector .0) + pixelAtOf (detectorAt l (h .detector .0)) (h .«local_x») (h .«local_y»)
+
+-- a detector that has caught a flux more
+abbrev pub raised : Detector2D → Float → Detector2D
+raised d f =
+    record {
+      center = d .center;
+      normal = d .normal;
+      up = d .up;
+      «width_mm» = d .«width_mm»;
+      «height_mm» = d .«height_mm»;
+      «res_x» = d .«res_x»;
+      «res_y» = d .«res_y»;
+      «total_flux_watts» = add binary64 (d .«total_flux_watts») f;
+      «total_rays_hit» = d .«total_rays_hit» + 1;
+    }
+
+-- the hit added to its pixel, at place p, and to its detector, and written behind the list
+unfoldable pub writtenAt : Memory → ℕ → DetectorHit → Memory
+writtenAt s p h =
+    let i = 4 * s .used in
+    record {
+      detectors = record { list = set (s .detectors .list) (h .detector .0) (raised (detectorOf s h) (h .«flux_watts»)); count = s .detectors .count };
+      flux = set (s .flux) p (add binary64 (getD (s .flux) p nan) (h .«flux_watts»));
+      hits = set (s .hits) p (getD (s .hits) p 0 + 1);
+      values = four Float (s .values) i (h .«local_x») (h .«local_y») (h .«flux_watts») (h .«wavelength_nm»);
+      tags = four ℕ (s .tags) i (h .detector .0) (h .«bounce_count») (h .«reflection_count») (h .«tir_count»);
+      used = s .used + 1;
+    }
+
+abbrev pub maxCount : ℕ
+maxCount = 4294967295
+
+-- 12 where the list is full, else 13 where a count cannot be raised, else done; the memory and the plain book share it
+unfoldable pub judged : {M : Type 0} → Bool → Bool → M → M → Outcome M
+judged full most m next = cond full (refused 12 0 m) (cond most (refused 13 0 m) (done next))
+
+unfoldable pub recordAt : Memory → ℕ → DetectorHit → Outcome Memory
+recordAt s p h =
+    judged (leb (capacityOf s) (s .used)) (eqb (getD (s .hits) p 0) maxCount || eqb (detectorOf s h .«total_rays_hit») maxCount) s (writtenAt s p h)
+
+-- whether a place lies in both maps, and the hit slices are alike
+unfoldable pub inMapsOf : ℕ → ℕ → ℕ → ℕ → ℕ → Bool
+inMapsOf p nf nh nv nt = ltb p nf && (ltb p nh && eqb nv nt)
+
+-- whether the memory has the hit's detector and pixel, as one that passed the checks has
+unfoldable pub holdsOf : Memory → DetectorHit → Bool
+holdsOf s h =
+    ltb (h .detector .0) maxDetectors
+    && inMapsOf (cellOf (s .detectors .list) h) (length (s .flux)) (length (s .hits)) (length (s .values)) (length (s .tags))
+
+-- one hit into any memory: wholly or not at all
+unfoldable pub recordHit : Memory → DetectorHit → Outcome Memory
+recordHit s h = cond (holdsOf s h) (recordAt s (cellOf (s .detectors .list) h) h) (refused 9 0 s)
+
+-- ---- the checks of a recording
+
+-- equal, a multiple of four, and no fewer than those used
+unfoldable pub isHitListOf : ℕ → ℕ → ℕ → Bool
+isHitListOf nv nt used = eqb nv nt && (eqb (nv % 4) 0 && leb used (nv / 4))
+
+-- 9 unless every slice is as long as it must be
+unfoldable pub areLengthsOf : Detectors → ℕ → ℕ → ℕ → ℕ → ℕ → Bool
+areLengthsOf ds nf nh nv nt used = eqb nf (allPixelsOf ds) && (eqb nh (allPixelsOf ds) && isHitListOf nv nt used)
+
+unfoldable pub isMemoryOf : Memory → Bool
+isMemoryOf s = areLengthsOf (s .detectors) (length (s .flux)) (length (s .hits)) (length (s .values)) (length (s .tags)) (s .used)
+
+-- an outcome, unless a check before it refuses and leaves all as it is
+abbrev pub unless : {A M : Type 0} → Checked A → M → Outcome M → Outcome M
+unless (passed a) m o = o
+unless (refusedAt n place) m o = refused n place m
+
+-- the call that is open to hosts: 3, 5 to 8, 4, 9, then 12 before 13
+unfoldable pub recordClassifiedOf : Memory → DetectorHit → Outcome Memory
+recordClassifiedOf s h =
+    unless (askedOf (s .detectors) (h .detector)) s (cond (isMemoryOf s) (recordHit s h) (refused 9 0 s))
+
+-- ---- what the code's answers say
+
+abbrev pub outcomeOf : {M : Type 0} → Check → M → Outcome M
+outcomeOf Passed m = done m
+outcomeOf (Refused e place) m = refused (numberOf e) place m
+
+abbrev pub recordedOf : Recorded → List Float → List ℕ → List Float → List ℕ → Outcome Memory
+recordedOf r f h v t = outcomeOf (r .check) (memoryOf (r .detectors) f h v t (r .used))

@@ -1,0 +1,226 @@
+// Recording: one hit added to its pixel, to its detector and to the hit list, wholly or not at all.
+use crate::Asked;
+use crate::DetectorHit;
+use crate::Detectors;
+use crate::detectors::pixels_of;
+use crate::hits::put_tags;
+use crate::hits::put_values;
+use detector::Detector2D;
+use error::Check;
+use error::NonSeqError;
+ghost use mathlib.Core.Path.{_≡_};
+ghost use Prim.Native.Nat.{_<_};
+ghost use lib.ListN.{length, set};
+ghost use Rattle.memory.specs.Detectors.{detectorAt};
+ghost use Rattle.memory.specs.Memory.{memoryOf, recordedOf, cellOf, inMapsOf, raised, maxCount, recordAt, recordHit, isHitListOf, areLengthsOf, recordClassifiedOf};
+
+// The refusal or none, and what goes on: the detectors' records and the number of hits used.
+pub struct Recorded {
+    pub check: Check,
+    pub detectors: Detectors,
+    pub used: usize,
+}
+
+// The place of a hit's pixel among the pixels of all detectors.
+fn cell(list: [Detector2D; 8], h: DetectorHit) -> usize
+    requires { ⌜ h .detector .0 < 8 ⌝ }
+    ensures { λ r. ⌜ r ≡ cellOf list h ⌝ }
+{
+    let d = h.detector.0 as usize;
+    let e = list[d];
+    let first = pixels_of(list, d);
+    first + e.pixel_at(h.local_x, h.local_y)
+}
+
+// Whether a place lies in both maps, and the hit slices are alike.
+fn in_maps(p: usize, flux: usize, hits: usize, values: usize, tags: usize) -> bool
+    ensures { λ r. ⌜ r ≡ inMapsOf p flux hits values tags ⌝ }
+{
+    if p < flux {
+        if p < hits {
+            return values == tags;
+        }
+    }
+    false
+}
+
+// The records with a flux more caught by detector d.
+fn raise(list: [Detector2D; 8], d: usize, flux: f64) -> [Detector2D; 8]
+    requires { ⌜ (d < 8) × (detectorAt list d .«total_rays_hit» < maxCount) ⌝ }
+    ensures { λ r. ⌜ r ≡ set list d (raised (detectorAt list d) flux) ⌝ }
+{
+    let mut next = list;
+    let mut e = list[d];
+    e.total_flux_watts = e.total_flux_watts + flux;
+    e.total_rays_hit = e.total_rays_hit + 1;
+    next[d] = e;
+    next
+}
+
+// The hit into the pixel at a place, unless the list is full (12) or a count is at its largest (13).
+fn put(
+    detectors: Detectors,
+    flux: &mut [f64],
+    hits: &mut [u32],
+    values: &mut [f64],
+    tags: &mut [u32],
+    used: usize,
+    h: DetectorHit,
+    p: usize,
+) -> Recorded
+    requires { ⌜ (h .detector .0 < 8) × (p < length (now flux)) × (p < length (now hits)) × (length (now values) ≡ length (now tags)) ⌝ }
+    ensures { λ r. ⌜ recordedOf r (now (flux .exit)) (now (hits .exit)) (now (values .exit)) (now (tags .exit))
+        ≡ recordAt (memoryOf detectors (now (flux .entry)) (now (hits .entry)) (now (values .entry)) (now (tags .entry)) used) p h ⌝ }
+{
+    let list = detectors.list;
+    let d = h.detector.0 as usize;
+    let e = list[d];
+    if values.len() / 4 <= used {
+        return Recorded {
+            check: Check::Refused {
+                error: NonSeqError::HitListFull,
+                place: 0,
+            },
+            detectors,
+            used,
+        };
+    }
+    if hits[p] == 4294967295 {
+        return Recorded {
+            check: Check::Refused {
+                error: NonSeqError::HitCountFull,
+                place: 0,
+            },
+            detectors,
+            used,
+        };
+    }
+    if e.total_rays_hit == 4294967295 {
+        return Recorded {
+            check: Check::Refused {
+                error: NonSeqError::HitCountFull,
+                place: 0,
+            },
+            detectors,
+            used,
+        };
+    }
+    flux[p] = flux[p] + h.flux_watts;
+    hits[p] = hits[p] + 1;
+    put_values(values, 4 * used, h);
+    put_tags(tags, 4 * used, h);
+    let next = Detectors {
+        list: raise(list, d, h.flux_watts),
+        count: detectors.count,
+    };
+    Recorded {
+        check: Check::Passed,
+        detectors: next,
+        used: used + 1,
+    }
+}
+
+// One hit into any memory. Only a memory that did not pass the checks is refused by 9.
+pub fn record(
+    detectors: Detectors,
+    flux: &mut [f64],
+    hits: &mut [u32],
+    values: &mut [f64],
+    tags: &mut [u32],
+    used: usize,
+    h: DetectorHit,
+) -> Recorded
+    ensures { λ r. ⌜ recordedOf r (now (flux .exit)) (now (hits .exit)) (now (values .exit)) (now (tags .exit))
+        ≡ recordHit (memoryOf detectors (now (flux .entry)) (now (hits .entry)) (now (values .entry)) (now (tags .entry)) used) h ⌝ }
+{
+    if h.detector.0 < 8 {
+        let list = detectors.list;
+        let p = cell(list, h);
+        if in_maps(p, flux.len(), hits.len(), values.len(), tags.len()) {
+            return put(detectors, flux, hits, values, tags, used, h, p);
+        }
+    }
+    Recorded {
+        check: Check::Refused {
+            error: NonSeqError::InvalidSliceLength,
+            place: 0,
+        },
+        detectors,
+        used,
+    }
+}
+
+// Whether slices of these lengths are a hit list with so many hits used.
+pub fn is_hit_list(values: usize, tags: usize, used: usize) -> bool
+    ensures { λ r. ⌜ r ≡ isHitListOf values tags used ⌝ }
+{
+    if values == tags {
+        if values % 4 == 0 {
+            return used <= values / 4;
+        }
+    }
+    false
+}
+
+// Whether slices of these lengths are the memory of these detectors (else 9).
+pub fn are_lengths(
+    detectors: Detectors,
+    flux: usize,
+    hits: usize,
+    values: usize,
+    tags: usize,
+    used: usize,
+) -> bool
+    ensures { λ r. ⌜ r ≡ areLengthsOf detectors flux hits values tags used ⌝ }
+{
+    let pixels = detectors.all_pixels();
+    if flux == pixels {
+        if hits == pixels {
+            return is_hit_list(values, tags, used);
+        }
+    }
+    false
+}
+
+// The recording that is open to hosts: 3, 5 to 8, 4 and 9 are judged first and leave all as it is, then
+// 12 and 13.
+pub fn record_hit_classified(
+    detectors: Detectors,
+    flux: &mut [f64],
+    hits: &mut [u32],
+    values: &mut [f64],
+    tags: &mut [u32],
+    used: usize,
+    h: DetectorHit,
+) -> Recorded
+    ensures { λ r. ⌜ recordedOf r (now (flux .exit)) (now (hits .exit)) (now (values .exit)) (now (tags .exit))
+        ≡ recordClassifiedOf (memoryOf detectors (now (flux .entry)) (now (hits .entry)) (now (values .entry)) (now (tags .entry)) used) h ⌝ }
+{
+    match detectors.asked(h.detector) {
+        Asked::Refused { error, place } => Recorded {
+            check: Check::Refused { error, place },
+            detectors,
+            used,
+        },
+        Asked::There(_) => {
+            if are_lengths(
+                detectors,
+                flux.len(),
+                hits.len(),
+                values.len(),
+                tags.len(),
+                used,
+            ) {
+                return record(detectors, flux, hits, values, tags, used, h);
+            }
+            Recorded {
+                check: Check::Refused {
+                    error: NonSeqError::InvalidSliceLength,
+                    place: 0,
+                },
+                detectors,
+                used,
+            }
+        }
+    }
+}
