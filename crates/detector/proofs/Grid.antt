@@ -84,7 +84,7 @@ passed-grid d place e = size (isSizeOf (d .«width_mm») && isSizeOf (d .«heigh
     size false e = absurd (subst Passes (sym e) tt)
 
 -- a row and a column give a place in a grid
-in-grid : (px py nx ny : ℕ) → px < nx → py < ny → py * nx + px < nx * ny
+pub in-grid : (px py nx ny : ℕ) → px < nx → py < ny → py * nx + px < nx * ny
 in-grid px py nx ny h g =
     let a : py + 1 ≤ ny = omega arith in
     let b : (py + 1) * nx ≤ ny * nx = mul-le-mul-right nx a in

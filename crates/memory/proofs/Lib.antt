@@ -1,3 +1,8 @@
 -- What holds of the definitions.
 pub mod Lists
 pub mod Records
+pub mod Passed
+pub mod Keeps
+pub mod Listed
+pub mod Plain
+pub mod Views

@@ -13,9 +13,9 @@ use Rattle.error.specs.Refusals.{numberOf}
 use Rattle.detector.specs.declared.Detector2D.{Detector2D}
 use Rattle.memory.specs.declared.hits.DetectorHit.{DetectorHit}
 use Rattle.memory.specs.declared.detectors.Placed.{Placed}
-use Rattle.memory.specs.declared.detectors.Asked.{Asked}
-use Rattle.memory.specs.declared.detectors.Asked.the-variants.{There, Refused}
-use Rattle.memory.specs.Detectors.{askedOf, askedAnswerOf}
+use Rattle.memory.specs.declared.detectors.Found.{Found}
+use Rattle.memory.specs.declared.detectors.Found.the-variants.{There, Refused}
+use Rattle.memory.specs.Detectors.{findOf, foundOf}
 use Rattle.memory.specs.Memory.{Memory, Outcome, done, refused, memoryOf, capacityOf, detectorOf, raised, four, writtenAt, maxCount, judged, recordAt, cellOf, inMapsOf, holdsOf, recordHit, areLengthsOf, isMemoryOf, recordClassifiedOf}
 
 module _ (s : Memory) (p : ℕ) (h : DetectorHit) where
@@ -69,7 +69,7 @@ module _ (s : Memory) (h : DetectorHit) where
     unfolding recordHit holdsOf
     record-put k o e = rw (lt-ltb (h .detector .0) 8 below, ← placed, ← told, k) e
 
-  module _ (a : Asked) (said : askedAnswerOf a ≡ askedOf (s .detectors) (h .detector)) where
+  module _ (a : Found) (said : foundOf a ≡ findOf (s .detectors) (h .detector)) where
     pub asked-refused : (x : NonSeqError) (place : ℕ) → a ≡ Refused x place → refused (numberOf x) place s ≡ recordClassifiedOf s h
     unfolding recordClassifiedOf
     asked-refused x place k = rw (← said, k)

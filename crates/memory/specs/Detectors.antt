@@ -13,8 +13,8 @@ use Rattle.detector.specs.Checks.{checkDetectorOf}
 use Rattle.detector.specs.Pixels.{pixelsOf}
 use Rattle.memory.specs.declared.detectors.Detectors.{Detectors}
 use Rattle.memory.specs.declared.detectors.Placed.{Placed}
-use Rattle.memory.specs.declared.detectors.Asked.{Asked}
-use Rattle.memory.specs.declared.detectors.Asked.the-variants.{There, Refused}
+use Rattle.memory.specs.declared.detectors.Found.{Found}
+use Rattle.memory.specs.declared.detectors.Found.the-variants.{There, Refused}
 
 abbrev pub maxDetectors : ℕ
 maxDetectors = 8
@@ -64,10 +64,10 @@ unfoldable pub placedOf : List Detector2D → ℕ → Placed
 placedOf l d = record { detector = detectorAt l d; first = firstPixelOf l d }
 
 -- the asked one
-unfoldable pub askedOf : Detectors → DetectorNo → Checked Placed
-askedOf ds d = after (checkAskedOf ds d) (passed (placedOf (ds .list) (d .0)))
+unfoldable pub findOf : Detectors → DetectorNo → Checked Placed
+findOf ds d = after (checkAskedOf ds d) (passed (placedOf (ds .list) (d .0)))
 
 -- what the code's answer says
-abbrev pub askedAnswerOf : Asked → Checked Placed
-askedAnswerOf (There p) = passed p
-askedAnswerOf (Refused e place) = refusedAt (numberOf e) place
+abbrev pub foundOf : Found → Checked Placed
+foundOf (There p) = passed p
+foundOf (Refused e place) = refusedAt (numberOf e) place

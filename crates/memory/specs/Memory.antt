@@ -13,7 +13,7 @@ use Rattle.detector.specs.Pixels.{pixelAtOf}
 use Rattle.memory.specs.declared.detectors.Detectors.{Detectors}
 use Rattle.memory.specs.declared.hits.DetectorHit.{DetectorHit}
 use Rattle.memory.specs.declared.recording.Recorded.{Recorded}
-use Rattle.memory.specs.Detectors.{maxDetectors, detectorAt, firstPixelOf, allPixelsOf, askedOf}
+use Rattle.memory.specs.Detectors.{maxDetectors, detectorAt, firstPixelOf, allPixelsOf, findOf}
 
 -- detectors, flux and hits of all pixels, the doubles and the whole numbers of the hit list, how many hits are used
 pub record Memory : Type 0 where
@@ -31,6 +31,10 @@ memoryOf ds f h v t n = record { detectors = ds; flux = f; hits = h; values = v;
 pub data Outcome (M : Type 0) : Type 0 where
   done : M → Outcome M
   refused : ℕ → ℕ → M → Outcome M
+
+abbrev pub leftOf : {M : Type 0} → Outcome M → M
+leftOf (done m) = m
+leftOf (refused n place m) = m
 
 -- ---- the hit list: x, y, flux, wavelength, and detector, bounce, reflections, total reflections
 
@@ -163,7 +167,7 @@ unless (refusedAt n place) m o = refused n place m
 -- the call that is open to hosts: 3, 5 to 8, 4, 9, then 12 before 13
 unfoldable pub recordClassifiedOf : Memory → DetectorHit → Outcome Memory
 recordClassifiedOf s h =
-    unless (askedOf (s .detectors) (h .detector)) s (cond (isMemoryOf s) (recordHit s h) (refused 9 0 s))
+    unless (findOf (s .detectors) (h .detector)) s (cond (isMemoryOf s) (recordHit s h) (refused 9 0 s))
 
 -- ---- what the code's answers say
 

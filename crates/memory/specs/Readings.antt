@@ -10,7 +10,7 @@ use Rattle.detector.specs.declared.DetectorNo.{DetectorNo}
 use Rattle.detector.specs.Pixels.{irradianceOf}
 use Rattle.memory.specs.declared.detectors.Detectors.{Detectors}
 use Rattle.memory.specs.declared.detectors.Placed.{Placed}
-use Rattle.memory.specs.Detectors.{allPixelsOf, askedOf}
+use Rattle.memory.specs.Detectors.{allPixelsOf, findOf}
 
 -- of pixel (px, py) of a detector; 0 outside the resolution
 unfoldable pub irradianceIn : Placed → List Float → ℕ → ℕ → Float
@@ -25,4 +25,4 @@ irradianceFrom ds flux px py (refusedAt n place) = refusedAt n place
 
 -- 3, 5 to 8, 4, 9, then the irradiance
 unfoldable pub irradianceAtOf : Detectors → DetectorNo → List Float → ℕ → ℕ → Checked Float
-irradianceAtOf ds d flux px py = irradianceFrom ds flux px py (askedOf ds d)
+irradianceAtOf ds d flux px py = irradianceFrom ds flux px py (findOf ds d)

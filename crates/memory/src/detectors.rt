@@ -6,7 +6,7 @@ use error::NonSeqError;
 ghost use mathlib.Core.Path.{_≡_};
 ghost use Prim.Native.Nat.{_≤_, _<_};
 ghost use Rattle.error.specs.Refusals.{checkOf};
-ghost use Rattle.memory.specs.Detectors.{firstPixelOf, allPixelsOf, placedOf, checkFromOf, checkDetectorsOf, askedOf, askedAnswerOf};
+ghost use Rattle.memory.specs.Detectors.{firstPixelOf, allPixelsOf, placedOf, checkFromOf, checkDetectorsOf, findOf, foundOf};
 
 pub struct Detectors {
     pub list: [Detector2D; 8],
@@ -19,7 +19,7 @@ pub struct Placed {
     pub first: usize,
 }
 
-pub enum Asked {
+pub enum Found {
     There(Placed),
     Refused { error: NonSeqError, place: u32 },
 }
@@ -78,16 +78,16 @@ impl Detectors {
     }
 
     // The asked detector: the same checks, then 4 for one that is not there.
-    pub fn asked(self, asked: DetectorNo) -> Asked
-        ensures { λ r. ⌜ askedAnswerOf r ≡ askedOf self asked ⌝ }
+    pub fn find(self, asked: DetectorNo) -> Found
+        ensures { λ r. ⌜ foundOf r ≡ findOf self asked ⌝ }
     {
         match self.check() {
-            Check::Refused { error, place } => Asked::Refused { error, place },
+            Check::Refused { error, place } => Found::Refused { error, place },
             Check::Passed => {
                 if asked.0 < self.count {
-                    return Asked::There(self.placed(asked.0 as usize));
+                    return Found::There(self.placed(asked.0 as usize));
                 }
-                Asked::Refused {
+                Found::Refused {
                     error: NonSeqError::NoSuchDetector,
                     place: 0,
                 }

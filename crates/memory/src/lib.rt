@@ -3,13 +3,15 @@
 // `filter`.
 mod detectors;
 mod hits;
+mod reading;
 mod recording;
 
-pub use detectors::Asked;
 pub use detectors::Detectors;
+pub use detectors::Found;
 pub use detectors::Placed;
 pub use hits::DetectorHit;
 pub use hits::hit_at;
+pub use reading::irradiance_at;
 pub use recording::Recorded;
 pub use recording::are_lengths;
 pub use recording::is_hit_list;

@@ -1,7 +1,7 @@
 // Recording: one hit added to its pixel, to its detector and to the hit list, wholly or not at all.
-use crate::Asked;
 use crate::DetectorHit;
 use crate::Detectors;
+use crate::Found;
 use crate::detectors::pixels_of;
 use crate::hits::put_tags;
 use crate::hits::put_values;
@@ -196,13 +196,13 @@ pub fn record_hit_classified(
     ensures { λ r. ⌜ recordedOf r (now (flux .exit)) (now (hits .exit)) (now (values .exit)) (now (tags .exit))
         ≡ recordClassifiedOf (memoryOf detectors (now (flux .entry)) (now (hits .entry)) (now (values .entry)) (now (tags .entry)) used) h ⌝ }
 {
-    match detectors.asked(h.detector) {
-        Asked::Refused { error, place } => Recorded {
+    match detectors.find(h.detector) {
+        Found::Refused { error, place } => Recorded {
             check: Check::Refused { error, place },
             detectors,
             used,
         },
-        Asked::There(_) => {
+        Found::There(_) => {
             if are_lengths(
                 detectors,
                 flux.len(),

@@ -14,7 +14,7 @@ use Rattle.material.specs.declared.OpticalMedium.{OpticalMedium}
 use Rattle.material.specs.Media.{lastMedium, mediumOf, refractiveIndexOf}
 use Rattle.fields.specs.Number.{Read, number, malformed, bitsOf, wholeOf}
 use Rattle.vectors.specs.declared.lines.Kind.{Kind}
-use Rattle.vectors.specs.declared.lines.Kind.the-variants.{Root, Double, Draw, State, Vector, Matrix, Index, Shape, Solid}
+use Rattle.vectors.specs.declared.lines.Kind.the-variants.{Root, Double, Draw, State, Vector, Matrix, Index, Shape, Solid, Crossing, Recording}
 use Rattle.rays.specs.declared.vector.Vec3.{Vec3}
 use Rattle.rays.specs.declared.Ray.{Ray}
 use Rattle.rays.specs.Vectors.{dotOf, crossOf, plusOf, minusOf, scaleOf, divideOf, negateOf, normOf, normalizeOf}
@@ -22,6 +22,7 @@ use Rattle.rays.specs.Matrices.{transformPointOf, transformDirectionOf, transfo
 use Rattle.rays.specs.Rays.{atOf}
 use Rattle.vector_lines.specs.Parts.{partOf, hasShape, isNumber, bitsAt, bitsBetween, doubleAt, isDouble, given, vecAt, isVec, matAt}
 use Rattle.scene_lines.specs.SceneLines.{shapeLine, solidLine}
+use Rattle.detector_lines.specs.DetectorLines.{crossingLine, recordingLine}
 
 -- x = the root of x
 unfoldable pub rootLine : List ℕ → Bool
@@ -107,3 +108,5 @@ lineAgrees Matrix l = matrixLine l
 lineAgrees Index l = indexLine l
 lineAgrees Shape l = shapeLine l
 lineAgrees Solid l = solidLine l
+lineAgrees Crossing l = crossingLine l
+lineAgrees Recording l = recordingLine l

@@ -47,6 +47,10 @@ pub enum Kind {
     Shape,
     // shape, active, its sizes, matrix and inverse, a ray = where it meets the solid, or -
     Solid,
+    // detector, origin and direction = distance, place and pixel, or -
+    Crossing,
+    // a detector's sizes and resolutions, place, flux = pixel, its area, irradiance
+    Recording,
 }
 
 fn root_line(line: &[u8]) -> bool
@@ -233,5 +237,7 @@ pub fn line_agrees(kind: Kind, line: &[u8]) -> bool
         Kind::Index => index_line(line),
         Kind::Shape => scene_lines::shape_line(line),
         Kind::Solid => scene_lines::solid_line(line),
+        Kind::Crossing => detector_lines::crossing_line(line),
+        Kind::Recording => detector_lines::recording_line(line),
     }
 }

@@ -69,4 +69,6 @@ fn main() {
     run(Kind::Shape, b"shapes.txt");
     run(Kind::Shape, b"shape_edges.txt");
     run(Kind::Solid, b"solids.txt");
+    run(Kind::Crossing, b"crossing.txt");
+    run(Kind::Recording, b"recording.txt");
 }

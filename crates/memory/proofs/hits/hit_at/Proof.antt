@@ -13,7 +13,7 @@ read-hit-requires c κs = search needs
 
 returns : tie.Need-returns
 unfolding four hitAt
-returns c = simp (← c .before .before .before .no-hit .ensures, lt-ltb _ _ (c .before .before .if1 .taken), lt-ltb _ _ (c .before .if2 .taken), ← c .read-hit .ensures)
+returns c = simp (lt-ltb _ _ (c .before .before .if1 .taken), lt-ltb _ _ (c .before .if2 .taken), ← c .read-hit .ensures)
 
 returns-2 : tie.Need-returns-2
 unfolding four hitAt

@@ -4,8 +4,8 @@ use borrow.Author.Needs.{needs}
 use Rattle.memory.proofs.recording.record_hit_classified.Statement.{statement}
 use Rattle.memory.proofs.recording.record_hit_classified.Tie as tie
 
-asked-requires : tie.Need-asked-requires
-asked-requires c κs = search needs
+find-requires : tie.Need-find-requires
+find-requires c κs = search needs
 
 enum-known-error : tie.Need-enum-known-error
 enum-known-error c = search needs
@@ -33,19 +33,19 @@ same-length-4 c = search needs
 
 returns : tie.Need-returns
 returns c =
-    recorded _ _ _ (c .before .before .before .before .before .before .before .before .before .before .before .before .before .before .before .before .before .asked .ensures) _ (c .before .before .before .before .before .before .before .before .before .before .before .before .before .before .before .enum-told .given .1) _ (c .before .before .before .before .before .before .before .before .before .before .before .before .before .before .are-lengths .ensures) (c .before .before .before .before .before .before .before .before .before .before .before .before .before .if1 .taken) _ (c .before .before .before .before .before .before .before .before .«record» .ensures)
+    recorded _ _ _ (c .before .before .before .before .before .before .before .before .before .before .before .before .before .before .before .before .before .find .ensures) _ (c .before .before .before .before .before .before .before .before .before .before .before .before .before .before .before .enum-told .given .1) _ (c .before .before .before .before .before .before .before .before .before .before .before .before .before .before .are-lengths .ensures) (c .before .before .before .before .before .before .before .before .before .before .before .before .before .if1 .taken) _ (c .before .before .before .before .before .before .before .before .«record» .ensures)
 
 returns-2 : tie.Need-returns-2
-returns-2 c = asked-refused _ _ _ (c .before .before .before .asked .ensures) _ _ (c .before .error .given .1)
+returns-2 c = asked-refused _ _ _ (c .before .before .before .find .ensures) _ _ (c .before .error .given .1)
 
 returns-3 : tie.Need-returns-3
-returns-3 c = lengths-refused _ _ _ (c .before .before .before .before .asked .ensures) _ (c .before .before .enum-told .given .1) _ (c .before .are-lengths .ensures) (c .if1 .left)
+returns-3 c = lengths-refused _ _ _ (c .before .before .before .before .find .ensures) _ (c .before .before .enum-told .given .1) _ (c .before .are-lengths .ensures) (c .if1 .left)
 
 pub record-hit-classified-spec : {M : Type 1} → statement M
 record-hit-classified-spec =
     tie.close
     (tie.spec
-    asked-requires
+    find-requires
     enum-known-error
     enum-told
     are-lengths-requires

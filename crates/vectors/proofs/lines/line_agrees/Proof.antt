@@ -58,6 +58,18 @@ enum-told-9 c = search needs
 solid-line-requires : tie.Need-solid-line-requires
 solid-line-requires c κs = search needs
 
+enum-told-10 : tie.Need-enum-told-10
+enum-told-10 c = search needs
+
+crossing-line-requires : tie.Need-crossing-line-requires
+crossing-line-requires c κs = search needs
+
+enum-told-11 : tie.Need-enum-told-11
+enum-told-11 c = search needs
+
+recording-line-requires : tie.Need-recording-line-requires
+recording-line-requires c κs = search needs
+
 returns : tie.Need-returns
 unfolding lineAgrees
 returns c = simp (c .before .enum-told .given .1, ← c .root-line .ensures)
@@ -94,6 +106,14 @@ returns-9 : tie.Need-returns-9
 unfolding lineAgrees
 returns-9 c = simp (c .before .enum-told9 .given .1, ← c .solid-line .ensures)
 
+returns-10 : tie.Need-returns-10
+unfolding lineAgrees
+returns-10 c = simp (c .before .enum-told10 .given .1, ← c .crossing-line .ensures)
+
+returns-11 : tie.Need-returns-11
+unfolding lineAgrees
+returns-11 c = simp (c .before .enum-told11 .given .1, ← c .recording-line .ensures)
+
 pub line-agrees-spec : {M : Type 1} → statement M
 line-agrees-spec =
     tie.close
@@ -116,6 +136,10 @@ line-agrees-spec =
     shape-line-requires
     enum-told-9
     solid-line-requires
+    enum-told-10
+    crossing-line-requires
+    enum-told-11
+    recording-line-requires
     returns
     returns-2
     returns-3
@@ -124,4 +148,6 @@ line-agrees-spec =
     returns-6
     returns-7
     returns-8
-    returns-9)
+    returns-9
+    returns-10
+    returns-11)

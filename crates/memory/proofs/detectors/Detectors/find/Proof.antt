@@ -1,11 +1,11 @@
--- `memory::detectors::Detectors::asked` meets its contract. Assumes nothing.
+-- `memory::detectors::Detectors::find` meets its contract. Assumes nothing.
 use borrow.Author.Tests.{lt-ltb, le-ltb}
-use Rattle.memory.specs.Detectors.{askedOf, checkAskedOf}
+use Rattle.memory.specs.Detectors.{checkAskedOf, findOf}
 use native.Mathlib.Omega.{arith}
 use Rattle.memory.proofs.Lists.{count-most}
 use borrow.Author.Needs.{needs}
-use Rattle.memory.proofs.detectors.Detectors.asked.Statement.{statement}
-use Rattle.memory.proofs.detectors.Detectors.asked.Tie as tie
+use Rattle.memory.proofs.detectors.Detectors.find.Statement.{statement}
+use Rattle.memory.proofs.detectors.Detectors.find.Tie as tie
 
 check-requires : tie.Need-check-requires
 check-requires c κs = search needs
@@ -23,19 +23,19 @@ placed-requires : tie.Need-placed-requires
 placed-requires c κs = omega (arith, count-most _ _ (c .before .before .before .before .before .before .check .ensures) (c .before .before .before .before .enum-told .given .1), c .before .if1 .taken)
 
 returns : tie.Need-returns
-unfolding askedOf checkAskedOf
+unfolding checkAskedOf findOf
 returns c = simp (← c .before .before .before .before .before .before .before .check .ensures, c .before .before .before .before .before .enum-told .given .1, lt-ltb _ _ (c .before .before .if1 .taken), ← c .placed .ensures)
 
 returns-2 : tie.Need-returns-2
-unfolding askedOf checkAskedOf
+unfolding checkAskedOf findOf
 returns-2 c = simp (← c .before .before .before .check .ensures, c .before .error .given .1)
 
 returns-3 : tie.Need-returns-3
-unfolding askedOf checkAskedOf
+unfolding checkAskedOf findOf
 returns-3 c = simp (← c .before .before .before .before .before .check .ensures, c .before .before .before .enum-told .given .1, le-ltb _ _ (c .if1 .left))
 
-pub asked-spec : {M : Type 1} → statement M
-asked-spec =
+pub find-spec : {M : Type 1} → statement M
+find-spec =
     tie.close
     (tie.spec
     check-requires

@@ -1,0 +1,2 @@
+-- What a stored line of crossings or recordings says.
+pub mod DetectorLines

@@ -1,0 +1,125 @@
+-- What a recorded hit keeps: lengths, and all of the detectors but totals and counts. Assumes nothing.
+use Prim.Native.Nat.{ℕ, zero, suc, _+_, _*_, _/_, _≤_, _<_}
+use mathlib.Core.Path.{_≡_, refl, ap, sym, _∙_}
+use mathlib.Core.Bool.{Bool, _&&_}
+use mathlib.Core.List.{List, [], _∷_}
+use lib.Dec.{ltb, eqb}
+use lib.Ieee.{Float}
+use lib.ListN.{length, getD, set, length-set}
+use Rattle.detector.specs.declared.Detector2D.{Detector2D}
+use Rattle.detector.specs.Pixels.{pixelsOf, pixelAtOf}
+use Rattle.memory.specs.declared.hits.DetectorHit.{DetectorHit}
+use Rattle.memory.specs.Detectors.{noDetector, detectorAt, firstPixelOf}
+use Rattle.memory.specs.Memory.{Memory, capacityOf, raised, four, cellOf, inMapsOf, holdsOf, writtenAt}
+use Rattle.memory.specs.Plain.{added}
+
+pub length-four : (A : Type 0) (l : List A) (i : ℕ) (a b c d : A) → length (four A l i a b c d) ≡ length l
+unfolding four
+length-four A l i a b c d = simp length-set
+
+-- ---- the detectors
+
+-- a record raised keeps every g that raising keeps
+pub kept : {A : Type 0} (g : Detector2D → A) → ((d : Detector2D) (f : Float) → g (raised d f) ≡ g d)
+    → (l : List Detector2D) (i j : ℕ) (f : Float) → g (detectorAt (set l i (raised (detectorAt l i) f)) j) ≡ g (detectorAt l j)
+kept g e [] i j f = refl
+kept g e (x ∷ l) zero zero f = e x f
+kept g e (x ∷ l) zero (suc j) f = refl
+kept g e (x ∷ l) (suc i) zero f = refl
+kept g e (x ∷ l) (suc i) (suc j) f = kept g e l i j f
+
+same-pixels : (d : Detector2D) (f : Float) → pixelsOf (raised d f) ≡ pixelsOf d
+unfolding pixelsOf
+same-pixels d f = refl
+
+same-pixel : (x y : Float) (d : Detector2D) (f : Float) → pixelAtOf (raised d f) x y ≡ pixelAtOf d x y
+unfolding pixelAtOf
+same-pixel x y d f = refl
+
+pub first-kept : (l : List Detector2D) (i n : ℕ) (f : Float) → firstPixelOf (set l i (raised (detectorAt l i) f)) n ≡ firstPixelOf l n
+unfolding firstPixelOf
+first-kept l i zero f = refl
+first-kept l i (suc n) f = rw (first-kept l i n f, kept pixelsOf same-pixels l i n f)
+
+cell-kept : (l : List Detector2D) (i : ℕ) (f : Float) (h : DetectorHit) → cellOf (set l i (raised (detectorAt l i) f)) h ≡ cellOf l h
+unfolding cellOf
+cell-kept l i f h = rw (first-kept l i (h .detector .0) f, kept (λ d. pixelAtOf d (h .«local_x») (h .«local_y»)) (same-pixel (h .«local_x») (h .«local_y»)) l i (h .detector .0) f)
+
+-- ---- one hit written at any place
+
+module _ (s : Memory) (p : ℕ) (k : DetectorHit) where
+  pub written-pixels : (d : ℕ) → pixelsOf (detectorAt (writtenAt s p k .detectors .list) d) ≡ pixelsOf (detectorAt (s .detectors .list) d)
+  unfolding writtenAt
+  written-pixels d = kept pixelsOf same-pixels (s .detectors .list) (k .detector .0) d (k .«flux_watts»)
+
+  pub written-pixel : (d : ℕ) (x y : Float) → pixelAtOf (detectorAt (writtenAt s p k .detectors .list) d) x y ≡ pixelAtOf (detectorAt (s .detectors .list) d) x y
+  unfolding writtenAt
+  written-pixel d x y = kept (λ e. pixelAtOf e x y) (same-pixel x y) (s .detectors .list) (k .detector .0) d (k .«flux_watts»)
+
+  pub written-first : (d : ℕ) → firstPixelOf (writtenAt s p k .detectors .list) d ≡ firstPixelOf (s .detectors .list) d
+  unfolding writtenAt
+  written-first d = first-kept (s .detectors .list) (k .detector .0) d (k .«flux_watts»)
+
+  pub written-cell : (h : DetectorHit) → cellOf (writtenAt s p k .detectors .list) h ≡ cellOf (s .detectors .list) h
+  unfolding writtenAt
+  written-cell h = cell-kept (s .detectors .list) (k .detector .0) (k .«flux_watts») h
+
+  pub written-list : length (writtenAt s p k .detectors .list) ≡ length (s .detectors .list)
+  unfolding writtenAt
+  written-list = simp length-set
+
+  pub written-flux : length (writtenAt s p k .flux) ≡ length (s .flux)
+  unfolding writtenAt
+  written-flux = simp length-set
+
+  pub written-hits : length (writtenAt s p k .hits) ≡ length (s .hits)
+  unfolding writtenAt
+  written-hits = simp length-set
+
+  pub written-values : length (writtenAt s p k .values) ≡ length (s .values)
+  unfolding writtenAt
+  written-values = length-four Float _ _ _ _ _ _
+
+  pub written-tags : length (writtenAt s p k .tags) ≡ length (s .tags)
+  unfolding writtenAt
+  written-tags = length-four ℕ _ _ _ _ _ _
+
+-- ---- any number of hits added
+
+pub added-cell : (b : List DetectorHit) (s : Memory) (h : DetectorHit) → cellOf (added s b .detectors .list) h ≡ cellOf (s .detectors .list) h
+unfolding added
+added-cell [] s h = refl
+added-cell (k ∷ b) s h = added-cell b (writtenAt s _ k) h ∙ written-cell s _ k h
+
+pub added-list : (b : List DetectorHit) (s : Memory) → length (added s b .detectors .list) ≡ length (s .detectors .list)
+unfolding added
+added-list [] s = refl
+added-list (k ∷ b) s = added-list b (writtenAt s _ k) ∙ written-list s _ k
+
+pub added-flux : (b : List DetectorHit) (s : Memory) → length (added s b .flux) ≡ length (s .flux)
+unfolding added
+added-flux [] s = refl
+added-flux (k ∷ b) s = added-flux b (writtenAt s _ k) ∙ written-flux s _ k
+
+pub added-hits : (b : List DetectorHit) (s : Memory) → length (added s b .hits) ≡ length (s .hits)
+unfolding added
+added-hits [] s = refl
+added-hits (k ∷ b) s = added-hits b (writtenAt s _ k) ∙ written-hits s _ k
+
+pub added-values : (b : List DetectorHit) (s : Memory) → length (added s b .values) ≡ length (s .values)
+unfolding added
+added-values [] s = refl
+added-values (k ∷ b) s = added-values b (writtenAt s _ k) ∙ written-values s _ k
+
+pub added-tags : (b : List DetectorHit) (s : Memory) → length (added s b .tags) ≡ length (s .tags)
+unfolding added
+added-tags [] s = refl
+added-tags (k ∷ b) s = added-tags b (writtenAt s _ k) ∙ written-tags s _ k
+
+pub added-holds : (b : List DetectorHit) (s : Memory) (h : DetectorHit) → holdsOf (added s b) h ≡ holdsOf s h
+unfolding holdsOf
+added-holds b s h = rw (added-cell b s h, added-flux b s, added-hits b s, added-values b s, added-tags b s)
+
+pub added-capacity : (b : List DetectorHit) (s : Memory) → capacityOf (added s b) ≡ capacityOf s
+unfolding capacityOf
+added-capacity b s = rw (added-values b s)
