@@ -3,7 +3,7 @@ use Prim.Native.Nat.{ℕ}
 use mathlib.Core.Bool.{Bool, false, _&&_}
 use mathlib.Core.List.{List}
 use mathlib.Core.Option.{Option, none, some}
-use lib.Ieee.{Float, binary64, ofBits}
+use lib.Ieee.{Float, binary64, ofBits, add}
 use Rattle.error.specs.Refusals.{Checked, passed, refusedAt}
 use Rattle.fields.specs.Number.{wholeOf}
 use Rattle.rays.specs.declared.Ray.{Ray}
@@ -98,7 +98,9 @@ unfoldable pub isArea : List ℕ → Checked Float → Bool
 isArea l (passed x) = isDouble (partOf l 10) x
 isArea l (refusedAt n p) = false
 
+-- the irradiance of a pixel that held 0 before the flux was added to it
 unfoldable pub recordingLine : List ℕ → Bool
 recordingLine l =
     let d = gridIn l in
-    (recordingGiven l && isPixel l d) && (isArea l (pixelAreaOf d) && isDouble (partOf l 11) (irradianceOf d (doubleAt l 6)))
+    let caught = add binary64 (ofBits binary64 0) (doubleAt l 6) in
+    (recordingGiven l && isPixel l d) && (isArea l (pixelAreaOf d) && isDouble (partOf l 11) (irradianceOf d caught))

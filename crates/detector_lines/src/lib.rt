@@ -190,12 +190,14 @@ fn is_area(line: &[u8], a: Reading) -> bool
     }
 }
 
+// The irradiance is read after the flux was added to a pixel that held 0.0, so a flux of -0.0 gives 0.0.
 pub fn recording_line(line: &[u8]) -> bool
     ensures { λ r. ⌜ r ≡ recordingLine (now (line .entry)) ⌝ }
 {
     let d = grid_in(line);
     let ok = both(is_recording_given(line), is_pixel(line, d));
     let area = is_area(line, d.pixel_area_m2());
-    let irradiance = is_double(line, 11, d.irradiance(double_at(line, 6)));
+    let caught = 0.0 + double_at(line, 6);
+    let irradiance = is_double(line, 11, d.irradiance(caught));
     both(ok, both(area, irradiance))
 }

@@ -31,7 +31,7 @@ abbrev Refuses : {A : Type 0} → Checked A → Type 0
 Refuses (passed a) = ⊥
 Refuses (refusedAt n p) = Unit {0}
 
-never : {A B : Type 0} (n p : ℕ) (a : A) → refusedAt n p ≡ passed a → B
+pub never : {A B : Type 0} (n p : ℕ) (a : A) → refusedAt n p ≡ passed a → B
 never n p a e = absurd (subst (λ c. Refuses c) e tt)
 
 both-passed : {A : Type 0} (a : A) (c : Checked Unit) (x : Checked A) → after c x ≡ passed a → (c ≡ passed tt) × (x ≡ passed a)

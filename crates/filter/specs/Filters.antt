@@ -1,0 +1,82 @@
+-- Which hits a filter lets through, and the map that they make.
+use Prim.Native.Nat.{ℕ, _+_}
+use mathlib.Core.Bool.{Bool, true, false, cond, _&&_, _||_}
+use mathlib.Core.List.{List, [], _∷_}
+use lib.Dec.{leb, ltb, eqb}
+use lib.Ieee.{Float, nan, binary64, ofBits, add}
+use lib.ListN.{getD, set, replicate}
+use Rattle.detector.specs.declared.DetectorNo.{DetectorNo}
+use Rattle.detector.specs.declared.Detector2D.{Detector2D}
+use Rattle.detector.specs.Pixels.{pixelAtOf}
+use Rattle.memory.specs.declared.hits.DetectorHit.{DetectorHit}
+use Rattle.filter.specs.declared.RayPathFilter.{RayPathFilter}
+use Rattle.filter.specs.declared.RayPathFilter.the-variants.{All, SignalOnly, GhostsOnly, TirOnly, StrayLight}
+use Rattle.filter.specs.declared.refill.Tally.{Tally}
+
+abbrev pub lastFilter : ℕ
+lastFilter = 4
+
+-- numbers 0 to 4 in this order
+unfoldable pub filterOf : ℕ → RayPathFilter
+filterOf n = cond (eqb n 0) All (cond (eqb n 1) SignalOnly (cond (eqb n 2) GhostsOnly (cond (eqb n 3) TirOnly StrayLight)))
+
+abbrev pub isAllOf : RayPathFilter → Bool
+isAllOf All = true
+isAllOf SignalOnly = false
+isAllOf GhostsOnly = false
+isAllOf TirOnly = false
+isAllOf StrayLight = false
+
+-- By a hit's reflections r and total reflections t. Light that was only totally reflected is no ghost.
+abbrev pub letsOf : RayPathFilter → ℕ → ℕ → Bool
+letsOf All r t = true
+letsOf SignalOnly r t = eqb r 0 && eqb t 0
+letsOf GhostsOnly r t = leb 1 r
+letsOf TirOnly r t = ltb 0 t
+letsOf StrayLight r t = ltb 0 r || ltb 0 t
+
+abbrev pub #0 : Float
+#0 = ofBits binary64 0
+
+-- a map with its total and its count
+pub record Map : Type 0 where
+  pub flux : List Float
+  pub total : Float
+  pub count : ℕ
+
+abbrev pub mapOf : Tally → List Float → Map
+mapOf t m = record { flux = m; total = t .total; count = t .count }
+
+abbrev pub zeros : ℕ → Map
+zeros n = record { flux = replicate n #0; total = #0; count = 0 }
+
+-- a flux added at a place
+unfoldable pub addedAtOf : List Float → ℕ → Float → List Float
+addedAtOf m p x = set m p (add binary64 (getD m p nan) x)
+
+-- a hit of detector d added: to its pixel, to the total, to the count
+unfoldable pub plusOf : Detector2D → Map → DetectorHit → Map
+plusOf d m h =
+    let p = pixelAtOf d (h .«local_x») (h .«local_y») in
+    record { flux = addedAtOf (m .flux) p (h .«flux_watts»); total = add binary64 (m .total) (h .«flux_watts»); count = m .count + 1 }
+
+unfoldable pub plusEach : Detector2D → Map → List DetectorHit → Map
+plusEach d m [] = m
+plusEach d m (h ∷ b) = plusEach d (plusOf d m h) b
+
+-- of detector `asked`, and let through
+unfoldable pub passesOf : RayPathFilter → DetectorNo → DetectorHit → Bool
+passesOf f asked h = eqb (h .detector .0) (asked .0) && letsOf f (h .«reflection_count») (h .«tir_count»)
+
+-- those of a list that pass, in list order
+unfoldable pub passing : RayPathFilter → DetectorNo → List DetectorHit → List DetectorHit
+passing f asked [] = []
+passing f asked (h ∷ b) = cond (passesOf f asked h) (h ∷ passing f asked b) (passing f asked b)
+
+-- n zeros, and those that pass added in list order
+unfoldable pub refilledOf : RayPathFilter → DetectorNo → Detector2D → ℕ → List DetectorHit → Map
+refilledOf f asked d n hits = plusEach d (zeros n) (passing f asked hits)
+
+-- one hit on the way
+unfoldable pub turnOf : RayPathFilter → DetectorNo → Detector2D → Map → DetectorHit → Map
+turnOf f asked d m h = cond (passesOf f asked h) (plusOf d m h) m

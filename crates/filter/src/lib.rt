@@ -1,0 +1,85 @@
+// The filters of document 01, "Maps and lists", after detector.rs: a detector's map, total and count from
+// the hits of one kind.
+//
+// What each lets through, by a hit's reflections and its total reflections:
+//   0 All           every hit
+//   1 SignalOnly    hits with neither
+//   2 GhostsOnly    hits with at least one reflection; light that was only totally reflected is left out
+//   3 TirOnly       hits with at least one total reflection, reflections or not
+//   4 StrayLight    hits with either
+mod filtering;
+mod refill;
+
+pub use filtering::Filtered;
+pub use filtering::filtered_part;
+pub use filtering::filtered_pixel_flux;
+pub use filtering::refilter;
+ghost use mathlib.Core.Path.{_≡_};
+ghost use Rattle.filter.specs.Filters.{filterOf, isAllOf, letsOf};
+
+pub enum RayPathFilter {
+    All,
+    SignalOnly,
+    GhostsOnly,
+    TirOnly,
+    StrayLight,
+}
+
+impl RayPathFilter {
+    // The largest number of a filter.
+    pub const LAST: u32 = 4;
+
+    // The filter of a number; a number beyond the last is the last.
+    pub fn numbered(number: u32) -> RayPathFilter
+        ensures { λ r. ⌜ r ≡ filterOf number ⌝ }
+    {
+        if number == 0 {
+            return RayPathFilter::All;
+        }
+        if number == 1 {
+            return RayPathFilter::SignalOnly;
+        }
+        if number == 2 {
+            return RayPathFilter::GhostsOnly;
+        }
+        if number == 3 {
+            return RayPathFilter::TirOnly;
+        }
+        RayPathFilter::StrayLight
+    }
+
+    pub fn is_all(self) -> bool
+        ensures { λ r. ⌜ r ≡ isAllOf self ⌝ }
+    {
+        match self {
+            RayPathFilter::All => true,
+            RayPathFilter::SignalOnly => false,
+            RayPathFilter::GhostsOnly => false,
+            RayPathFilter::TirOnly => false,
+            RayPathFilter::StrayLight => false,
+        }
+    }
+
+    // Whether it lets a hit with so many reflections and total reflections through.
+    pub fn lets(self, reflections: u32, tirs: u32) -> bool
+        ensures { λ r. ⌜ r ≡ letsOf self reflections tirs ⌝ }
+    {
+        match self {
+            RayPathFilter::All => true,
+            RayPathFilter::SignalOnly => {
+                if reflections == 0 {
+                    return tirs == 0;
+                }
+                false
+            }
+            RayPathFilter::GhostsOnly => reflections >= 1,
+            RayPathFilter::TirOnly => tirs > 0,
+            RayPathFilter::StrayLight => {
+                if reflections > 0 {
+                    return true;
+                }
+                tirs > 0
+            }
+        }
+    }
+}
