@@ -10,6 +10,7 @@ pub use face::Crossing;
 pub use face::Face;
 pub use face::RayCrossing;
 pub use pixels::Reading;
+pub use pixels::index_along;
 use rays::Vec3;
 
 // A detector's number, its place in the list of detectors. Never a solid's.

@@ -4,6 +4,7 @@ use detector::Crossed;
 use detector::Crossing;
 use detector::Detector2D;
 use detector::Reading;
+use detector::index_along;
 use fields::ReadWhole;
 use rays::Ray;
 use rays::Vec3;
@@ -16,7 +17,7 @@ use vector_lines::is_double;
 use vector_lines::vec_at;
 ghost use mathlib.Core.Path.{_≡_};
 ghost use Rattle.detector.specs.Faces.{crossedOf};
-ghost use Rattle.detector.specs.Pixels.{indexAlongOf, readingOf};
+ghost use Rattle.detector.specs.Pixels.{readingOf};
 ghost use Rattle.detector_lines.specs.DetectorLines.{wholeAt, isAnyWhole, gridOf, isIndex, detectorIn, rayIn, crossingGiven, isCrossingAt, isCrossing, crossingLine, gridIn, recordingGiven, isPixel, isArea, recordingLine};
 
 // Part k of a line as a decimal; 0 where it is malformed.
@@ -66,13 +67,6 @@ fn grid(width_mm: f64, height_mm: f64, res_x: u32, res_y: u32) -> Detector2D
         total_flux_watts: 0.0,
         total_rays_hit: 0,
     }
-}
-
-// Which of n steps along a size a place lies in: its pixel in a detector with one column.
-fn index_along(local: f64, size: f64, n: u32) -> usize
-    ensures { λ r. ⌜ r ≡ indexAlongOf local size n ⌝ }
-{
-    grid(1.0, size, 1, n).pixel_at(0.0, local)
 }
 
 // Whether part k of a line is which of n steps along a size a place lies in.

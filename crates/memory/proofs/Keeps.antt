@@ -28,11 +28,11 @@ kept g e (x ∷ l) zero (suc j) f = refl
 kept g e (x ∷ l) (suc i) zero f = refl
 kept g e (x ∷ l) (suc i) (suc j) f = kept g e l i j f
 
-same-pixels : (d : Detector2D) (f : Float) → pixelsOf (raised d f) ≡ pixelsOf d
+pub same-pixels : (d : Detector2D) (f : Float) → pixelsOf (raised d f) ≡ pixelsOf d
 unfolding pixelsOf
 same-pixels d f = refl
 
-same-pixel : (x y : Float) (d : Detector2D) (f : Float) → pixelAtOf (raised d f) x y ≡ pixelAtOf d x y
+pub same-pixel : (x y : Float) (d : Detector2D) (f : Float) → pixelAtOf (raised d f) x y ≡ pixelAtOf d x y
 unfolding pixelAtOf
 same-pixel x y d f = refl
 

@@ -6,3 +6,4 @@ pub mod Keeps
 pub mod Listed
 pub mod Plain
 pub mod Views
+pub mod Booked

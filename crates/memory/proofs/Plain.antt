@@ -166,6 +166,9 @@ module _ (s : Memory) (eight : length (s .detectors .list) ≡ 8) (empty : Empty
   pub record-keeps : (m : Memory) (h : DetectorHit) → Kept m → Kept (leftOf (recordHit m h))
   record-keeps m h e = rw e at (added-keeps (listed m) h (ap listed e))
 
+  pub record-lists : (m : Memory) (h : DetectorHit) → Kept m → listed (leftOf (recordHit m h)) ≡ leftOf (bookHit s (listed m) h)
+  record-lists m h e = ap (λ x. listed (leftOf (recordHit x h))) (sym e) ∙ ap listed (left-is (listed m) h) ∙ book-listed (listed m) h (ap listed e)
+
   -- the call that is open to hosts, refused or not
   pub recording-keeps : (m : Memory) (h : DetectorHit) → Kept m → Kept (leftOf (recordClassifiedOf m h))
   unfolding recordClassifiedOf

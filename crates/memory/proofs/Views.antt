@@ -156,11 +156,11 @@ module _ (s : Memory) (h : DetectorHit) (fits : Fits (s .detectors .list) h) whe
 
 -- ---- any number of hits
 
-pub AllFit : List Detector2D → List DetectorHit → Type 0
+unfoldable pub AllFit : List Detector2D → List DetectorHit → Type 0
 AllFit l [] = Unit {0}
 AllFit l (h ∷ b) = Fits l h × AllFit l b
 
-gridded-kept : (d e : Detector2D) → d .«res_x» ≡ e .«res_x» → d .«res_y» ≡ e .«res_y» → Gridded d → Gridded e
+pub gridded-kept : (d e : Detector2D) → d .«res_x» ≡ e .«res_x» → d .«res_y» ≡ e .«res_y» → Gridded d → Gridded e
 gridded-kept d e p q g = record { some-x = rw p at (g .some-x); some-y = rw q at (g .some-y); most-x = rw p at (g .most-x); most-y = rw q at (g .most-y) }
 
 fits-written : (s : Memory) (p : ℕ) (k h : DetectorHit) → Fits (s .detectors .list) h → Fits (writtenAt s p k .detectors .list) h

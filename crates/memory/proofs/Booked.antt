@@ -1,0 +1,135 @@
+-- What every recording keeps, from the empty memory on: the memory is the empty one with its listed hits added in list order, each of them on a detector that is there. Assumes nothing.
+use Prim.{Dec, yes, no, Unit, tt}
+use Prim.Native.Nat.{ℕ, zero, suc, _+_, _≤_, _<_}
+use mathlib.Core.Path.{_≡_, refl, ap, sym, subst, _∙_}
+use mathlib.Core.Bool.{Bool, true, false, cond, _&&_, _||_}
+use mathlib.Core.List.{List, [], _∷_, _++_}
+use native.Mathlib.Omega.{arith}
+use lib.Dec.{leb, ltb, eqb}
+use lib.Ieee.{Float}
+use lib.ListN.{length, getD}
+use borrow.Author.Tests.{lt-ltb, eq-eqb, eqb-true}
+use Rattle.doubles.proofs.Floats.{clash}
+use Rattle.error.specs.Refusals.{Checked, passed, refusedAt}
+use Rattle.detector.specs.declared.Detector2D.{Detector2D}
+use Rattle.detector.specs.Pixels.{pixelsOf, pixelAtOf}
+use Rattle.detector.proofs.Grid.{Gridded, pixel-in}
+use Rattle.memory.specs.declared.detectors.Detectors.{Detectors}
+use Rattle.memory.specs.declared.detectors.Placed.{Placed}
+use Rattle.memory.specs.declared.hits.DetectorHit.{DetectorHit}
+use Rattle.memory.specs.Detectors.{detectorAt, firstPixelOf, allPixelsOf, findOf}
+use Rattle.memory.specs.Memory.{Memory, done, refused, leftOf, listed, hitsFrom, cellOf, inMapsOf, holdsOf, judged, capacityOf, maxCount, raised, recordAt, recordHit, isHitListOf, areLengthsOf, isMemoryOf, unless, recordClassifiedOf, writtenAt}
+use Rattle.memory.specs.Plain.{Empty, added, viewOf, plusAll, bookHit, sharing, numberIn}
+use Rattle.memory.proofs.Passed.{Sound, asked-there, part-in}
+use Rattle.memory.proofs.Keeps.{kept, same-pixels, same-pixel}
+use Rattle.memory.proofs.Plain.{Kept, record-keeps, record-lists}
+use Rattle.memory.proofs.Views.{Fits, AllFit, gridded-kept, views}
+
+-- ---- after the checks a hit is never refused by 9
+
+lengths : (ds : Detectors) (nf nh nv nt used : ℕ) → areLengthsOf ds nf nh nv nt used ≡ true → (nf ≡ allPixelsOf ds) × (nh ≡ allPixelsOf ds) × (nv ≡ nt)
+unfolding areLengthsOf isHitListOf
+lengths ds nf nh nv nt used e = go (eqb nf (allPixelsOf ds)) (eqb nh (allPixelsOf ds)) (eqb nv nt) _ refl refl refl e
+  where
+    go : (x y z w : Bool) → eqb nf (allPixelsOf ds) ≡ x → eqb nh (allPixelsOf ds) ≡ y → eqb nv nt ≡ z → (x && (y && (z && w))) ≡ true → (nf ≡ allPixelsOf ds) × (nh ≡ allPixelsOf ds) × (nv ≡ nt)
+    go true true true w u v t e = (eqb-true _ _ u, eqb-true _ _ v, eqb-true _ _ t)
+    go false y z w u v t e = absurd (clash (sym e))
+    go true false z w u v t e = absurd (clash (sym e))
+    go true true false w u v t e = absurd (clash (sym e))
+
+pub holds-checked : (s : Memory) (h : DetectorHit) → Sound (s .detectors) → h .detector .0 < s .detectors .count → isMemoryOf s ≡ true → holdsOf s h ≡ true
+unfolding isMemoryOf holdsOf inMapsOf cellOf
+holds-checked s h sound k e =
+    let d = h .detector .0 in
+    let l = s .detectors .list in
+    let t = lengths _ _ _ _ _ _ e in
+    let i = pixel-in (detectorAt l d) (h .«local_x») (h .«local_y») (sound .each d k) in
+    let f = part-in (s .detectors) d (length (s .flux)) sound k (t .0) in
+    let g = part-in (s .detectors) d (length (s .hits)) sound k (t .1) in
+    rw (lt-ltb d 8 (omega (arith, sound .most)),
+        lt-ltb (firstPixelOf l d + pixelAtOf (detectorAt l d) (h .«local_x») (h .«local_y»)) (length (s .flux)) (omega (arith, i, f)),
+        lt-ltb (firstPixelOf l d + pixelAtOf (detectorAt l d) (h .«local_x») (h .«local_y»)) (length (s .hits)) (omega (arith, i, g)),
+        eq-eqb (length (s .values)) (length (s .tags)) (t .2))
+
+-- the call that is open to hosts, once the checks passed: only 12 and 13 are left
+pub checked-record : (s : Memory) (h : DetectorHit) (p : Placed) → findOf (s .detectors) (h .detector) ≡ passed p → isMemoryOf s ≡ true
+  → recordClassifiedOf s h ≡ recordAt s (cellOf (s .detectors .list) h) h
+unfolding recordClassifiedOf recordHit
+checked-record s h p e m =
+    let t = asked-there (s .detectors) (h .detector) p e in
+    rw (e, m, holds-checked s h (t .0) (t .1) m)
+
+-- ---- the detectors of the memory are those that it began with, but for totals and counts
+
+added-kept : {A : Type 0} (g : Detector2D → A) → ((d : Detector2D) (f : Float) → g (raised d f) ≡ g d) → (b : List DetectorHit) (s : Memory) (d : ℕ)
+  → g (detectorAt (added s b .detectors .list) d) ≡ g (detectorAt (s .detectors .list) d)
+unfolding added writtenAt
+added-kept g e [] s d = refl
+added-kept g e (h ∷ b) s d = added-kept g e b (writtenAt s _ h) d ∙ kept g e (s .detectors .list) (h .detector .0) d (h .«flux_watts»)
+
+grid-before : (b : List DetectorHit) (s : Memory) (d : ℕ) → Gridded (detectorAt (added s b .detectors .list) d) → Gridded (detectorAt (s .detectors .list) d)
+grid-before b s d g = gridded-kept _ _ (added-kept (λ d. d .«res_x») (λ d f. refl) b s d) (added-kept (λ d. d .«res_y») (λ d f. refl) b s d) g
+
+all-snoc : (l : List Detector2D) (b : List DetectorHit) (h : DetectorHit) → AllFit l b → Fits l h → AllFit l (b ++ h ∷ [])
+unfolding AllFit
+all-snoc l [] h f g = (g, tt)
+all-snoc l (k ∷ b) h f g = (f .0, all-snoc l b h (f .1) g)
+
+book-fits : (s : Memory) (b : List DetectorHit) (h : DetectorHit) → AllFit (s .detectors .list) b → Fits (s .detectors .list) h → AllFit (s .detectors .list) (leftOf (bookHit s b h))
+unfolding bookHit judged
+book-fits s b h f g = go (holdsOf s h) (leb (capacityOf s) (length b)) (eqb (sharing (cellOf (s .detectors .list)) (cellOf (s .detectors .list) h) b) maxCount || eqb (sharing numberIn (h .detector .0) b) maxCount)
+  where
+    go : (x y z : Bool) → AllFit (s .detectors .list) (leftOf (cond x (cond y (refused 12 0 b) (cond z (refused 13 0 b) (done (b ++ h ∷ [])))) (refused 9 0 b)))
+    go false y z = f
+    go true true z = f
+    go true false true = f
+    go true false false = all-snoc (s .detectors .list) b h f g
+
+-- ---- the invariant; s is the empty memory
+
+module _ (s : Memory) (eight : length (s .detectors .list) ≡ 8) (empty : Empty s) where
+  pub record Booked (m : Memory) : Type 0 where
+    pub kept : Kept s eight empty m
+    pub fit : AllFit (s .detectors .list) (listed m)
+
+  pub empty-booked : Booked s
+  unfolding added AllFit hitsFrom
+  empty-booked = record { kept = ap (added s) none; fit = subst (λ b. AllFit (s .detectors .list) b) (sym none) tt }
+    where
+      none : listed s ≡ []
+      none = ap (λ n. hitsFrom (s .values) (s .tags) n 0) (empty .used)
+
+  -- one hit of a detector that is there into any such memory, as in a run
+  pub record-books : (m : Memory) (h : DetectorHit) → Fits (s .detectors .list) h → Booked m → Booked (leftOf (recordHit m h))
+  record-books m h g b =
+      record { kept = record-keeps s eight empty m h (b .kept); fit = subst (λ b. AllFit (s .detectors .list) b) (sym (record-lists s eight empty m h (b .kept))) (book-fits s (listed m) h (b .fit) g) }
+
+  -- a hit whose detector passed the checks
+  asked-fits : (m : Memory) (h : DetectorHit) (p : Placed) → Booked m → findOf (m .detectors) (h .detector) ≡ passed p → Fits (s .detectors .list) h
+  asked-fits m h p b e =
+      let t = asked-there (m .detectors) (h .detector) p e in
+      let g = t .0 .each (h .detector .0) (t .1) in
+      record {
+        named = omega (arith, t .0 .most, t .1, eight);
+        grid = grid-before (listed m) s (h .detector .0) (subst (λ (x : Memory). Gridded (detectorAt (x .detectors .list) (h .detector .0))) (sym (b .kept)) g) }
+
+  -- the call that is open to hosts, refused or not
+  pub recording-books : (m : Memory) (h : DetectorHit) → Booked m → Booked (leftOf (recordClassifiedOf m h))
+  unfolding recordClassifiedOf
+  recording-books m h b = go (findOf (m .detectors) (h .detector)) (isMemoryOf m) refl
+    where
+      go : (c : Checked Placed) (x : Bool) → findOf (m .detectors) (h .detector) ≡ c → Booked (leftOf (unless c m (cond x (recordHit m h) (refused 9 0 m))))
+      go (passed p) true e = record-books m h (asked-fits m h p b e) b
+      go (passed p) false e = b
+      go (refusedAt n place) x e = b
+
+  -- each detector's maps, total and count are what zeros become when its listed hits are added in list order
+  pub booked-view : (m : Memory) (d : ℕ) → Booked m → viewOf m d ≡ plusAll d (detectorAt (s .detectors .list) d) (viewOf s d) (listed m)
+  booked-view m d b = ap (λ x. viewOf x d) (sym (b .kept)) ∙ views (listed m) s d (b .fit)
+
+  -- its pixels are those that it began with
+  pub booked-pixels : (m : Memory) (d : ℕ) → Booked m → pixelsOf (detectorAt (m .detectors .list) d) ≡ pixelsOf (detectorAt (s .detectors .list) d)
+  booked-pixels m d b = ap (λ x. pixelsOf (detectorAt (x .detectors .list) d)) (sym (b .kept)) ∙ added-kept pixelsOf same-pixels (listed m) s d
+
+  pub booked-pixel : (m : Memory) (d : ℕ) → Booked m → (x y : Float) → pixelAtOf (detectorAt (m .detectors .list) d) x y ≡ pixelAtOf (detectorAt (s .detectors .list) d) x y
+  booked-pixel m d b x y = ap (λ z. pixelAtOf (detectorAt (z .detectors .list) d) x y) (sym (b .kept)) ∙ added-kept (λ e. pixelAtOf e x y) (same-pixel x y) (listed m) s d
