@@ -41,7 +41,7 @@ views-flux e d [] v = refl
 views-flux e d (h ∷ b) v = rw (and-true (eqb (h .detector .0) (d .0))) (go (eqb (h .detector .0) (d .0)) (views-flux e d b v) (views-flux e d b (plusHit e v h)))
   where
     go : (x : Bool) → fluxOf (plusAll (d .0) e v b) ≡ plusEach e (fluxOf v) (passing All d b) → fluxOf (plusAll (d .0) e (plusHit e v h) b) ≡ plusEach e (fluxOf (plusHit e v h)) (passing All d b)
-      → fluxOf (plusAll (d .0) e (cond x (plusHit e v h) v) b) ≡ plusEach e (fluxOf v) (cond x (h ∷ passing All d b) (passing All d b))
+        → fluxOf (plusAll (d .0) e (cond x (plusHit e v h) v) b) ≡ plusEach e (fluxOf v) (cond x (h ∷ passing All d b) (passing All d b))
     go true p q = q ∙ ap (λ m. plusEach e m (passing All d b)) (plus-flux e v h)
     go false p q = p
 
@@ -65,7 +65,7 @@ each-same e e′ f [] m = refl
 each-same e e′ f (h ∷ b) m = rw (f (h .«local_x») (h .«local_y»)) (each-same e e′ f b _)
 
 module _ (s : Memory) (eight : length (s .detectors .list) ≡ 8) (empty : Empty s) (m : Memory) (booked : Booked s eight empty m) (d : DetectorNo) (there : d .0 < 8)
-  (within : firstPixelOf (s .detectors .list) (d .0) + pixelsOf (detectorAt (s .detectors .list) (d .0)) ≤ length (s .flux)) where
+    (within : firstPixelOf (s .detectors .list) (d .0) + pixelsOf (detectorAt (s .detectors .list) (d .0)) ≤ length (s .flux)) where
   abbrev own : Detector2D
   own = detectorAt (m .detectors .list) (d .0)
 

@@ -23,7 +23,7 @@ use Rattle.memory.specs.Memory.{hitsFrom, isHitListOf}
 use Rattle.memory.proofs.Passed.{asked-there, part-in, never}
 use Rattle.filter.specs.declared.RayPathFilter.{RayPathFilter}
 use Rattle.filter.specs.Filters.{#0, Map, isAllOf, refilledOf}
-use Rattle.filter.specs.Handed.{Handed, handed, fromMap, checkPlacedOf, checkFilterOf, refilterPlacedOf, refilterOf, partPlacedOf, filteredPartOf, filteredPlacedOf, filteredPixelFluxOf, numbered, inNumbersOf}
+use Rattle.filter.specs.Handed.{Handed, handed, fromMap, checkPlacedOf, checkFilterOf, refilterPlacedOf, refilterOf, storedPartOf, partPlacedOf, filteredPartOf, filteredPlacedOf, filteredPixelFluxOf, numbered, inNumbersOf}
 
 -- ---- which of the two slices is handed back: what cannot be where a return stands
 
@@ -64,43 +64,42 @@ module _ (ds : Detectors) (asked : DetectorNo) (f : RayPathFilter) (stored work 
     unfolding refilterOf refilterPlacedOf
     refilter-sifted t m e = rw (← said, k, ← told, t, e)
 
-    -- the code's end of the part
-    ends : (n : ℕ) → n ≡ pixelsOf (p .detector) → p .first + n - p .first ≡ pixelsOf (p .detector)
-    ends n e = omega (arith, e)
-
-    pub part-all : b ≡ true → (n : ℕ) → n ≡ pixelsOf (p .detector) → take (p .first + n - p .first) (drop (p .first) stored) ≡ filteredPartOf ds asked f stored work values tags used
+    pub part-all : b ≡ true → (w : List Float) → w ≡ storedPartOf p stored → w ≡ filteredPartOf ds asked f stored work values tags used
     unfolding filteredPartOf partPlacedOf
-    part-all t n e = rw (ends n e, ← said, k, ← told, t)
+    part-all t w e = rw (e, ← said, k, ← told, t)
 
     pub part-work : b ≡ false → work ≡ filteredPartOf ds asked f stored work values tags used
     unfolding filteredPartOf partPlacedOf
     part-work t = rw (← said, k, ← told, t)
 
-    pub flux-all : b ≡ true → (n : ℕ) → n ≡ pixelsOf (p .detector)
-        → handed (passed tt) (take (p .first + n - p .first) (drop (p .first) stored)) (p .detector .«total_flux_watts») (p .detector .«total_rays_hit»)
-        ≡ filteredPixelFluxOf ds asked f stored work values tags used
+    pub flux-all : b ≡ true → (w : List Float) → w ≡ storedPartOf p stored
+        → handed (passed tt) w (p .detector .«total_flux_watts») (p .detector .«total_rays_hit») ≡ filteredPixelFluxOf ds asked f stored work values tags used
     unfolding filteredPixelFluxOf filteredPlacedOf refilterPlacedOf partPlacedOf
-    flux-all t n e = rw (ends n e, ← said, k, ← told, t)
+    flux-all t w e = rw (e, ← said, k, ← told, t)
 
     pub flux-sifted : b ≡ false → (m : Map) → m ≡ refilledOf f asked (p .detector) (length work) hits → fromMap m ≡ filteredPixelFluxOf ds asked f stored work values tags used
     unfolding filteredPixelFluxOf filteredPlacedOf refilterPlacedOf partPlacedOf
     flux-sifted t m e = rw (← said, k, ← told, t, e)
 
+-- the code's end of the part
+pub part-ends : (p : Placed) (n : ℕ) (stored : List Float) → n ≡ pixelsOf (p .detector) → take (p .first + n - p .first) (drop (p .first) stored) ≡ storedPartOf p stored
+unfolding storedPartOf
+part-ends p n stored e = let q : p .first + n - p .first ≡ pixelsOf (p .detector) = omega (arith, e) in rw q
+
 -- the part of the asked detector lies in the stored map
-pub part-fits : (ds : Detectors) (asked : DetectorNo) (stored work values tags used : ℕ) (a : Found) (p : Placed) (n : ℕ)
-    → foundOf a ≡ checkFilterOf ds asked stored work values tags used → a ≡ There p → n ≡ pixelsOf (p .detector) → p .first + n ≤ stored
+pub part-fits : (ds : Detectors) (asked : DetectorNo) (stored work values tags used : ℕ) (a : Found) (p : Placed)
+    → foundOf a ≡ checkFilterOf ds asked stored work values tags used → a ≡ There p → p .first + pixelsOf (p .detector) ≤ stored
 unfolding checkFilterOf checkPlacedOf placedOf
-part-fits ds asked stored work values tags used a p n said k e = go (findOf ds asked) refl (sym (sym (ap foundOf k) ∙ said))
+part-fits ds asked stored work values tags used a p said k = go (findOf ds asked) refl (sym said ∙ ap foundOf k)
   where
-    inner : (x y : Bool) (q : Placed) → eqb stored (allPixelsOf ds) ≡ x → findOf ds asked ≡ passed q → cond (x && y) (passed q) (refusedAt 9 0) ≡ passed p → p .first + n ≤ stored
+    inner : (x y : Bool) (q : Placed) → eqb stored (allPixelsOf ds) ≡ x → findOf ds asked ≡ passed q → cond (x && y) (passed q) (refusedAt 9 0) ≡ passed p → p .first + pixelsOf (p .detector) ≤ stored
     inner false y q u v r = never 9 0 p r
     inner true false q u v r = never 9 0 p r
     inner true true q u v r =
         let t = asked-there ds asked p (v ∙ r) in
         let z = part-in ds (asked .0) stored (t .0) (t .1) (eqb-true stored (allPixelsOf ds) u) in
-        let w : p .first + pixelsOf (p .detector) ≤ stored = rw (t .2) z in
-        omega (arith, w, e)
+        rw (t .2) z
 
-    go : (c : Checked Placed) → findOf ds asked ≡ c → checkPlacedOf ds stored work values tags used c ≡ passed p → p .first + n ≤ stored
+    go : (c : Checked Placed) → findOf ds asked ≡ c → checkPlacedOf ds stored work values tags used c ≡ passed p → p .first + pixelsOf (p .detector) ≤ stored
     go (passed q) v r = inner (eqb stored (allPixelsOf ds)) (eqb work (pixelsOf (q .detector)) && isHitListOf values tags used) q refl v r
     go (refusedAt m place) v r = never m place p r

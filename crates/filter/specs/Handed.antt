@@ -55,8 +55,11 @@ refilterOf ds asked f stored work values tags used =
 
 -- ---- the part that is handed back: of the stored map for All, else the work map; an empty one where the call is refused
 
+unfoldable pub storedPartOf : Placed → List Float → List Float
+storedPartOf p stored = take (pixelsOf (p .detector)) (drop (p .first) stored)
+
 unfoldable pub partPlacedOf : RayPathFilter → List Float → List Float → Checked Placed → List Float
-partPlacedOf f stored work (passed p) = cond (isAllOf f) (take (pixelsOf (p .detector)) (drop (p .first) stored)) work
+partPlacedOf f stored work (passed p) = cond (isAllOf f) (storedPartOf p stored) work
 partPlacedOf f stored work (refusedAt n place) = []
 
 unfoldable pub filteredPartOf : Detectors → DetectorNo → RayPathFilter → List Float → List Float → List Float → List ℕ → ℕ → List Float

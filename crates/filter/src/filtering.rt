@@ -10,13 +10,15 @@ use memory::Found;
 use memory::Placed;
 use memory::is_hit_list;
 ghost use mathlib.Core.Path.{_≡_};
+ghost use Prim.Native.Nat.{_+_, _≤_};
 ghost use lib.ListN.{length};
+ghost use Rattle.detector.specs.Pixels.{pixelsOf};
 ghost use mathlib.Core.Bool.{true, false};
 ghost use Rattle.error.specs.Refusals.{passed};
 ghost use Rattle.memory.specs.declared.detectors.Placed.{Placed};
 ghost use Rattle.memory.specs.Detectors.{foundOf};
 ghost use Rattle.filter.specs.Filters.{isAllOf};
-ghost use Rattle.filter.specs.Handed.{checkFilterOf, filteredOf, refilterOf, filteredPartOf, numbered, inNumbersOf, filteredPixelFluxOf};
+ghost use Rattle.filter.specs.Handed.{checkFilterOf, filteredOf, refilterOf, storedPartOf, filteredPartOf, numbered, inNumbersOf, filteredPixelFluxOf};
 
 // The refusal or none, and the total and the count of the hits under the filter; 0 and 0 where refused.
 pub struct Filtered {
@@ -105,6 +107,18 @@ pub fn refilter(
     }
 }
 
+// The part of the stored map that holds a detector's pixels.
+fn stored_part<'a>(p: Placed, stored: &'a [f64]) -> &'a [f64]
+    requires { ⌜ p .first + pixelsOf (p .detector) ≤ length (now stored) ⌝ }
+    ensures { λ r. ⌜ now r ≡ storedPartOf p (now (stored .entry)) ⌝ }
+    ensures { λ r. ⌜ r .ptr .0 ≡ stored .entry .ptr .0 ⌝ }
+{
+    let d = p.detector;
+    let first = p.first;
+    let end = first + d.pixels();
+    &stored[first..end]
+}
+
 // Second of two calls: the stored map's part of the detector for All, the work map for the others, an
 // empty part where the call is refused.
 pub fn filtered_part<'a>(
@@ -136,10 +150,7 @@ pub fn filtered_part<'a>(
         Found::Refused { error: _, place: _ } => &stored[0..0],
         Found::There(p) => {
             if filter.is_all() {
-                let d = p.detector;
-                let first = p.first;
-                let end = first + d.pixels();
-                return &stored[first..end];
+                return stored_part(p, stored);
             }
             work
         }
@@ -192,9 +203,7 @@ pub fn filtered_pixel_flux<'a>(
             if filter.is_all() {
                 *total = d.total_flux_watts;
                 *count = d.total_rays_hit as usize;
-                let first = p.first;
-                let end = first + d.pixels();
-                return &stored[first..end];
+                return stored_part(p, stored);
             }
             let t = refill(filter, asked, d, work, values, tags, used);
             *total = t.total;

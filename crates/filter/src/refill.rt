@@ -19,10 +19,10 @@ pub struct Tally {
 fn clear(work: &mut [f64])
     ensures { λ _. ⌜ now (work .exit) ≡ replicate (length (now (work .entry))) #0 ⌝ }
 {
-    let mut i: usize = 0;
-    while i < work.len() {
-        work[i] = 0.0;
-        i += 1;
+    let mut p: usize = 0;
+    while p < work.len() {
+        work[p] = 0.0;
+        p += 1;
     }
 }
 

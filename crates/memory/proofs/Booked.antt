@@ -46,14 +46,16 @@ holds-checked s h sound k e =
     let i = pixel-in (detectorAt l d) (h .«local_x») (h .«local_y») (sound .each d k) in
     let f = part-in (s .detectors) d (length (s .flux)) sound k (t .0) in
     let g = part-in (s .detectors) d (length (s .hits)) sound k (t .1) in
-    rw (lt-ltb d 8 (omega (arith, sound .most)),
-        lt-ltb (firstPixelOf l d + pixelAtOf (detectorAt l d) (h .«local_x») (h .«local_y»)) (length (s .flux)) (omega (arith, i, f)),
-        lt-ltb (firstPixelOf l d + pixelAtOf (detectorAt l d) (h .«local_x») (h .«local_y»)) (length (s .hits)) (omega (arith, i, g)),
-        eq-eqb (length (s .values)) (length (s .tags)) (t .2))
+    rw (
+      lt-ltb d 8 (omega (arith, sound .most)),
+      lt-ltb (firstPixelOf l d + pixelAtOf (detectorAt l d) (h .«local_x») (h .«local_y»)) (length (s .flux)) (omega (arith, i, f)),
+      lt-ltb (firstPixelOf l d + pixelAtOf (detectorAt l d) (h .«local_x») (h .«local_y»)) (length (s .hits)) (omega (arith, i, g)),
+      eq-eqb (length (s .values)) (length (s .tags)) (t .2),
+    )
 
 -- the call that is open to hosts, once the checks passed: only 12 and 13 are left
 pub checked-record : (s : Memory) (h : DetectorHit) (p : Placed) → findOf (s .detectors) (h .detector) ≡ passed p → isMemoryOf s ≡ true
-  → recordClassifiedOf s h ≡ recordAt s (cellOf (s .detectors .list) h) h
+    → recordClassifiedOf s h ≡ recordAt s (cellOf (s .detectors .list) h) h
 unfolding recordClassifiedOf recordHit
 checked-record s h p e m =
     let t = asked-there (s .detectors) (h .detector) p e in
@@ -62,7 +64,7 @@ checked-record s h p e m =
 -- ---- the detectors of the memory are those that it began with, but for totals and counts
 
 added-kept : {A : Type 0} (g : Detector2D → A) → ((d : Detector2D) (f : Float) → g (raised d f) ≡ g d) → (b : List DetectorHit) (s : Memory) (d : ℕ)
-  → g (detectorAt (added s b .detectors .list) d) ≡ g (detectorAt (s .detectors .list) d)
+    → g (detectorAt (added s b .detectors .list) d) ≡ g (detectorAt (s .detectors .list) d)
 unfolding added writtenAt
 added-kept g e [] s d = refl
 added-kept g e (h ∷ b) s d = added-kept g e b (writtenAt s _ h) d ∙ kept g e (s .detectors .list) (h .detector .0) d (h .«flux_watts»)
@@ -111,7 +113,8 @@ module _ (s : Memory) (eight : length (s .detectors .list) ≡ 8) (empty : Empty
       let g = t .0 .each (h .detector .0) (t .1) in
       record {
         named = omega (arith, t .0 .most, t .1, eight);
-        grid = grid-before (listed m) s (h .detector .0) (subst (λ (x : Memory). Gridded (detectorAt (x .detectors .list) (h .detector .0))) (sym (b .kept)) g) }
+        grid = grid-before (listed m) s (h .detector .0) (subst (λ (x : Memory). Gridded (detectorAt (x .detectors .list) (h .detector .0))) (sym (b .kept)) g);
+      }
 
   -- the call that is open to hosts, refused or not
   pub recording-books : (m : Memory) (h : DetectorHit) → Booked m → Booked (leftOf (recordClassifiedOf m h))

@@ -1,6 +1,5 @@
 -- `filter::filtering::filtered_part` meets its contract. Assumes nothing.
 use mathlib.Core.Path.{refl}
-use native.Mathlib.Omega.{arith}
 use Rattle.filter.proofs.Hands.{part-fits, part-refused, part-all, part-work, not-passed, not-other, not-all}
 use borrow.Author.Needs.{needs}
 use Rattle.filter.proofs.filtering.filtered_part.Statement.{statement}
@@ -27,31 +26,16 @@ enum-known-p c = search needs
 is-all-requires : tie.Need-is-all-requires
 is-all-requires c κs = search needs
 
-pixels-requires : tie.Need-pixels-requires
-pixels-requires c κs = search needs
-
-add-end : tie.Need-add-end
-add-end c = omega (arith, part-fits _ _ _ _ _ _ _ _ _ _ (c .before .before .before .before .before .before .before .check-filter .ensures) (c .before .before .before .before .before .p .given .1) (c .pixels .ensures), c .before .before .before .before .before .before .before .before .before .before .before .before .good)
-
-mul-result : tie.Need-mul-result
-mul-result c = omega (arith, part-fits _ _ _ _ _ _ _ _ _ _ (c .before .before .before .before .before .before .before .check-filter .ensures) (c .before .before .before .before .before .p .given .1) (c .pixels .ensures), c .before .before .before .before .before .before .before .before .before .before .before .before .good)
-
-sub-result-2 : tie.Need-sub-result-2
-sub-result-2 c = search needs
-
-part-result-start-2 : tie.Need-part-result-start-2
-part-result-start-2 c = search needs
-
-part-result-end-2 : tie.Need-part-result-end-2
-part-result-end-2 c = part-fits _ _ _ _ _ _ _ _ _ _ (c .before .before .before .before .before .before .before .check-filter .ensures) (c .before .before .before .before .before .p .given .1) (c .pixels .ensures)
+stored-part-requires : tie.Need-stored-part-requires
+stored-part-requires c κs = part-fits _ _ _ _ _ _ _ _ _ (c .before .before .before .before .before .check-filter .ensures) (c .before .before .before .p .given .1)
 
 returns : tie.Need-returns
 returns c =
-    let e = c .before .before .before .before .before .before .before .before .check-filter .ensures in
-    let k = c .before .before .before .before .before .before .p .given .1 in
-    let b = c .before .before .before .before .is-all .ensures in
-    let t = c .before .before .before .if1 .taken in
-    (part-all _ _ _ _ _ _ _ _ _ e _ k _ b t _ (c .before .pixels .ensures), (λ q. refl, λ p q g. not-other _ _ b t q))
+    let e = c .before .before .before .before .before .before .check-filter .ensures in
+    let k = c .before .before .before .before .p .given .1 in
+    let b = c .before .before .is-all .ensures in
+    let t = c .before .if1 .taken in
+    (part-all _ _ _ _ _ _ _ _ _ e _ k _ b t _ (c .stored-part .ensures .0), (λ q. c .stored-part .ensures .1, λ p q g. not-other _ _ b t q))
 
 returns-2 : tie.Need-returns-2
 returns-2 c =
@@ -78,12 +62,7 @@ filtered-part-spec =
     part-result-end
     enum-known-p
     is-all-requires
-    pixels-requires
-    add-end
-    mul-result
-    sub-result-2
-    part-result-start-2
-    part-result-end-2
+    stored-part-requires
     returns
     returns-2
     returns-3)

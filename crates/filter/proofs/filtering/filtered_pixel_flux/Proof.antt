@@ -1,5 +1,4 @@
 -- `filter::filtering::filtered_pixel_flux` meets its contract. Assumes nothing.
-use native.Mathlib.Omega.{arith}
 use mathlib.Core.Path.{refl, ap}
 use Rattle.filter.specs.Handed.{inNumbersOf}
 use Rattle.filter.proofs.Hands.{part-fits, flux-refused, flux-all, flux-sifted, not-passed, not-other, not-all}
@@ -34,31 +33,16 @@ is-all-requires c κs = search needs
 cast-count : tie.Need-cast-count
 cast-count c = search needs
 
-pixels-requires : tie.Need-pixels-requires
-pixels-requires c κs = search needs
-
-add-end : tie.Need-add-end
-add-end c = omega (arith, part-fits _ _ _ _ _ _ _ _ _ _ (c .before .before .before .before .before .before .before .before .check-filter .ensures) (c .before .before .before .before .before .before .p .given .1) (c .pixels .ensures), c .before .before .before .before .before .before .before .before .before .before .before .before .before .good)
-
-mul-result : tie.Need-mul-result
-mul-result c = omega (arith, part-fits _ _ _ _ _ _ _ _ _ _ (c .before .before .before .before .before .before .before .before .check-filter .ensures) (c .before .before .before .before .before .before .p .given .1) (c .pixels .ensures), c .before .before .before .before .before .before .before .before .before .before .before .before .before .good)
-
-sub-result-2 : tie.Need-sub-result-2
-sub-result-2 c = search needs
-
-part-result-start-2 : tie.Need-part-result-start-2
-part-result-start-2 c = search needs
-
-part-result-end-2 : tie.Need-part-result-end-2
-part-result-end-2 c = part-fits _ _ _ _ _ _ _ _ _ _ (c .before .before .before .before .before .before .before .before .check-filter .ensures) (c .before .before .before .before .before .before .p .given .1) (c .pixels .ensures)
+stored-part-requires : tie.Need-stored-part-requires
+stored-part-requires c κs = part-fits _ _ _ _ _ _ _ _ _ (c .before .before .before .before .before .before .before .check-filter .ensures) (c .before .before .before .before .before .p .given .1)
 
 returns : tie.Need-returns
 returns c =
-    let e = c .before .before .before .before .before .before .before .before .before .check-filter .ensures in
-    let k = c .before .before .before .before .before .before .before .p .given .1 in
-    let b = c .before .before .before .before .is-all .ensures in
-    let t = c .before .before .before .if1 .taken in
-    (ap inNumbersOf (flux-all _ _ _ _ _ _ _ _ _ e _ k _ b t _ (c .before .pixels .ensures)), (λ q. refl, λ p q g. not-other _ _ b t q))
+    let e = c .before .before .before .before .before .before .before .before .check-filter .ensures in
+    let k = c .before .before .before .before .before .before .p .given .1 in
+    let b = c .before .before .before .is-all .ensures in
+    let t = c .before .before .if1 .taken in
+    (ap inNumbersOf (flux-all _ _ _ _ _ _ _ _ _ e _ k _ b t _ (c .stored-part .ensures .0)), (λ q. c .stored-part .ensures .1, λ p q g. not-other _ _ b t q))
 
 refill-requires : tie.Need-refill-requires
 refill-requires c κs = search needs
@@ -90,12 +74,7 @@ filtered-pixel-flux-spec =
     enum-known-p
     is-all-requires
     cast-count
-    pixels-requires
-    add-end
-    mul-result
-    sub-result-2
-    part-result-start-2
-    part-result-end-2
+    stored-part-requires
     returns
     refill-requires
     returns-2

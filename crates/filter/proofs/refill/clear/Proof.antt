@@ -13,10 +13,10 @@ use Rattle.filter.proofs.refill.clear.Statement.{statement}
 use Rattle.filter.proofs.refill.clear.Tie as tie
 
 abbrev Inv-loop : tie.InvT-loop
-Inv-loop work₀ i₀ work i = (i ≤ length work₀) × (length work ≡ length work₀) × (work ≡ replicate i #0 ++ drop i work₀)
+Inv-loop work₀ p₀ work p = (p ≤ length work₀) × (length work ≡ length work₀) × (work ≡ replicate p #0 ++ drop p work₀)
 
 abbrev μ-loop : tie.MeasureT-loop
-μ-loop work₀ i₀ work i = length work₀ - i
+μ-loop work₀ p₀ work p = length work₀ - p
 
 loop-holds : tie.Need-loop-holds Inv-loop μ-loop
 loop-holds c = (omega arith, refl, refl)
@@ -27,8 +27,8 @@ mul-work c = search needs
 slice-write-work : tie.Need-slice-write-work Inv-loop μ-loop
 slice-write-work c = omega arith
 
-add-i : tie.Need-add-i Inv-loop μ-loop
-add-i c = search needs
+add-p : tie.Need-add-p Inv-loop μ-loop
+add-p c = search needs
 
 loop-less : tie.Need-loop-less Inv-loop μ-loop
 loop-less c = omega arith
@@ -36,7 +36,7 @@ loop-less c = omega arith
 loop-again : tie.Need-loop-again Inv-loop μ-loop
 loop-again c =
     let v = c .before .loop .inv in
-    (omega arith, simp length-set (v .1), ap (λ l. set l (c .before .loop .i) #0) (v .2) ∙ fill-more (c .before .loop .i) #0 _ (omega arith))
+    (omega arith, simp length-set (v .1), ap (λ l. set l (c .before .loop .p) #0) (v .2) ∙ fill-more (c .before .loop .p) #0 _ (omega arith))
 
 same-length : tie.Need-same-length Inv-loop μ-loop
 same-length c = c .before .loop .inv .1
@@ -44,7 +44,7 @@ same-length c = c .before .loop .inv .1
 returns : tie.Need-returns Inv-loop μ-loop
 returns c =
     let w = now (c .before .before .args .work) in
-    let e : c .before .loop .i ≡ length w = omega arith in
+    let e : c .before .loop .p ≡ length w = omega arith in
     c .before .loop .inv .2 ∙ rw (e, drop-length, append-nil)
 
 pub clear-spec : {M : Type 1} → statement M
@@ -56,7 +56,7 @@ clear-spec =
     loop-holds
     mul-work
     slice-write-work
-    add-i
+    add-p
     loop-less
     loop-again
     same-length
