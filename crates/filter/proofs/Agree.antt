@@ -13,7 +13,7 @@ use Rattle.detector.specs.declared.DetectorNo.{DetectorNo}
 use Rattle.detector.specs.declared.Detector2D.{Detector2D}
 use Rattle.detector.specs.Pixels.{pixelsOf, pixelAtOf}
 use Rattle.memory.specs.declared.hits.DetectorHit.{DetectorHit}
-use Rattle.memory.specs.Detectors.{detectorAt, firstPixelOf}
+use Rattle.detectors.specs.Detectors.{detectorAt, firstPixelOf}
 use Rattle.memory.specs.Memory.{Memory, listed}
 use Rattle.memory.specs.Plain.{Empty, View, partOf, viewOf, plusHit, plusAll}
 use Rattle.memory.proofs.Booked.{Booked, booked-view, booked-pixels, booked-pixel}

@@ -1,4 +1,3 @@
 -- What holds of the definitions.
 pub mod Sift
-pub mod Hands
 pub mod Agree

@@ -11,7 +11,7 @@ use Rattle.detector.specs.Pixels.{pixelAtOf}
 use Rattle.memory.specs.declared.hits.DetectorHit.{DetectorHit}
 use Rattle.filter.specs.declared.RayPathFilter.{RayPathFilter}
 use Rattle.filter.specs.declared.RayPathFilter.the-variants.{All, SignalOnly, GhostsOnly, TirOnly, StrayLight}
-use Rattle.filter.specs.declared.refill.Tally.{Tally}
+use Rattle.filter.specs.declared.sifting.Tally.{Tally}
 
 abbrev pub lastFilter : ℕ
 lastFilter = 4

@@ -14,13 +14,13 @@ use Rattle.error.specs.Refusals.{Checked, passed, refusedAt}
 use Rattle.detector.specs.declared.Detector2D.{Detector2D}
 use Rattle.detector.specs.Pixels.{pixelsOf, pixelAtOf}
 use Rattle.detector.proofs.Grid.{Gridded, pixel-in}
-use Rattle.memory.specs.declared.detectors.Detectors.{Detectors}
-use Rattle.memory.specs.declared.detectors.Placed.{Placed}
+use Rattle.detectors.specs.declared.Detectors.{Detectors}
+use Rattle.detectors.specs.declared.Placed.{Placed}
 use Rattle.memory.specs.declared.hits.DetectorHit.{DetectorHit}
-use Rattle.memory.specs.Detectors.{detectorAt, firstPixelOf, allPixelsOf, findOf}
-use Rattle.memory.specs.Memory.{Memory, done, refused, leftOf, listed, hitsFrom, cellOf, inMapsOf, holdsOf, judged, capacityOf, maxCount, raised, recordAt, recordHit, isHitListOf, areLengthsOf, isMemoryOf, unless, recordClassifiedOf, writtenAt}
+use Rattle.detectors.specs.Detectors.{detectorAt, firstPixelOf, allPixelsOf, placedOf, findOf}
+use Rattle.memory.specs.Memory.{Memory, done, refused, leftOf, listed, hitsFrom, cellInOf, cellOf, inMapsOf, holdsOf, judged, capacityOf, maxCount, raised, recordAt, recordHit, isHitListOf, areLengthsOf, isMemoryOf, unless, recordClassifiedOf, writtenAt}
 use Rattle.memory.specs.Plain.{Empty, added, viewOf, plusAll, bookHit, sharing, numberIn}
-use Rattle.memory.proofs.Passed.{Sound, asked-there, part-in}
+use Rattle.detectors.proofs.Passed.{Sound, asked-there, part-in}
 use Rattle.memory.proofs.Keeps.{kept, same-pixels, same-pixel}
 use Rattle.memory.proofs.Plain.{Kept, record-keeps, record-lists}
 use Rattle.memory.proofs.Views.{Fits, AllFit, gridded-kept, views}
@@ -38,7 +38,7 @@ lengths ds nf nh nv nt used e = go (eqb nf (allPixelsOf ds)) (eqb nh (allPixelsO
     go true true false w u v t e = absurd (clash (sym e))
 
 pub holds-checked : (s : Memory) (h : DetectorHit) → Sound (s .detectors) → h .detector .0 < s .detectors .count → isMemoryOf s ≡ true → holdsOf s h ≡ true
-unfolding isMemoryOf holdsOf inMapsOf cellOf
+unfolding isMemoryOf holdsOf inMapsOf cellOf cellInOf placedOf
 holds-checked s h sound k e =
     let d = h .detector .0 in
     let l = s .detectors .list in

@@ -9,8 +9,8 @@ use lib.ListN.{length, getD, set, length-set}
 use Rattle.detector.specs.declared.Detector2D.{Detector2D}
 use Rattle.detector.specs.Pixels.{pixelsOf, pixelAtOf}
 use Rattle.memory.specs.declared.hits.DetectorHit.{DetectorHit}
-use Rattle.memory.specs.Detectors.{noDetector, detectorAt, firstPixelOf}
-use Rattle.memory.specs.Memory.{Memory, capacityOf, raised, four, cellOf, inMapsOf, holdsOf, writtenAt}
+use Rattle.detectors.specs.Detectors.{noDetector, detectorAt, firstPixelOf, placedOf}
+use Rattle.memory.specs.Memory.{Memory, capacityOf, raised, four, cellInOf, cellOf, inMapsOf, holdsOf, writtenAt}
 use Rattle.memory.specs.Plain.{added}
 
 pub length-four : (A : Type 0) (l : List A) (i : ℕ) (a b c d : A) → length (four A l i a b c d) ≡ length l
@@ -42,7 +42,7 @@ first-kept l i zero f = refl
 first-kept l i (suc n) f = rw (first-kept l i n f, kept pixelsOf same-pixels l i n f)
 
 cell-kept : (l : List Detector2D) (i : ℕ) (f : Float) (h : DetectorHit) → cellOf (set l i (raised (detectorAt l i) f)) h ≡ cellOf l h
-unfolding cellOf
+unfolding cellOf cellInOf placedOf
 cell-kept l i f h = rw (first-kept l i (h .detector .0) f, kept (λ d. pixelAtOf d (h .«local_x») (h .«local_y»)) (same-pixel (h .«local_x») (h .«local_y»)) l i (h .detector .0) f)
 
 -- ---- one hit written at any place

@@ -1,7 +1,5 @@
 -- What holds of the definitions.
-pub mod Lists
 pub mod Records
-pub mod Passed
 pub mod Keeps
 pub mod Listed
 pub mod Plain

@@ -16,8 +16,8 @@ use Rattle.doubles.proofs.Floats.{clash}
 use Rattle.detector.specs.declared.Detector2D.{Detector2D}
 use Rattle.memory.specs.declared.hits.DetectorHit.{DetectorHit}
 use Rattle.error.specs.Refusals.{Checked, passed, refusedAt}
-use Rattle.memory.specs.declared.detectors.Placed.{Placed}
-use Rattle.memory.specs.Detectors.{noDetector, detectorAt, findOf}
+use Rattle.detectors.specs.declared.Placed.{Placed}
+use Rattle.detectors.specs.Detectors.{noDetector, detectorAt, findOf}
 use Rattle.memory.specs.Memory.{Memory, Outcome, done, refused, raised, writtenAt, judged, recordAt, recordHit, cellOf, capacityOf, inMapsOf, holdsOf, maxCount, detectorOf, listed, hitsFrom, leftOf, unless, isMemoryOf, recordClassifiedOf}
 use Rattle.memory.specs.Plain.{sharing, numberIn, bookHit, added, Empty}
 use Rattle.memory.proofs.Records.{told-lengths}

@@ -6,17 +6,21 @@ use mathlib.Core.List.{List}
 use lib.Dec.{leb, ltb, eqb}
 use lib.Ieee.{Float, nan, binary64, add}
 use lib.ListN.{length, getD, set}
-use borrow.Author.Tests.{le-leb, lt-leb, le-ltb, lt-ltb, eq-eqb, ne-eqb, ltb-true, eqb-true}
+use borrow.Author.Tests.{le-leb, lt-leb, lt-ltb, eq-eqb, ne-eqb, ltb-true, eqb-true}
 use Rattle.doubles.proofs.Floats.{clash}
 use Rattle.error.specs.declared.NonSeqError.{NonSeqError}
 use Rattle.error.specs.Refusals.{numberOf}
 use Rattle.detector.specs.declared.Detector2D.{Detector2D}
 use Rattle.memory.specs.declared.hits.DetectorHit.{DetectorHit}
-use Rattle.memory.specs.declared.detectors.Placed.{Placed}
-use Rattle.memory.specs.declared.detectors.Found.{Found}
-use Rattle.memory.specs.declared.detectors.Found.the-variants.{There, Refused}
-use Rattle.memory.specs.Detectors.{findOf, foundOf}
-use Rattle.memory.specs.Memory.{Memory, Outcome, done, refused, memoryOf, capacityOf, detectorOf, raised, four, writtenAt, maxCount, judged, recordAt, cellOf, inMapsOf, holdsOf, recordHit, areLengthsOf, isMemoryOf, recordClassifiedOf}
+use Rattle.detectors.specs.declared.Placed.{Placed}
+use Rattle.detectors.specs.declared.Found.{Found}
+use Rattle.detectors.specs.declared.Found.the-variants.{There, Refused}
+use Rattle.detectors.specs.declared.Spot.{Spot}
+use Rattle.detectors.specs.declared.Spot.the-variants as Spot
+use Rattle.detectors.specs.declared.Spot.the-variants.{Nowhere}
+use Rattle.detectors.specs.Detectors.{placedOf, atOf, spotOf, findOf, foundOf}
+use Rattle.detectors.proofs.Lists.{there, nowhere}
+use Rattle.memory.specs.Memory.{Memory, Outcome, done, refused, memoryOf, capacityOf, detectorOf, raised, four, writtenAt, maxCount, judged, recordAt, cellInOf, cellOf, inMapsOf, holdsOf, recordHit, areLengthsOf, isMemoryOf, recordClassifiedOf}
 
 module _ (s : Memory) (p : ℕ) (h : DetectorHit) where
   pub put-full : length (s .values) / 4 ≤ s .used → refused 12 0 s ≡ recordAt s p h
@@ -55,19 +59,28 @@ told-lengths p nf nh nv nt b told k = go (ltb p nf) (ltb p nh) (eqb nv nt) refl 
 
 -- what `record` and `record_hit_classified` know at theirs
 module _ (s : Memory) (h : DetectorHit) where
-  pub record-nowhere : 8 ≤ h .detector .0 → refused 9 0 s ≡ recordHit s h
-  unfolding recordHit holdsOf
-  record-nowhere k = rw (le-ltb (h .detector .0) 8 k)
-
-  module _ (below : h .detector .0 < 8) (p : ℕ) (placed : p ≡ cellOf (s .detectors .list) h) (b : Bool)
-      (told : b ≡ inMapsOf p (length (s .flux)) (length (s .hits)) (length (s .values)) (length (s .tags))) where
-    pub record-outside : b ≡ false → refused 9 0 s ≡ recordHit s h
+  module _ (r : Spot) (said : spotOf r ≡ atOf (s .detectors) (h .detector)) where
+    pub record-nowhere : r ≡ Nowhere → refused 9 0 s ≡ recordHit s h
     unfolding recordHit holdsOf
-    record-outside k = rw (lt-ltb (h .detector .0) 8 below, ← placed, ← told, k)
+    record-nowhere k = rw (nowhere (s .detectors) (h .detector) (sym said ∙ ap spotOf k))
 
-    pub record-put : b ≡ true → (o : Outcome Memory) → o ≡ recordAt s p h → o ≡ recordHit s h
-    unfolding recordHit holdsOf
-    record-put k o e = rw (lt-ltb (h .detector .0) 8 below, ← placed, ← told, k) e
+    module _ (d : Placed) (k : r ≡ Spot.There d) where
+      is-there : (h .detector .0 < 8) × (d ≡ placedOf (s .detectors .list) (h .detector .0))
+      is-there = there (s .detectors) (h .detector) d (sym said ∙ ap spotOf k)
+
+      module _ (p : ℕ) (placed : p ≡ cellInOf d h) (b : Bool)
+          (told : b ≡ inMapsOf p (length (s .flux)) (length (s .hits)) (length (s .values)) (length (s .tags))) where
+        at-cell : p ≡ cellOf (s .detectors .list) h
+        unfolding cellOf
+        at-cell = placed ∙ ap (λ x. cellInOf x h) (is-there .1)
+
+        pub record-outside : b ≡ false → refused 9 0 s ≡ recordHit s h
+        unfolding recordHit holdsOf
+        record-outside t = rw (lt-ltb (h .detector .0) 8 (is-there .0), ← at-cell, ← told, t)
+
+        pub record-put : b ≡ true → (o : Outcome Memory) → o ≡ recordAt s p h → o ≡ recordHit s h
+        unfolding recordHit holdsOf
+        record-put t o e = rw (lt-ltb (h .detector .0) 8 (is-there .0), ← at-cell, ← told, t) e
 
   module _ (a : Found) (said : foundOf a ≡ findOf (s .detectors) (h .detector)) where
     pub asked-refused : (x : NonSeqError) (place : ℕ) → a ≡ Refused x place → refused (numberOf x) place s ≡ recordClassifiedOf s h

@@ -16,10 +16,10 @@ use Rattle.detector.specs.declared.Detector2D.{Detector2D}
 use Rattle.detector.specs.Pixels.{pixelsOf, pixelAtOf}
 use Rattle.detector.proofs.Grid.{Gridded, pixel-in}
 use Rattle.memory.specs.declared.hits.DetectorHit.{DetectorHit}
-use Rattle.memory.specs.Detectors.{noDetector, detectorAt, firstPixelOf}
-use Rattle.memory.specs.Memory.{Memory, raised, writtenAt, cellOf}
+use Rattle.detectors.specs.Detectors.{noDetector, detectorAt, firstPixelOf, placedOf}
+use Rattle.memory.specs.Memory.{Memory, raised, writtenAt, cellInOf, cellOf}
 use Rattle.memory.specs.Plain.{added, View, partOf, viewOf, plusHit, plusAll}
-use Rattle.memory.proofs.Passed.{apart}
+use Rattle.detectors.proofs.Passed.{apart}
 use Rattle.memory.proofs.Keeps.{kept, written-pixels, written-pixel, written-first}
 
 -- ---- a store seen through a part
@@ -86,7 +86,7 @@ module _ (s : Memory) (h : DetectorHit) (fits : Fits (s .detectors .list) h) whe
   inside = pixel-in (detectorAt list own) (h .«local_x») (h .«local_y») (fits .grid)
 
   cell-is : cell ≡ firstPixelOf list own + pixel
-  unfolding cellOf
+  unfolding cellOf cellInOf placedOf
   cell-is = refl
 
   raised-own : detectorAt (next .detectors .list) own ≡ raised (detectorAt list own) (h .«flux_watts»)
@@ -94,11 +94,11 @@ module _ (s : Memory) (h : DetectorHit) (fits : Fits (s .detectors .list) h) whe
   raised-own = getD-set-same list own _ noDetector (fits .named)
 
   flux-stored : next .flux ≡ set (s .flux) (firstPixelOf list own + pixel) (add binary64 (getD (s .flux) (firstPixelOf list own + pixel) nan) (h .«flux_watts»))
-  unfolding writtenAt cellOf
+  unfolding writtenAt cellOf cellInOf placedOf
   flux-stored = refl
 
   hits-stored : next .hits ≡ set (s .hits) (firstPixelOf list own + pixel) (getD (s .hits) (firstPixelOf list own + pixel) 0 + 1)
-  unfolding writtenAt cellOf
+  unfolding writtenAt cellOf cellInOf placedOf
   hits-stored = refl
 
   flux-own : partOf Float (next .detectors .list) own (next .flux) ≡ set (partOf Float list own (s .flux)) pixel (add binary64 (getD (partOf Float list own (s .flux)) pixel nan) (h .«flux_watts»))

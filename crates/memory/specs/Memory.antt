@@ -10,10 +10,11 @@ use Rattle.error.specs.declared.Check.the-variants.{Passed, Refused}
 use Rattle.error.specs.Refusals.{numberOf, Checked, passed, refusedAt}
 use Rattle.detector.specs.declared.Detector2D.{Detector2D}
 use Rattle.detector.specs.Pixels.{pixelAtOf}
-use Rattle.memory.specs.declared.detectors.Detectors.{Detectors}
+use Rattle.detectors.specs.declared.Detectors.{Detectors}
 use Rattle.memory.specs.declared.hits.DetectorHit.{DetectorHit}
 use Rattle.memory.specs.declared.recording.Recorded.{Recorded}
-use Rattle.memory.specs.Detectors.{maxDetectors, detectorAt, firstPixelOf, allPixelsOf, findOf}
+use Rattle.detectors.specs.declared.Placed.{Placed}
+use Rattle.detectors.specs.Detectors.{maxDetectors, detectorAt, allPixelsOf, placedOf, findOf}
 
 -- detectors, flux and hits of all pixels, the doubles and the whole numbers of the hit list, how many hits are used
 pub record Memory : Type 0 where
@@ -89,9 +90,12 @@ four A l i a b c d = set (set (set (set l i a) (i + 1) b) (i + 2) c) (i + 3) d
 abbrev pub detectorOf : Memory → DetectorHit → Detector2D
 detectorOf s h = detectorAt (s .detectors .list) (h .detector .0)
 
--- the place of a hit's pixel among the pixels of all detectors
+-- the place of a hit's pixel among the pixels of all detectors; p is the hit's detector
+unfoldable pub cellInOf : Placed → DetectorHit → ℕ
+cellInOf p h = p .first + pixelAtOf (p .detector) (h .«local_x») (h .«local_y»)
+
 unfoldable pub cellOf : List Detector2D → DetectorHit → ℕ
-cellOf l h = firstPixelOf l (h .detector .0) + pixelAtOf (detectorAt l (h .detector .0)) (h .«local_x») (h .«local_y»)
+cellOf l h = cellInOf (placedOf l (h .detector .0)) h
 
 -- a detector that has caught a flux more
 abbrev pub raised : Detector2D → Float → Detector2D

@@ -1,18 +1,19 @@
 // Recording: one hit added to its pixel, to its detector and to the hit list, wholly or not at all.
 use crate::DetectorHit;
-use crate::Detectors;
-use crate::Found;
-use crate::detectors::pixels_of;
 use crate::hits::put_tags;
 use crate::hits::put_values;
 use detector::Detector2D;
+use detectors::Detectors;
+use detectors::Found;
+use detectors::Placed;
+use detectors::Spot;
 use error::Check;
 use error::NonSeqError;
 ghost use mathlib.Core.Path.{_≡_};
-ghost use Prim.Native.Nat.{_<_};
+ghost use Prim.Native.Nat.{_*_, _^_, _≤_, _<_};
 ghost use lib.ListN.{length, set};
-ghost use Rattle.memory.specs.Detectors.{detectorAt};
-ghost use Rattle.memory.specs.Memory.{memoryOf, recordedOf, cellOf, inMapsOf, raised, maxCount, recordAt, recordHit, isHitListOf, areLengthsOf, recordClassifiedOf};
+ghost use Rattle.detectors.specs.Detectors.{detectorAt};
+ghost use Rattle.memory.specs.Memory.{memoryOf, recordedOf, cellInOf, inMapsOf, raised, maxCount, recordAt, recordHit, isHitListOf, areLengthsOf, recordClassifiedOf};
 
 // The refusal or none, and what goes on: the detectors' records and the number of hits used.
 pub struct Recorded {
@@ -21,15 +22,13 @@ pub struct Recorded {
     pub used: usize,
 }
 
-// The place of a hit's pixel among the pixels of all detectors.
-fn cell(list: [Detector2D; 8], h: DetectorHit) -> usize
-    requires { ⌜ h .detector .0 < 8 ⌝ }
-    ensures { λ r. ⌜ r ≡ cellOf list h ⌝ }
+// The place of a hit's pixel among the pixels of all detectors; p is the hit's detector.
+fn cell(p: Placed, h: DetectorHit) -> usize
+    requires { ⌜ p .first ≤ 8 * 2 ^ 24 ⌝ }
+    ensures { λ r. ⌜ r ≡ cellInOf p h ⌝ }
 {
-    let d = h.detector.0 as usize;
-    let e = list[d];
-    let first = pixels_of(list, d);
-    first + e.pixel_at(h.local_x, h.local_y)
+    let d = p.detector;
+    p.first + d.pixel_at(h.local_x, h.local_y)
 }
 
 // Whether a place lies in both maps, and the hit slices are alike.
@@ -133,20 +132,29 @@ pub fn record(
     ensures { λ r. ⌜ recordedOf r (now (flux .exit)) (now (hits .exit)) (now (values .exit)) (now (tags .exit))
         ≡ recordHit (memoryOf detectors (now (flux .entry)) (now (hits .entry)) (now (values .entry)) (now (tags .entry)) used) h ⌝ }
 {
-    if h.detector.0 < 8 {
-        let list = detectors.list;
-        let p = cell(list, h);
-        if in_maps(p, flux.len(), hits.len(), values.len(), tags.len()) {
-            return put(detectors, flux, hits, values, tags, used, h, p);
+    match detectors.at(h.detector) {
+        Spot::There(d) => {
+            let p = cell(d, h);
+            if in_maps(p, flux.len(), hits.len(), values.len(), tags.len()) {
+                return put(detectors, flux, hits, values, tags, used, h, p);
+            }
+            Recorded {
+                check: Check::Refused {
+                    error: NonSeqError::InvalidSliceLength,
+                    place: 0,
+                },
+                detectors,
+                used,
+            }
         }
-    }
-    Recorded {
-        check: Check::Refused {
-            error: NonSeqError::InvalidSliceLength,
-            place: 0,
+        Spot::Nowhere => Recorded {
+            check: Check::Refused {
+                error: NonSeqError::InvalidSliceLength,
+                place: 0,
+            },
+            detectors,
+            used,
         },
-        detectors,
-        used,
     }
 }
 

@@ -1,19 +1,26 @@
 -- `memory::recording::record` meets its contract. Assumes nothing.
+use Rattle.detectors.proofs.Lists.{there-first, there-below}
 use Rattle.memory.proofs.Records.{told-lengths, record-put, record-outside, record-nowhere}
 use borrow.Author.Needs.{needs}
 use Rattle.memory.proofs.recording.record.Statement.{statement}
 use Rattle.memory.proofs.recording.record.Tie as tie
 
+at-requires : tie.Need-at-requires
+at-requires c κs = search needs
+
+enum-known-d : tie.Need-enum-known-d
+enum-known-d c = search needs
+
 cell-requires : tie.Need-cell-requires
-cell-requires c κs = search needs
+cell-requires c κs = there-first _ _ _ _ (c .before .before .before .at .ensures) (c .before .d .given .1)
 
 in-maps-requires : tie.Need-in-maps-requires
 in-maps-requires c κs = search needs
 
 put-requires : tie.Need-put-requires
 put-requires c κs =
-    let t = told-lengths _ _ _ _ _ _ (c .before .before .before .before .before .in-maps .ensures) (c .before .before .before .before .if2 .taken) in
-    (c .before .before .before .before .before .before .before .before .if1 .taken, t .0, t .1, t .2)
+    let t = told-lengths _ _ _ _ _ _ (c .before .before .before .before .before .in-maps .ensures) (c .before .before .before .before .if1 .taken) in
+    (there-below _ _ _ _ (c .before .before .before .before .before .before .before .before .before .before .at .ensures) (c .before .before .before .before .before .before .before .before .d .given .1), t .0, t .1, t .2)
 
 same-length : tie.Need-same-length
 same-length c = search needs
@@ -29,18 +36,23 @@ same-length-4 c = search needs
 
 returns : tie.Need-returns
 returns c =
-    record-put _ _ (c .before .before .before .before .before .before .before .before .before .before .before .before .before .before .before .before .before .if1 .taken) _ (c .before .before .before .before .before .before .before .before .before .before .before .before .before .before .before .cell .ensures) _ (c .before .before .before .before .before .before .before .before .before .before .before .before .before .before .in-maps .ensures) (c .before .before .before .before .before .before .before .before .before .before .before .before .before .if2 .taken) _ (c .before .before .before .before .before .before .before .before .put .ensures)
+    record-put _ _ _ (c .before .before .before .before .before .before .before .before .before .before .before .before .before .before .before .before .before .before .before .at .ensures) _ (c .before .before .before .before .before .before .before .before .before .before .before .before .before .before .before .before .before .d .given .1) _ (c .before .before .before .before .before .before .before .before .before .before .before .before .before .before .before .cell .ensures) _ (c .before .before .before .before .before .before .before .before .before .before .before .before .before .before .in-maps .ensures) (c .before .before .before .before .before .before .before .before .before .before .before .before .before .if1 .taken) _ (c .before .before .before .before .before .before .before .before .put .ensures)
+
+enum-told : tie.Need-enum-told
+enum-told c = search needs
 
 returns-2 : tie.Need-returns-2
-returns-2 c = record-outside _ _ (c .before .before .before .before .if1 .taken) _ (c .before .before .cell .ensures) _ (c .before .in-maps .ensures) (c .if2 .left)
+returns-2 c = record-outside _ _ _ (c .before .before .before .before .before .before .at .ensures) _ (c .before .before .before .before .d .given .1) _ (c .before .before .cell .ensures) _ (c .before .in-maps .ensures) (c .if1 .left)
 
 returns-3 : tie.Need-returns-3
-returns-3 c = record-nowhere _ _ (c .if1 .left)
+returns-3 c = record-nowhere _ _ _ (c .before .before .at .ensures) (c .enum-told .given .1)
 
 pub record-spec : {M : Type 1} → statement M
 record-spec =
     tie.close
     (tie.spec
+    at-requires
+    enum-known-d
     cell-requires
     in-maps-requires
     put-requires
@@ -49,5 +61,6 @@ record-spec =
     same-length-3
     same-length-4
     returns
+    enum-told
     returns-2
     returns-3)

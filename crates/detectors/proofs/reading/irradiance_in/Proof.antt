@@ -1,0 +1,56 @@
+-- `detectors::reading::irradiance_in` meets its contract. Assumes nothing.
+use borrow.Author.Tests.{lt-ltb, le-ltb}
+use Rattle.detectors.specs.Readings.{irradianceIn}
+use native.Mathlib.Omega.{arith}
+use Rattle.detectors.proofs.Passed.{pixel-at}
+use borrow.Author.Needs.{needs}
+use Rattle.detectors.proofs.reading.irradiance_in.Statement.{statement}
+use Rattle.detectors.proofs.reading.irradiance_in.Tie as tie
+
+cast-at : tie.Need-cast-at
+cast-at c = search needs
+
+mul-at : tie.Need-mul-at
+mul-at c = let q = pixel-at _ _ _ _ _ _ (c .before .before .before .if1 .taken) (c .before .if2 .taken) (c .before .before .before .before .before .before .before .pre) in omega (arith, q, c .before .before .before .before .before .before .before .good)
+
+add-at : tie.Need-add-at
+add-at c = let q = pixel-at _ _ _ _ _ _ (c .before .before .before .if1 .taken) (c .before .if2 .taken) (c .before .before .before .before .before .before .before .pre) in omega (arith, q, c .before .before .before .before .before .before .before .good)
+
+add-at-2 : tie.Need-add-at-2
+add-at-2 c = let q = pixel-at _ _ _ _ _ _ (c .before .before .before .before .if1 .taken) (c .before .before .if2 .taken) (c .before .before .before .before .before .before .before .before .pre) in omega (arith, q, c .before .before .before .before .before .before .before .before .good)
+
+mul-irradiance : tie.Need-mul-irradiance
+mul-irradiance c = let q = pixel-at _ _ _ _ _ _ (c .before .before .before .before .if1 .taken) (c .before .before .if2 .taken) (c .before .before .before .before .before .before .before .before .pre) in omega (arith, q, c .before .before .before .before .before .before .before .before .good)
+
+shared-slice-read-irradiance : tie.Need-shared-slice-read-irradiance
+shared-slice-read-irradiance c = let q = pixel-at _ _ _ _ _ _ (c .before .before .before .before .before .if1 .taken) (c .before .before .before .if2 .taken) (c .before .before .before .before .before .before .before .before .before .pre) in omega (arith, q)
+
+irradiance-requires : tie.Need-irradiance-requires
+irradiance-requires c κs = search needs
+
+returns : tie.Need-returns
+unfolding irradianceIn
+returns c = simp (lt-ltb _ _ (c .before .before .before .before .before .before .if1 .taken), lt-ltb _ _ (c .before .before .before .before .if2 .taken), ← c .irradiance .ensures)
+
+returns-2 : tie.Need-returns-2
+unfolding irradianceIn
+returns-2 c = simp (lt-ltb _ _ (c .before .before .if1 .taken), le-ltb _ _ (c .if2 .left))
+
+returns-3 : tie.Need-returns-3
+unfolding irradianceIn
+returns-3 c = simp (le-ltb _ _ (c .if1 .left))
+
+pub irradiance-in-spec : {M : Type 1} → statement M
+irradiance-in-spec =
+    tie.close
+    (tie.spec
+    cast-at
+    mul-at
+    add-at
+    add-at-2
+    mul-irradiance
+    shared-slice-read-irradiance
+    irradiance-requires
+    returns
+    returns-2
+    returns-3)
