@@ -1,5 +1,5 @@
 -- What holds of detectors that passed the check: each has its pixels, none shares one with another, and the pixel of every point of one is among its own. Assumes nothing.
-use Prim.Native.Nat.{ℕ, zero, suc, _+_, _-_, _*_, _^_, _≤_, _<_}
+use Prim.Native.Nat.{ℕ, zero, suc, _+_, _-_, _*_, _≤_, _<_}
 use mathlib.Core.Path.{_≡_, refl, sym, ap, subst, _∙_}
 use mathlib.Core.Bool.{Bool, true, false, cond}
 use mathlib.Core.List.{List}
@@ -9,14 +9,13 @@ use native.Mathlib.Omega.{arith}
 use native.Mathlib.Nat.{add-zero, zero-add}
 use native.Mathlib.Decide.{ℕ-discrete, decLe}
 use lib.Dec.{leb, ltb}
-use lib.Ieee.{Float}
 use borrow.Author.Tests.{leb-true, ltb-true, le-leb}
 use Rattle.error.specs.Refusals.{Checked, passed, refusedAt, after}
 use Rattle.detector.specs.declared.DetectorNo.{DetectorNo}
 use Rattle.detector.specs.declared.Detector2D.{Detector2D}
 use Rattle.detector.specs.Checks.{checkDetectorOf}
-use Rattle.detector.specs.Pixels.{pixelsOf, pixelAtOf}
-use Rattle.detector.proofs.Grid.{Passes, Gridded, passed-grid, pixels-are, pixel-in, in-grid}
+use Rattle.detector.specs.Pixels.{pixelsOf}
+use Rattle.detector.proofs.Grid.{Gridded, passed-grid, pixels-are, in-grid}
 use Rattle.detectors.specs.declared.Detectors.{Detectors}
 use Rattle.detectors.specs.declared.Placed.{Placed}
 use Rattle.detectors.specs.Detectors.{maxDetectors, detectorAt, firstPixelOf, allPixelsOf, checkFromOf, checkDetectorsOf, checkAskedOf, placedOf, findOf}

@@ -3,12 +3,11 @@ use Prim.Native.Nat.{ℕ, zero, suc, _+_, _≤_, _<_}
 use mathlib.Core.Path.{_≡_, refl, ap, sym, _∙_}
 use mathlib.Core.Bool.{Bool, true, false, cond, _&&_}
 use mathlib.Core.List.{List, [], _∷_}
-use native.Mathlib.Nat.{le-of-suc-le-suc, zero-add, suc-add}
+use native.Mathlib.Nat.{le-of-suc-le-suc}
 use native.Mathlib.Omega.{arith}
 use lib.Dec.{eqb}
 use lib.Ieee.{Float, nan}
-use lib.ListN.{length, getD, set, take, drop, replicate}
-use Rattle.error.specs.Refusals.{passed}
+use lib.ListN.{length, getD, take, drop, replicate}
 use Rattle.detector.specs.declared.DetectorNo.{DetectorNo}
 use Rattle.detector.specs.declared.Detector2D.{Detector2D}
 use Rattle.detector.specs.Pixels.{pixelsOf, pixelAtOf}
@@ -19,7 +18,7 @@ use Rattle.memory.specs.Plain.{Empty, View, partOf, viewOf, plusHit, plusAll}
 use Rattle.memory.proofs.Booked.{Booked, booked-view, booked-pixels, booked-pixel}
 use Rattle.filter.specs.declared.RayPathFilter.{RayPathFilter}
 use Rattle.filter.specs.declared.RayPathFilter.the-variants.{All}
-use Rattle.filter.specs.Filters.{#0, Map, zeros, addedAtOf, plusOf, plusEach, passesOf, passing, refilledOf, letsOf}
+use Rattle.filter.specs.Filters.{#0, Map, zeros, addedAtOf, plusOf, plusEach, passesOf, passing, refilledOf}
 
 -- ---- a detector's view without its hit counts
 

@@ -1,13 +1,13 @@
 -- A map cleared from the front, and refilled hit by hit. Assumes nothing.
 use Prim.Native.Nat.{ℕ, zero, suc, _+_, _-_, _≤_, _<_}
 use mathlib.Core.Path.{_≡_, refl, ap, sym, _∙_}
-use mathlib.Core.Bool.{Bool, true, false, cond, _&&_}
+use mathlib.Core.Bool.{Bool, true, false, cond}
 use mathlib.Core.List.{List, [], _∷_, _++_}
 use native.Mathlib.Nat.{not-suc-le-zero, le-of-suc-le-suc}
 use native.Mathlib.Numerals.{add-one}
 use native.Mathlib.Omega.{arith}
-use lib.Ieee.{Float, nan, binary64, add}
-use lib.ListN.{length, getD, set, drop, replicate, length-replicate}
+use lib.Ieee.{Float, binary64, add}
+use lib.ListN.{length, set, drop, replicate, length-replicate}
 use lib.Seq.{set-out}
 use Rattle.detector.specs.declared.DetectorNo.{DetectorNo}
 use Rattle.detector.specs.declared.Detector2D.{Detector2D}

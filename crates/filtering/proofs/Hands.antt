@@ -23,7 +23,7 @@ use Rattle.memory.specs.Memory.{hitsFrom, isHitListOf}
 use Rattle.detectors.proofs.Passed.{asked-there, part-in, never}
 use Rattle.filter.specs.declared.RayPathFilter.{RayPathFilter}
 use Rattle.filter.specs.Filters.{#0, Map, isAllOf, refilledOf}
-use Rattle.filtering.specs.Handed.{Handed, handed, fromMap, checkPlacedOf, checkFilterOf, refilterPlacedOf, refilterOf, storedPartOf, partPlacedOf, filteredPartOf, filteredPlacedOf, filteredPixelFluxOf, numbered, inNumbersOf}
+use Rattle.filtering.specs.Handed.{handed, fromMap, checkPlacedOf, checkFilterOf, refilterPlacedOf, refilterOf, storedPartOf, partPlacedOf, filteredPartOf, filteredPlacedOf, filteredPixelFluxOf, numbered, inNumbersOf}
 
 -- ---- which of the two slices is handed back: what cannot be where a return stands
 

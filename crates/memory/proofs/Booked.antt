@@ -1,13 +1,13 @@
 -- What every recording keeps, from the empty memory on: the memory is the empty one with its listed hits added in list order, each of them on a detector that is there. Assumes nothing.
-use Prim.{Dec, yes, no, Unit, tt}
-use Prim.Native.Nat.{ℕ, zero, suc, _+_, _≤_, _<_}
+use Prim.{tt}
+use Prim.Native.Nat.{ℕ, _+_, _<_}
 use mathlib.Core.Path.{_≡_, refl, ap, sym, subst, _∙_}
 use mathlib.Core.Bool.{Bool, true, false, cond, _&&_, _||_}
 use mathlib.Core.List.{List, [], _∷_, _++_}
 use native.Mathlib.Omega.{arith}
-use lib.Dec.{leb, ltb, eqb}
+use lib.Dec.{leb, eqb}
 use lib.Ieee.{Float}
-use lib.ListN.{length, getD}
+use lib.ListN.{length}
 use borrow.Author.Tests.{lt-ltb, eq-eqb, eqb-true}
 use Rattle.doubles.proofs.Floats.{clash}
 use Rattle.error.specs.Refusals.{Checked, passed, refusedAt}

@@ -1,16 +1,14 @@
 -- What a recorded hit keeps: lengths, and all of the detectors but totals and counts. Assumes nothing.
-use Prim.Native.Nat.{ℕ, zero, suc, _+_, _*_, _/_, _≤_, _<_}
-use mathlib.Core.Path.{_≡_, refl, ap, sym, _∙_}
-use mathlib.Core.Bool.{Bool, _&&_}
+use Prim.Native.Nat.{ℕ, zero, suc}
+use mathlib.Core.Path.{_≡_, refl, _∙_}
 use mathlib.Core.List.{List, [], _∷_}
-use lib.Dec.{ltb, eqb}
 use lib.Ieee.{Float}
-use lib.ListN.{length, getD, set, length-set}
+use lib.ListN.{length, set, length-set}
 use Rattle.detector.specs.declared.Detector2D.{Detector2D}
 use Rattle.detector.specs.Pixels.{pixelsOf, pixelAtOf}
 use Rattle.memory.specs.declared.hits.DetectorHit.{DetectorHit}
-use Rattle.detectors.specs.Detectors.{noDetector, detectorAt, firstPixelOf, placedOf}
-use Rattle.memory.specs.Memory.{Memory, capacityOf, raised, four, cellInOf, cellOf, inMapsOf, holdsOf, writtenAt}
+use Rattle.detectors.specs.Detectors.{detectorAt, firstPixelOf, placedOf}
+use Rattle.memory.specs.Memory.{Memory, capacityOf, raised, four, cellInOf, cellOf, holdsOf, writtenAt}
 use Rattle.memory.specs.Plain.{added}
 
 pub length-four : (A : Type 0) (l : List A) (i : ℕ) (a b c d : A) → length (four A l i a b c d) ≡ length l

@@ -1,6 +1,6 @@
 -- Each detector's maps, total and count are what its own hits make of its own. Assumes nothing.
-use Prim.{Dec, yes, no, Unit, tt}
-use Prim.Native.Nat.{ℕ, zero, suc, _+_, _-_, _≤_, _<_}
+use Prim.{yes, no, Unit, tt}
+use Prim.Native.Nat.{ℕ, _+_, _-_, _≤_, _<_}
 use mathlib.Core.Path.{_≡_, refl, ap, sym, _∙_}
 use mathlib.Core.Bool.{cond}
 use mathlib.Core.Logic.{_⊎_, inl, inr}

@@ -1,5 +1,5 @@
 -- Document 01's plain book: one list of hits. Of the memory s that a list of calls starts from it uses the lengths and the detectors without their totals and counts.
-use Prim.Native.Nat.{ℕ, _+_, _*_, _≤_, _<_}
+use Prim.Native.Nat.{ℕ, _+_, _<_}
 use mathlib.Core.Path.{_≡_}
 use mathlib.Core.Bool.{cond, _||_}
 use mathlib.Core.List.{List, [], _∷_, _++_}

@@ -3,7 +3,6 @@ use mathlib.Core.Bool.{Bool, cond, _&&_}
 use lib.Ieee.{Float, binary64, ofBits, sub, le}
 use Rattle.doubles.specs.Doubles.{absOf, finiteOf}
 use Rattle.error.specs.Refusals.{numberOf, Answer, value, refusal}
-use Rattle.error.specs.declared.NonSeqError.the-variants.{RayNotFinite}
 use Rattle.rays.specs.declared.vector.Vec3.{Vec3}
 use Rattle.rays.specs.declared.Ray.{Ray}
 use Rattle.rays.specs.declared.NewRay.{NewRay}

@@ -6,7 +6,7 @@ use mathlib.Core.Path.{_≡_, refl, ap, _∙_}
 use native.Mathlib.Omega.{arith}
 use lib.ListN.{length, length-replicate}
 use Rattle.memory.specs.Memory.{hitsFrom}
-use Rattle.filter.specs.Filters.{#0, mapOf, plusEach, passing, refilledOf}
+use Rattle.filter.specs.Filters.{mapOf, plusEach, passing, refilledOf}
 use Rattle.filter.proofs.Sift.{sift-start, sift-turn, sift-end, turn-count, same-room}
 use Rattle.filter.proofs.sifting.refill.Statement.{statement}
 use Rattle.filter.proofs.sifting.refill.Tie as tie
