@@ -43,7 +43,7 @@ fn listed(i: u32) -> DetectorHit {
         1 => made::after(made::hit(1, 1.0, -0.5, 0.2), 1, 0),
         2 => made::after(made::hit(0, 1.0, 0.5, 64.0), 1, 1),
         3 => made::after(made::hit(1, -1.0, 0.5, 0.3), 0, 1),
-        4 => made::after(made::hit(1, 1.0, 0.5, 0.4), 2, 3),
+        4 => made::after(made::hit(1, 1.0, 0.5, 0.4), 2, 2),
         _ => made::after(made::hit(1, -1.0, -0.5, 0.5), 0, 0),
     }
 }

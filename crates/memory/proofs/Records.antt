@@ -9,6 +9,7 @@ use lib.ListN.{length, getD, set}
 use borrow.Author.Tests.{le-leb, lt-leb, lt-ltb, eq-eqb, ne-eqb, ltb-true, eqb-true}
 use Rattle.doubles.proofs.Floats.{clash}
 use Rattle.error.specs.declared.NonSeqError.{NonSeqError}
+use Rattle.error.specs.declared.NonSeqError.the-variants.{HitListFull, HitCountFull, InvalidSliceLength}
 use Rattle.error.specs.Refusals.{numberOf}
 use Rattle.detector.specs.declared.Detector2D.{Detector2D}
 use Rattle.memory.specs.declared.hits.DetectorHit.{DetectorHit}
@@ -20,22 +21,23 @@ use Rattle.detectors.specs.declared.Spot.the-variants as Spot
 use Rattle.detectors.specs.declared.Spot.the-variants.{Nowhere}
 use Rattle.detectors.specs.Detectors.{placedOf, atOf, spotOf, findOf, foundOf}
 use Rattle.detectors.proofs.Lists.{there, nowhere}
-use Rattle.memory.specs.Memory.{Memory, Outcome, done, refused, memoryOf, capacityOf, detectorOf, raised, four, writtenAt, maxCount, judged, recordAt, cellInOf, cellOf, inMapsOf, holdsOf, recordHit, areLengthsOf, isMemoryOf, recordClassifiedOf}
+use Rattle.memory.specs.declared.recording.Recorded.{Recorded}
+use Rattle.memory.specs.Memory.{recordedOf, refusedOf, Memory, Outcome, done, refused, memoryOf, capacityOf, detectorOf, raised, four, writtenAt, maxCount, judged, recordAt, cellInOf, cellOf, inMapsOf, holdsOf, recordHit, areLengthsOf, isMemoryOf, recordClassifiedOf}
 
 module _ (s : Memory) (p : ℕ) (h : DetectorHit) where
-  pub put-full : length (s .values) / 4 ≤ s .used → refused 12 0 s ≡ recordAt s p h
+  pub put-full : length (s .values) / 4 ≤ s .used → (r : Recorded) → r ≡ refusedOf HitListFull (s .detectors) (s .used) → recordedOf r (s .flux) (s .hits) (s .values) (s .tags) ≡ recordAt s p h
   unfolding recordAt judged capacityOf
-  put-full k = rw (le-leb (length (s .values) / 4) (s .used) k)
+  put-full k r e = rw (e, le-leb (length (s .values) / 4) (s .used) k)
 
   module _ (room : s .used < length (s .values) / 4) where
-    pub put-pixel : getD (s .hits) p 0 ≡ maxCount → refused 13 0 s ≡ recordAt s p h
+    pub put-pixel : getD (s .hits) p 0 ≡ maxCount → (r : Recorded) → r ≡ refusedOf HitCountFull (s .detectors) (s .used) → recordedOf r (s .flux) (s .hits) (s .values) (s .tags) ≡ recordAt s p h
     unfolding recordAt judged capacityOf
-    put-pixel k = rw (lt-leb (length (s .values) / 4) (s .used) room, eq-eqb (getD (s .hits) p 0) maxCount k)
+    put-pixel k r e = rw (e, lt-leb (length (s .values) / 4) (s .used) room, eq-eqb (getD (s .hits) p 0) maxCount k)
 
     module _ (more : getD (s .hits) p 0 ≡ maxCount → ⊥) where
-      pub put-count : detectorOf s h .«total_rays_hit» ≡ maxCount → refused 13 0 s ≡ recordAt s p h
+      pub put-count : detectorOf s h .«total_rays_hit» ≡ maxCount → (r : Recorded) → r ≡ refusedOf HitCountFull (s .detectors) (s .used) → recordedOf r (s .flux) (s .hits) (s .values) (s .tags) ≡ recordAt s p h
       unfolding recordAt judged capacityOf
-      put-count k = rw (lt-leb (length (s .values) / 4) (s .used) room, ne-eqb (getD (s .hits) p 0) maxCount more, eq-eqb (detectorOf s h .«total_rays_hit») maxCount k)
+      put-count k r e = rw (e, lt-leb (length (s .values) / 4) (s .used) room, ne-eqb (getD (s .hits) p 0) maxCount more, eq-eqb (detectorOf s h .«total_rays_hit») maxCount k)
 
       pub put-done : (detectorOf s h .«total_rays_hit» ≡ maxCount → ⊥) → (l : List Detector2D) (v : List Float) (t : List ℕ)
           → v ≡ four Float (s .values) (4 * s .used) (h .«local_x») (h .«local_y») (h .«flux_watts») (h .«wavelength_nm»)
@@ -60,9 +62,9 @@ told-lengths p nf nh nv nt b told k = go (ltb p nf) (ltb p nh) (eqb nv nt) refl 
 -- what `record` and `record_hit_classified` know at theirs
 module _ (s : Memory) (h : DetectorHit) where
   module _ (r : Spot) (said : spotOf r ≡ atOf (s .detectors) (h .detector)) where
-    pub record-nowhere : r ≡ Nowhere → refused 9 0 s ≡ recordHit s h
+    pub record-nowhere : r ≡ Nowhere → (r : Recorded) → r ≡ refusedOf InvalidSliceLength (s .detectors) (s .used) → recordedOf r (s .flux) (s .hits) (s .values) (s .tags) ≡ recordHit s h
     unfolding recordHit holdsOf
-    record-nowhere k = rw (nowhere (s .detectors) (h .detector) (sym said ∙ ap spotOf k))
+    record-nowhere k r e = rw (e, nowhere (s .detectors) (h .detector) (sym said ∙ ap spotOf k))
 
     module _ (d : Placed) (k : r ≡ Spot.There d) where
       is-there : (h .detector .0 < 8) × (d ≡ placedOf (s .detectors .list) (h .detector .0))
@@ -74,9 +76,9 @@ module _ (s : Memory) (h : DetectorHit) where
         unfolding cellOf
         at-cell = placed ∙ ap (λ x. cellInOf x h) (is-there .1)
 
-        pub record-outside : b ≡ false → refused 9 0 s ≡ recordHit s h
+        pub record-outside : b ≡ false → (r : Recorded) → r ≡ refusedOf InvalidSliceLength (s .detectors) (s .used) → recordedOf r (s .flux) (s .hits) (s .values) (s .tags) ≡ recordHit s h
         unfolding recordHit holdsOf
-        record-outside t = rw (lt-ltb (h .detector .0) 8 (is-there .0), ← at-cell, ← told, t)
+        record-outside t r e = rw (e, lt-ltb (h .detector .0) 8 (is-there .0), ← at-cell, ← told, t)
 
         pub record-put : b ≡ true → (o : Outcome Memory) → o ≡ recordAt s p h → o ≡ recordHit s h
         unfolding recordHit holdsOf
@@ -89,9 +91,9 @@ module _ (s : Memory) (h : DetectorHit) where
 
     module _ (d : Placed) (there : a ≡ There d) (b : Bool)
         (told : b ≡ areLengthsOf (s .detectors) (length (s .flux)) (length (s .hits)) (length (s .values)) (length (s .tags)) (s .used)) where
-      pub lengths-refused : b ≡ false → refused 9 0 s ≡ recordClassifiedOf s h
+      pub lengths-refused : b ≡ false → (r : Recorded) → r ≡ refusedOf InvalidSliceLength (s .detectors) (s .used) → recordedOf r (s .flux) (s .hits) (s .values) (s .tags) ≡ recordClassifiedOf s h
       unfolding recordClassifiedOf isMemoryOf
-      lengths-refused k = rw (← said, there, ← told, k)
+      lengths-refused k r e = rw (e, ← said, there, ← told, k)
 
       pub recorded : b ≡ true → (o : Outcome Memory) → o ≡ recordHit s h → o ≡ recordClassifiedOf s h
       unfolding recordClassifiedOf isMemoryOf

@@ -7,6 +7,7 @@ use lib.Ieee.{Float, nan, binary64, add}
 use lib.ListN.{length, getD, set}
 use Rattle.error.specs.declared.Check.{Check}
 use Rattle.error.specs.declared.Check.the-variants.{Passed, Refused}
+use Rattle.error.specs.declared.NonSeqError.{NonSeqError}
 use Rattle.error.specs.Refusals.{numberOf, Checked, passed, refusedAt}
 use Rattle.detector.specs.declared.Detector2D.{Detector2D}
 use Rattle.detector.specs.Pixels.{pixelAtOf}
@@ -181,3 +182,6 @@ outcomeOf (Refused e place) m = refused (numberOf e) place m
 
 abbrev pub recordedOf : Recorded → List Float → List ℕ → List Float → List ℕ → Outcome Memory
 recordedOf r f h v t = outcomeOf (r .check) (memoryOf (r .detectors) f h v t (r .used))
+
+abbrev pub refusedOf : NonSeqError → Detectors → ℕ → Recorded
+refusedOf e ds used = record { check = Refused e 0; detectors = ds; used = used }

@@ -13,13 +13,24 @@ ghost use mathlib.Core.Path.{_≡_};
 ghost use Prim.Native.Nat.{_*_, _^_, _≤_, _<_};
 ghost use lib.ListN.{length, set};
 ghost use Rattle.detectors.specs.Detectors.{detectorAt};
-ghost use Rattle.memory.specs.Memory.{memoryOf, recordedOf, cellInOf, inMapsOf, raised, maxCount, recordAt, recordHit, isHitListOf, areLengthsOf, recordClassifiedOf};
+ghost use Rattle.memory.specs.Memory.{memoryOf, recordedOf, refusedOf, cellInOf, inMapsOf, raised, maxCount, recordAt, recordHit, isHitListOf, areLengthsOf, recordClassifiedOf};
 
 // The refusal or none, and what goes on: the detectors' records and the number of hits used.
 pub struct Recorded {
     pub check: Check,
     pub detectors: Detectors,
     pub used: usize,
+}
+
+// A refusal at place 0 that changes nothing.
+fn refused(error: NonSeqError, detectors: Detectors, used: usize) -> Recorded
+    ensures { λ r. ⌜ r ≡ refusedOf error detectors used ⌝ }
+{
+    Recorded {
+        check: Check::Refused { error, place: 0 },
+        detectors,
+        used,
+    }
 }
 
 // The place of a hit's pixel among the pixels of all detectors; p is the hit's detector.
@@ -75,34 +86,13 @@ fn put(
     let d = h.detector.0 as usize;
     let e = list[d];
     if values.len() / 4 <= used {
-        return Recorded {
-            check: Check::Refused {
-                error: NonSeqError::HitListFull,
-                place: 0,
-            },
-            detectors,
-            used,
-        };
+        return refused(NonSeqError::HitListFull, detectors, used);
     }
     if hits[p] == 4294967295 {
-        return Recorded {
-            check: Check::Refused {
-                error: NonSeqError::HitCountFull,
-                place: 0,
-            },
-            detectors,
-            used,
-        };
+        return refused(NonSeqError::HitCountFull, detectors, used);
     }
     if e.total_rays_hit == 4294967295 {
-        return Recorded {
-            check: Check::Refused {
-                error: NonSeqError::HitCountFull,
-                place: 0,
-            },
-            detectors,
-            used,
-        };
+        return refused(NonSeqError::HitCountFull, detectors, used);
     }
     flux[p] = flux[p] + h.flux_watts;
     hits[p] = hits[p] + 1;
@@ -138,23 +128,9 @@ pub fn record(
             if in_maps(p, flux.len(), hits.len(), values.len(), tags.len()) {
                 return put(detectors, flux, hits, values, tags, used, h, p);
             }
-            Recorded {
-                check: Check::Refused {
-                    error: NonSeqError::InvalidSliceLength,
-                    place: 0,
-                },
-                detectors,
-                used,
-            }
+            refused(NonSeqError::InvalidSliceLength, detectors, used)
         }
-        Spot::Nowhere => Recorded {
-            check: Check::Refused {
-                error: NonSeqError::InvalidSliceLength,
-                place: 0,
-            },
-            detectors,
-            used,
-        },
+        Spot::Nowhere => refused(NonSeqError::InvalidSliceLength, detectors, used),
     }
 }
 
@@ -221,14 +197,7 @@ pub fn record_hit_classified(
             ) {
                 return record(detectors, flux, hits, values, tags, used, h);
             }
-            Recorded {
-                check: Check::Refused {
-                    error: NonSeqError::InvalidSliceLength,
-                    place: 0,
-                },
-                detectors,
-                used,
-            }
+            refused(NonSeqError::InvalidSliceLength, detectors, used)
         }
     }
 }

@@ -14,8 +14,11 @@ mul-e c = search needs
 array-copy-out-e : tie.Need-array-copy-out-e
 array-copy-out-e c = search needs
 
+refused-requires : tie.Need-refused-requires
+refused-requires c κs = search needs
+
 returns : tie.Need-returns
-returns c = put-full _ _ _ (c .if1 .taken)
+returns c = put-full _ _ _ (c .before .if1 .taken) _ (c .refused .ensures)
 
 mul-if2 : tie.Need-mul-if2
 mul-if2 c = search needs
@@ -23,11 +26,17 @@ mul-if2 c = search needs
 slice-read-if2 : tie.Need-slice-read-if2
 slice-read-if2 c = search needs
 
+refused-requires-2 : tie.Need-refused-requires-2
+refused-requires-2 c κs = search needs
+
 returns-2 : tie.Need-returns-2
-returns-2 c = put-pixel _ _ _ (c .before .before .if1 .left) (c .if2 .taken)
+returns-2 c = put-pixel _ _ _ (c .before .before .before .if1 .left) (c .before .if2 .taken) _ (c .refused2 .ensures)
+
+refused-requires-3 : tie.Need-refused-requires-3
+refused-requires-3 c κs = search needs
 
 returns-3 : tie.Need-returns-3
-returns-3 c = put-count _ _ _ (c .before .before .before .before .if1 .left) (c .before .before .if2 .left) (c .if3 .taken)
+returns-3 c = put-count _ _ _ (c .before .before .before .before .before .if1 .left) (c .before .before .before .if2 .left) (c .before .if3 .taken) _ (c .refused3 .ensures)
 
 mul-flux : tie.Need-mul-flux
 mul-flux c = search needs
@@ -97,10 +106,13 @@ put-spec =
     cast-d
     mul-e
     array-copy-out-e
+    refused-requires
     returns
     mul-if2
     slice-read-if2
+    refused-requires-2
     returns-2
+    refused-requires-3
     returns-3
     mul-flux
     slice-read-flux

@@ -38,14 +38,21 @@ returns : tie.Need-returns
 returns c =
     record-put _ _ _ (c .before .before .before .before .before .before .before .before .before .before .before .before .before .before .before .before .before .before .before .at .ensures) _ (c .before .before .before .before .before .before .before .before .before .before .before .before .before .before .before .before .before .d .given .1) _ (c .before .before .before .before .before .before .before .before .before .before .before .before .before .before .before .cell .ensures) _ (c .before .before .before .before .before .before .before .before .before .before .before .before .before .before .in-maps .ensures) (c .before .before .before .before .before .before .before .before .before .before .before .before .before .if1 .taken) _ (c .before .before .before .before .before .before .before .before .put .ensures)
 
+refused-requires : tie.Need-refused-requires
+refused-requires c κs = search needs
+
 enum-told : tie.Need-enum-told
 enum-told c = search needs
 
+refused-requires-2 : tie.Need-refused-requires-2
+refused-requires-2 c κs = search needs
+
 returns-2 : tie.Need-returns-2
-returns-2 c = record-outside _ _ _ (c .before .before .before .before .before .before .at .ensures) _ (c .before .before .before .before .d .given .1) _ (c .before .before .cell .ensures) _ (c .before .in-maps .ensures) (c .if1 .left)
+returns-2 c =
+    record-outside _ _ _ (c .before .before .before .before .before .before .before .at .ensures) _ (c .before .before .before .before .before .d .given .1) _ (c .before .before .before .cell .ensures) _ (c .before .before .in-maps .ensures) (c .before .if1 .left) _ (c .refused .ensures)
 
 returns-3 : tie.Need-returns-3
-returns-3 c = record-nowhere _ _ _ (c .before .before .at .ensures) (c .enum-told .given .1)
+returns-3 c = record-nowhere _ _ _ (c .before .before .before .at .ensures) (c .before .enum-told .given .1) _ (c .refused2 .ensures)
 
 pub record-spec : {M : Type 1} → statement M
 record-spec =
@@ -61,6 +68,8 @@ record-spec =
     same-length-3
     same-length-4
     returns
+    refused-requires
     enum-told
+    refused-requires-2
     returns-2
     returns-3)

@@ -35,11 +35,14 @@ returns : tie.Need-returns
 returns c =
     recorded _ _ _ (c .before .before .before .before .before .before .before .before .before .before .before .before .before .before .before .before .before .find .ensures) _ (c .before .before .before .before .before .before .before .before .before .before .before .before .before .before .before .enum-told .given .1) _ (c .before .before .before .before .before .before .before .before .before .before .before .before .before .before .are-lengths .ensures) (c .before .before .before .before .before .before .before .before .before .before .before .before .before .if1 .taken) _ (c .before .before .before .before .before .before .before .before .«record» .ensures)
 
+refused-requires : tie.Need-refused-requires
+refused-requires c κs = search needs
+
 returns-2 : tie.Need-returns-2
 returns-2 c = asked-refused _ _ _ (c .before .before .before .find .ensures) _ _ (c .before .error .given .1)
 
 returns-3 : tie.Need-returns-3
-returns-3 c = lengths-refused _ _ _ (c .before .before .before .before .find .ensures) _ (c .before .before .enum-told .given .1) _ (c .before .are-lengths .ensures) (c .if1 .left)
+returns-3 c = lengths-refused _ _ _ (c .before .before .before .before .before .find .ensures) _ (c .before .before .before .enum-told .given .1) _ (c .before .before .are-lengths .ensures) (c .before .if1 .left) _ (c .refused .ensures)
 
 pub record-hit-classified-spec : {M : Type 1} → statement M
 record-hit-classified-spec =
@@ -55,5 +58,6 @@ record-hit-classified-spec =
     same-length-3
     same-length-4
     returns
+    refused-requires
     returns-2
     returns-3)
