@@ -64,7 +64,7 @@ fn record_six(
     r
 }
 
-pub fn six_hits() {
+pub(crate) fn six_hits() {
     let mut flux = [0.0f64; 5];
     let mut hits = [0u32; 5];
     let mut values = [0.0f64; 24];

@@ -3,7 +3,7 @@ use detector::Detector2D;
 use detectors::Detectors;
 ghost use Prim.Native.Nat.{_≤_};
 
-pub fn copy_doubles(from: &[f64], to: &mut [f64]) {
+pub(crate) fn copy_doubles(from: &[f64], to: &mut [f64]) {
     let mut i: usize = 0;
     while i < from.len() {
         if to.len() <= i {
@@ -14,7 +14,7 @@ pub fn copy_doubles(from: &[f64], to: &mut [f64]) {
     }
 }
 
-pub fn copy_wholes(from: &[u32], to: &mut [u32]) {
+pub(crate) fn copy_wholes(from: &[u32], to: &mut [u32]) {
     let mut i: usize = 0;
     while i < from.len() {
         if to.len() <= i {
@@ -26,7 +26,7 @@ pub fn copy_wholes(from: &[u32], to: &mut [u32]) {
 }
 
 // The bits at a place; past the end a pattern that no double has here.
-pub fn bits_at(s: &[f64], i: usize) -> u64 {
+pub(crate) fn bits_at(s: &[f64], i: usize) -> u64 {
     if i < s.len() {
         return doubles::to_bits(s[i]);
     }
@@ -38,7 +38,7 @@ fn wide(n: u32) -> u64 {
 }
 
 // The number at a place; past the end one that is no u32.
-pub fn whole_at(s: &[u32], i: usize) -> u64 {
+pub(crate) fn whole_at(s: &[u32], i: usize) -> u64 {
     if i < s.len() {
         return wide(s[i]);
     }
@@ -55,7 +55,7 @@ fn one_if_not(a: u64, b: u64) -> u64
 }
 
 // How many places of a slice are not as in its copy.
-pub fn doubles_changed(s: &[f64], copy: &[f64]) -> u64 {
+pub(crate) fn doubles_changed(s: &[f64], copy: &[f64]) -> u64 {
     let mut n: u64 = 0;
     let mut i: usize = 0;
     while i < s.len() {
@@ -65,7 +65,7 @@ pub fn doubles_changed(s: &[f64], copy: &[f64]) -> u64 {
     n
 }
 
-pub fn wholes_changed(s: &[u32], copy: &[u32]) -> u64 {
+pub(crate) fn wholes_changed(s: &[u32], copy: &[u32]) -> u64 {
     let mut n: u64 = 0;
     let mut i: usize = 0;
     while i < s.len() {
@@ -76,7 +76,7 @@ pub fn wholes_changed(s: &[u32], copy: &[u32]) -> u64 {
 }
 
 // The first such place; the length where there is none.
-pub fn first_changed(s: &[f64], copy: &[f64]) -> usize {
+pub(crate) fn first_changed(s: &[f64], copy: &[f64]) -> usize {
     let mut i: usize = 0;
     while i < s.len() {
         if bits_at(s, i) != bits_at(copy, i) {
@@ -128,7 +128,7 @@ fn record_changed(d: Detector2D, e: Detector2D) -> u64
 }
 
 // How many of the 8 records are not as before, and 1 for their number if it is not.
-pub fn records_changed(ds: Detectors, before: Detectors) -> u64 {
+pub(crate) fn records_changed(ds: Detectors, before: Detectors) -> u64 {
     let a = ds.list;
     let b = before.list;
     let mut n = one_if_not(ds.count as u64, before.count as u64);

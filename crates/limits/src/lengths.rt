@@ -22,7 +22,7 @@ fn record(words: &[u8], flux: usize, hits: usize, values: usize, tags: usize, us
     tried::once(words, made::two(), lent, used, made::hit(1, -2.0, 0.0, 1.5));
 }
 
-pub fn recordings() {
+pub(crate) fn recordings() {
     report::text(b"Lengths in recordings\n");
     record(b"all right", 7, 7, 8, 8, 1);
     record(b"flux one short", 6, 7, 8, 8, 1);
@@ -47,7 +47,7 @@ fn sift(words: &[u8], stored: usize, work: usize, values: usize, tags: usize, us
     sifted::each_way(words, made::two(), 1, used, lent);
 }
 
-pub fn filters() {
+pub(crate) fn filters() {
     report::text(b"Lengths in filters\n");
     sift(b"all right", 7, 3, 8, 8, 2);
     sift(b"stored one short", 6, 3, 8, 8, 2);
@@ -60,7 +60,7 @@ pub fn filters() {
     sift(b"3 used of 2", 7, 3, 8, 8, 3);
 }
 
-pub fn irradiances() {
+pub(crate) fn irradiances() {
     report::text(b"Lengths in irradiance_at\n");
     readings::irradiance(b"flux one short", made::two(), 1, 6, 0, 0);
     readings::irradiance(b"flux one long", made::two(), 1, 8, 0, 0);

@@ -6,12 +6,12 @@ use memory::DetectorHit;
 use rays::Vec3;
 ghost use mathlib.Core.Path.{_≡_};
 
-pub fn vec(x: f64, y: f64, z: f64) -> Vec3 {
+pub(crate) fn vec(x: f64, y: f64, z: f64) -> Vec3 {
     Vec3 { x, y, z }
 }
 
 // 4 by 2 mm in the plane z = 0, x to the right, y up, as if it had caught 20 hits of 10 watts together.
-pub fn grid(res_x: u32, res_y: u32) -> Detector2D {
+pub(crate) fn grid(res_x: u32, res_y: u32) -> Detector2D {
     Detector2D {
         center: vec(0.0, 0.0, 0.0),
         normal: vec(0.0, 0.0, 1.0),
@@ -25,14 +25,14 @@ pub fn grid(res_x: u32, res_y: u32) -> Detector2D {
     }
 }
 
-pub fn sized(width: f64, height: f64) -> Detector2D {
+pub(crate) fn sized(width: f64, height: f64) -> Detector2D {
     let mut d = grid(1, 1);
     d.width_mm = width;
     d.height_mm = height;
     d
 }
 
-pub fn facing(normal: Vec3, up: Vec3) -> Detector2D {
+pub(crate) fn facing(normal: Vec3, up: Vec3) -> Detector2D {
     let mut d = grid(1, 1);
     d.normal = normal;
     d.up = up;
@@ -40,38 +40,38 @@ pub fn facing(normal: Vec3, up: Vec3) -> Detector2D {
 }
 
 // One that has caught so many hits.
-pub fn hit_so_often(res_x: u32, res_y: u32, count: u32) -> Detector2D {
+pub(crate) fn hit_so_often(res_x: u32, res_y: u32, count: u32) -> Detector2D {
     let mut d = grid(res_x, res_y);
     d.total_rays_hit = count;
     d
 }
 
 // One that has caught nothing.
-pub fn fresh(res_x: u32, res_y: u32) -> Detector2D {
+pub(crate) fn fresh(res_x: u32, res_y: u32) -> Detector2D {
     let mut d = hit_so_often(res_x, res_y, 0);
     d.total_flux_watts = 0.0;
     d
 }
 
 // Three detectors, of which so many count; the places behind them hold the third.
-pub fn three(a: Detector2D, b: Detector2D, c: Detector2D, count: u32) -> Detectors {
+pub(crate) fn three(a: Detector2D, b: Detector2D, c: Detector2D, count: u32) -> Detectors {
     Detectors {
         list: [a, b, c, c, c, c, c, c],
         count,
     }
 }
 
-pub fn pair(a: Detector2D, b: Detector2D) -> Detectors {
+pub(crate) fn pair(a: Detector2D, b: Detector2D) -> Detectors {
     three(a, b, b, 2)
 }
 
 // Of 2 by 2 and 3 by 1 pixels.
-pub fn two() -> Detectors {
+pub(crate) fn two() -> Detectors {
     pair(grid(2, 2), grid(3, 1))
 }
 
 // Eight of one pixel each, of which so many are said to be there.
-pub fn eight(count: u32) -> Detectors {
+pub(crate) fn eight(count: u32) -> Detectors {
     let d = grid(1, 1);
     Detectors {
         list: [d; 8],
@@ -89,7 +89,7 @@ pub struct Lent {
     pub first_count: u32,
 }
 
-pub fn room(pixels: usize, places: usize) -> Lent
+pub(crate) fn room(pixels: usize, places: usize) -> Lent
     ensures { λ r. ⌜ (r .flux ≡ pixels) × (r .hits ≡ pixels) × (r .values ≡ places) × (r .tags ≡ places) ⌝ }
 {
     Lent {
@@ -102,7 +102,7 @@ pub fn room(pixels: usize, places: usize) -> Lent
 }
 
 // 587.5 nm, 3 bounces, a reflection and 2 total reflections.
-pub fn hit(detector: u32, x: f64, y: f64, flux: f64) -> DetectorHit {
+pub(crate) fn hit(detector: u32, x: f64, y: f64, flux: f64) -> DetectorHit {
     DetectorHit {
         local_x: x,
         local_y: y,
@@ -116,7 +116,7 @@ pub fn hit(detector: u32, x: f64, y: f64, flux: f64) -> DetectorHit {
 }
 
 // A hit after so many reflections and total reflections.
-pub fn after(h: DetectorHit, reflections: u32, tirs: u32) -> DetectorHit {
+pub(crate) fn after(h: DetectorHit, reflections: u32, tirs: u32) -> DetectorHit {
     let mut next = h;
     next.reflection_count = reflections;
     next.tir_count = tirs;
@@ -124,7 +124,7 @@ pub fn after(h: DetectorHit, reflections: u32, tirs: u32) -> DetectorHit {
 }
 
 // first, first + step, first + 2 step, ..
-pub fn fill_doubles(s: &mut [f64], first: f64, step: f64) {
+pub(crate) fn fill_doubles(s: &mut [f64], first: f64, step: f64) {
     let mut x = first;
     let mut i: usize = 0;
     while i < s.len() {
@@ -135,7 +135,7 @@ pub fn fill_doubles(s: &mut [f64], first: f64, step: f64) {
 }
 
 // The same, modulo 2^32.
-pub fn fill_wholes(s: &mut [u32], first: u32, step: u32) {
+pub(crate) fn fill_wholes(s: &mut [u32], first: u32, step: u32) {
     let mut n = first;
     let mut i: usize = 0;
     while i < s.len() {

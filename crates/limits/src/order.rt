@@ -43,7 +43,7 @@ fn sift(words: &[u8], ds: Detectors, asked: u32, pixels: usize)
     sifted::each_way(words, ds, asked, 2, lent);
 }
 
-pub fn not_there() {
+pub(crate) fn not_there() {
     report::text(b"Not there\n");
     let d = made::grid(1, 1);
     record(b"2 of two", made::two(), 2, 7, 0);
@@ -54,7 +54,7 @@ pub fn not_there() {
     readings::irradiance(b"2 of two", made::two(), 2, 7, 0, 0);
 }
 
-pub fn two_reasons() {
+pub(crate) fn two_reasons() {
     report::text(b"Two reasons\n");
     record(b"3 and 5", nine(), 0, 8, 0);
     record(b"5 at 1 and 4", second_bad(), 2, 2, 0);

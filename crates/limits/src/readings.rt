@@ -35,7 +35,7 @@ fn read(words: &[u8], ds: Detectors, asked: u32, flux: &[f64], px: u32, py: u32)
 }
 
 // Of a flux map of so many pixels, filled before.
-pub fn irradiance(words: &[u8], ds: Detectors, asked: u32, pixels: usize, px: u32, py: u32)
+pub(crate) fn irradiance(words: &[u8], ds: Detectors, asked: u32, pixels: usize, px: u32, py: u32)
     requires { ⌜ pixels ≤ 32 ⌝ }
 {
     let mut flux = [0.0f64; 32];
@@ -43,7 +43,7 @@ pub fn irradiance(words: &[u8], ds: Detectors, asked: u32, pixels: usize, px: u3
     read(words, ds, asked, &flux[0..pixels], px, py);
 }
 
-pub fn irradiances() {
+pub(crate) fn irradiances() {
     report::text(b"Irradiance\n");
     let ds = made::two();
     irradiance(b"pixel 1 1 of detector 0", ds, 0, 7, 1, 1);
@@ -59,7 +59,7 @@ fn area(words: &[u8], d: Detector2D) {
     report::text(b"\n");
 }
 
-pub fn areas() {
+pub(crate) fn areas() {
     report::text(b"Pixel area\n");
     area(b"2 by 2", made::grid(2, 2));
     area(b"4096 by 4096", made::grid(4096, 4096));
@@ -101,7 +101,7 @@ fn from_behind(words: &[u8], direction: Vec3, power: f64) {
     cross(words, made::grid(2, 2), o, direction, power);
 }
 
-pub fn crossings() {
+pub(crate) fn crossings() {
     report::text(b"Crossings\n");
     from_front(b"x half the width", 2.0, 0.0, 5.0);
     from_front(
@@ -130,7 +130,7 @@ pub fn crossings() {
     from_behind(b"along the face", made::vec(1.0, 0.0, 0.0), 1.0);
 }
 
-pub fn rays() {
+pub(crate) fn rays() {
     report::text(b"Given rays\n");
     let d = made::vec(0.0, 0.0, 1.0);
     let o = made::vec(doubles::infinity(), 0.0, 0.0);

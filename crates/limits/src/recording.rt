@@ -4,7 +4,7 @@ use crate::made::Lent;
 use crate::report;
 use crate::tried;
 
-pub fn eight_detectors() {
+pub(crate) fn eight_detectors() {
     report::text(b"Eight detectors\n");
     let h = made::hit(7, 0.0, 0.0, 1.5);
     tried::once(b"hit on 7", made::eight(8), made::room(8, 8), 0, h);
@@ -34,7 +34,7 @@ fn three_hits() {
     tried::more(r, &mut flux, &mut hits, &mut values, &mut tags, h);
 }
 
-pub fn hit_list() {
+pub(crate) fn hit_list() {
     report::text(b"Hit list of 2\n");
     three_hits();
     let h = made::hit(0, 0.0, 0.0, 1.5);
@@ -81,7 +81,7 @@ fn count_elsewhere() {
     );
 }
 
-pub fn counts() {
+pub(crate) fn counts() {
     report::text(b"Counts\n");
     count(b"pixel at 4294967295", 20, 4294967295, 0);
     count(b"detector at 4294967295", 4294967295, 1, 0);

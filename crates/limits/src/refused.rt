@@ -50,7 +50,7 @@ fn at(words: &[u8], d: Detector2D, pixels: usize, x: f64, y: f64)
     tried::once(words, ds, made::room(pixels, 8), 0, h);
 }
 
-pub fn resolutions() {
+pub(crate) fn resolutions() {
     report::text(b"Resolutions\n");
     let row = made::grid(4096, 1);
     let column = made::grid(1, 4096);
@@ -73,7 +73,7 @@ pub fn resolutions() {
     try_it(b"1 by 0", made::grid(1, 0), 1);
 }
 
-pub fn sizes() {
+pub(crate) fn sizes() {
     report::text(b"Sizes\n");
     let nan = doubles::from_bits(0x7ff8_0000_0000_0000);
     let inf = doubles::infinity();
@@ -93,7 +93,7 @@ pub fn sizes() {
     );
 }
 
-pub fn axes() {
+pub(crate) fn axes() {
     report::text(b"Axes\n");
     let n = made::vec(0.0, 0.0, 1.0);
     try_it(
@@ -133,7 +133,7 @@ fn listed(words: &[u8], a: Detector2D, b: Detector2D, c: Detector2D, count: u32,
     );
 }
 
-pub fn several() {
+pub(crate) fn several() {
     report::text(b"Several bad detectors\n");
     let good = made::grid(1, 1);
     let thin = made::sized(0.0, 2.0);

@@ -1,28 +1,28 @@
 // Text for standard output: words, whole numbers, doubles as the 16 hex digits of their bits, checks.
 use error::Check;
 
-pub fn text(words: &[u8]) {
+pub(crate) fn text(words: &[u8]) {
     io::write_all(1, words);
 }
 
-pub fn whole(words: &[u8], n: u64) {
+pub(crate) fn whole(words: &[u8], n: u64) {
     io::write_all(1, words);
     io::print_decimal(1, n);
 }
 
-pub fn bits(words: &[u8], x: f64) {
+pub(crate) fn bits(words: &[u8], x: f64) {
     io::write_all(1, words);
     io::print_hex(1, doubles::to_bits(x), 16);
 }
 
 // As "refused 7 at 1".
-pub fn refused(number: u32, place: u32) {
+pub(crate) fn refused(number: u32, place: u32) {
     whole(b"refused ", number as u64);
     whole(b" at ", place as u64);
 }
 
 // The same, or "passed" for 0 at 0.
-pub fn numbered(number: u32, place: u32) {
+pub(crate) fn numbered(number: u32, place: u32) {
     if number == 0 {
         if place == 0 {
             text(b"passed");
@@ -32,7 +32,7 @@ pub fn numbered(number: u32, place: u32) {
     refused(number, place);
 }
 
-pub fn check(c: Check) {
+pub(crate) fn check(c: Check) {
     match c {
         Check::Passed => text(b"passed"),
         Check::Refused { error, place } => refused(error.number(), place),
@@ -40,7 +40,7 @@ pub fn check(c: Check) {
 }
 
 // All of a slice, each after a space.
-pub fn all_bits(words: &[u8], s: &[f64]) {
+pub(crate) fn all_bits(words: &[u8], s: &[f64]) {
     io::write_all(1, words);
     let mut i: usize = 0;
     while i < s.len() {

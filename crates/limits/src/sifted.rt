@@ -99,7 +99,7 @@ fn ask(q: Question, stored: &[f64], work: &mut [f64], values: &[f64], tags: &[u3
     ask_twice(q, stored, work, values, tags);
 }
 
-pub fn sift(
+pub(crate) fn sift(
     words: &[u8],
     q: Question,
     stored: &[f64],
@@ -147,7 +147,7 @@ fn fill_and_sift(
 }
 
 // The same over slices of these lengths.
-pub fn once(words: &[u8], q: Question, lent: Maps)
+pub(crate) fn once(words: &[u8], q: Question, lent: Maps)
     requires { ⌜ (lent .stored ≤ 32) × (lent .work ≤ 32) × (lent .values ≤ 32) × (lent .tags ≤ 32) ⌝ }
 {
     let mut stored = [0.0f64; 32];
@@ -169,7 +169,7 @@ pub fn once(words: &[u8], q: Question, lent: Maps)
 }
 
 // All and GhostsOnly, in two calls and in one.
-pub fn each_way(words: &[u8], detectors: Detectors, asked: u32, used: usize, lent: Maps)
+pub(crate) fn each_way(words: &[u8], detectors: Detectors, asked: u32, used: usize, lent: Maps)
     requires { ⌜ (lent .stored ≤ 32) × (lent .work ≤ 32) × (lent .values ≤ 32) × (lent .tags ≤ 32) ⌝ }
 {
     let mut q = Question {

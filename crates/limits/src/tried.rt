@@ -109,7 +109,7 @@ fn record(
 }
 
 // Before the first of several hits.
-pub fn start(detectors: Detectors) -> Recorded {
+pub(crate) fn start(detectors: Detectors) -> Recorded {
     Recorded {
         check: Check::Passed,
         detectors,
@@ -118,7 +118,7 @@ pub fn start(detectors: Detectors) -> Recorded {
 }
 
 // A hit after those before it.
-pub fn more(
+pub(crate) fn more(
     r: Recorded,
     flux: &mut [f64],
     hits: &mut [u32],
@@ -150,7 +150,7 @@ fn fill_and_record(
 }
 
 // One hit into slices of these lengths, filled before.
-pub fn once(words: &[u8], detectors: Detectors, lent: Lent, used: usize, h: DetectorHit)
+pub(crate) fn once(words: &[u8], detectors: Detectors, lent: Lent, used: usize, h: DetectorHit)
     requires { ⌜ (lent .flux ≤ 4104) × (lent .hits ≤ 4104) × (lent .values ≤ 32) × (lent .tags ≤ 32) ⌝ }
 {
     let mut flux = [0.0f64; 4104];
