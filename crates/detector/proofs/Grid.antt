@@ -59,16 +59,20 @@ pub record Gridded (d : Detector2D) : Type 0 where
   pub most-x : d .«res_x» ≤ maxRes
   pub most-y : d .«res_y» ≤ maxRes
 
-abbrev pub Passes : Checked Unit → Type 0
-Passes (passed u) = Unit {0}
+abbrev Passes : {A : Type 0} → Checked A → Type 0
+Passes (passed a) = Unit {0}
 Passes (refusedAt n p) = ⊥
+
+-- what is refused has not passed
+pub never : {A B : Type 0} (n p : ℕ) (a : A) → refusedAt n p ≡ passed a → B
+never n p a e = absurd (subst (λ c. Passes c) (sym e) tt)
 
 pub passed-grid : (d : Detector2D) (place : ℕ) → checkDetectorOf d place ≡ passed tt → Gridded d
 unfolding checkDetectorOf checkGridOf
 passed-grid d place e = size (isSizeOf (d .«width_mm») && isSizeOf (d .«height_mm»)) e
   where
     grid : (zx zy lx ly p : Bool) → eqb (d .«res_x») 0 ≡ zx → eqb (d .«res_y») 0 ≡ zy → leb (d .«res_x») maxRes ≡ lx → leb (d .«res_y») maxRes ≡ ly
-        → Passes (cond (zx || zy) (refusedAt 6 place) (cond (lx && ly) (cond p (refusedAt 8 place) (passed tt)) (refusedAt 7 place))) → Gridded d
+        → Passes {A = Unit {0}} (cond (zx || zy) (refusedAt 6 place) (cond (lx && ly) (cond p (refusedAt 8 place) (passed tt)) (refusedAt 7 place))) → Gridded d
     grid true zy lx ly p a b c f t = absurd t
     grid false true lx ly p a b c f t = absurd t
     grid false false false ly p a b c f t = absurd t
@@ -80,8 +84,8 @@ passed-grid d place e = size (isSizeOf (d .«width_mm») && isSizeOf (d .«heigh
         record { some-x = omega arith; some-y = omega arith; most-x = leb-true _ _ c; most-y = leb-true _ _ f }
 
     size : (b : Bool) → cond b (checkGridOf d place) (refusedAt 5 place) ≡ passed tt → Gridded d
-    size true e = grid (eqb (d .«res_x») 0) (eqb (d .«res_y») 0) (leb (d .«res_x») maxRes) (leb (d .«res_y») maxRes) (isParallelOf (d .normal) (d .up)) refl refl refl refl (subst Passes (sym e) tt)
-    size false e = absurd (subst Passes (sym e) tt)
+    size true e = grid (eqb (d .«res_x») 0) (eqb (d .«res_y») 0) (leb (d .«res_x») maxRes) (leb (d .«res_y») maxRes) (isParallelOf (d .normal) (d .up)) refl refl refl refl (subst (λ c. Passes c) (sym e) tt)
+    size false e = never 5 place tt e
 
 -- a row and a column give a place in a grid
 pub in-grid : (px py nx ny : ℕ) → px < nx → py < ny → py * nx + px < nx * ny

@@ -16,7 +16,7 @@ use Rattle.detector.specs.declared.DetectorNo.{DetectorNo}
 use Rattle.detector.specs.declared.Detector2D.{Detector2D}
 use Rattle.detector.specs.Checks.{checkDetectorOf}
 use Rattle.detector.specs.Pixels.{pixelsOf}
-use Rattle.detector.proofs.Grid.{Passes, pixels-most}
+use Rattle.detector.proofs.Grid.{never, pixels-most}
 use Rattle.detectors.specs.declared.Detectors.{Detectors}
 use Rattle.detectors.specs.declared.Placed.{Placed}
 use Rattle.detectors.specs.declared.Spot.{Spot}
@@ -69,7 +69,7 @@ count-most ds r f g = go (leb (ds .count) 8) refl (sym f ∙ ap checkOf g)
   where
     go : (b : Bool) → leb (ds .count) 8 ≡ b → cond b (checkFromOf (ds .list) (ds .count) 0) (refusedAt 3 0) ≡ passed tt → ds .count ≤ 8
     go true e k = leb-true _ _ e
-    go false e k = absurd (subst Passes (sym k) tt)
+    go false e k = never 3 0 tt k
 
 -- ---- detector d of the list
 

@@ -1,6 +1,6 @@
 -- What holds of detectors that passed the check: each has its pixels, none shares one with another, and the pixel of every point of one is among its own. Assumes nothing.
 use Prim.Native.Nat.{ℕ, zero, suc, _+_, _-_, _*_, _≤_, _<_}
-use mathlib.Core.Path.{_≡_, refl, sym, ap, subst, _∙_}
+use mathlib.Core.Path.{_≡_, refl, sym, ap, _∙_}
 use mathlib.Core.Bool.{Bool, true, false, cond}
 use mathlib.Core.List.{List}
 use mathlib.Core.Logic.{_⊎_, inl, inr}
@@ -15,7 +15,7 @@ use Rattle.detector.specs.declared.DetectorNo.{DetectorNo}
 use Rattle.detector.specs.declared.Detector2D.{Detector2D}
 use Rattle.detector.specs.Checks.{checkDetectorOf}
 use Rattle.detector.specs.Pixels.{pixelsOf}
-use Rattle.detector.proofs.Grid.{Gridded, passed-grid, pixels-are, in-grid}
+use Rattle.detector.proofs.Grid.{never, Gridded, passed-grid, pixels-are, in-grid}
 use Rattle.detectors.specs.declared.Detectors.{Detectors}
 use Rattle.detectors.specs.declared.Placed.{Placed}
 use Rattle.detectors.specs.Detectors.{maxDetectors, detectorAt, firstPixelOf, allPixelsOf, checkFromOf, checkDetectorsOf, checkAskedOf, placedOf, findOf}
@@ -25,13 +25,6 @@ use Rattle.detectors.specs.Detectors.{maxDetectors, detectorAt, firstPix
 pub record Sound (ds : Detectors) : Type 0 where
   pub most : ds .count ≤ maxDetectors
   pub each : (i : ℕ) → i < ds .count → Gridded (detectorAt (ds .list) i)
-
-abbrev Refuses : {A : Type 0} → Checked A → Type 0
-Refuses (passed a) = ⊥
-Refuses (refusedAt n p) = Unit {0}
-
-pub never : {A B : Type 0} (n p : ℕ) (a : A) → refusedAt n p ≡ passed a → B
-never n p a e = absurd (subst (λ c. Refuses c) e tt)
 
 both-passed : {A : Type 0} (a : A) (c : Checked Unit) (x : Checked A) → after c x ≡ passed a → (c ≡ passed tt) × (x ≡ passed a)
 both-passed a (passed tt) x e = (refl, e)

@@ -13,6 +13,7 @@ use Rattle.error.specs.declared.NonSeqError.{NonSeqError}
 use Rattle.error.specs.Refusals.{numberOf, Checked, passed, refusedAt}
 use Rattle.detector.specs.declared.DetectorNo.{DetectorNo}
 use Rattle.detector.specs.Pixels.{pixelsOf}
+use Rattle.detector.proofs.Grid.{never}
 use Rattle.detectors.specs.declared.Detectors.{Detectors}
 use Rattle.detectors.specs.declared.Placed.{Placed}
 use Rattle.detectors.specs.declared.Found.{Found}
@@ -20,7 +21,7 @@ use Rattle.detectors.specs.declared.Found.the-variants.{There, Refused}
 use Rattle.memory.specs.declared.hits.DetectorHit.{DetectorHit}
 use Rattle.detectors.specs.Detectors.{allPixelsOf, placedOf, findOf, foundOf}
 use Rattle.memory.specs.Memory.{hitsFrom, isHitListOf}
-use Rattle.detectors.proofs.Passed.{asked-there, part-in, never}
+use Rattle.detectors.proofs.Passed.{asked-there, part-in}
 use Rattle.filter.specs.declared.RayPathFilter.{RayPathFilter}
 use Rattle.filter.specs.Filters.{#0, Map, isAllOf, refilledOf}
 use Rattle.filtering.specs.Handed.{handed, fromMap, checkPlacedOf, checkFilterOf, refilterPlacedOf, refilterOf, storedPartOf, partPlacedOf, filteredPartOf, filteredPlacedOf, filteredPixelFluxOf, numbered, inNumbersOf}

@@ -2,14 +2,13 @@
 use Prim.{tt}
 use Prim.Native.Nat.{ℕ, _+_, _<_}
 use mathlib.Core.Path.{_≡_, refl, ap, sym, subst, _∙_}
-use mathlib.Core.Bool.{Bool, true, false, cond, _&&_, _||_}
+use mathlib.Core.Bool.{Bool, true, false, cond, _||_}
 use mathlib.Core.List.{List, [], _∷_, _++_}
 use native.Mathlib.Omega.{arith}
 use lib.Dec.{leb, eqb}
 use lib.Ieee.{Float}
 use lib.ListN.{length}
 use borrow.Author.Tests.{lt-ltb, eq-eqb, eqb-true}
-use Rattle.doubles.proofs.Floats.{clash}
 use Rattle.error.specs.Refusals.{Checked, passed, refusedAt}
 use Rattle.detector.specs.declared.Detector2D.{Detector2D}
 use Rattle.detector.specs.Pixels.{pixelsOf, pixelAtOf}
@@ -21,7 +20,8 @@ use Rattle.detectors.specs.Detectors.{detectorAt, firstPixelOf, allPixelsOf, pl
 use Rattle.memory.specs.Memory.{Memory, done, refused, leftOf, listed, hitsFrom, cellInOf, cellOf, inMapsOf, holdsOf, judged, capacityOf, maxCount, raised, recordAt, recordHit, isHitListOf, areLengthsOf, isMemoryOf, unless, recordClassifiedOf, writtenAt}
 use Rattle.memory.specs.Plain.{Empty, added, viewOf, plusAll, bookHit, sharing, numberIn}
 use Rattle.detectors.proofs.Passed.{Sound, asked-there, part-in}
-use Rattle.memory.proofs.Keeps.{kept, same-pixels, same-pixel}
+use Rattle.memory.proofs.Records.{both}
+use Rattle.memory.proofs.Keeps.{kept, added-keeps, same-pixels, same-pixel}
 use Rattle.memory.proofs.Plain.{Kept, record-keeps, record-lists}
 use Rattle.memory.proofs.Views.{Fits, AllFit, gridded-kept, views}
 
@@ -29,13 +29,10 @@ use Rattle.memory.proofs.Views.{Fits, AllFit, gridded-kept, views}
 
 lengths : (ds : Detectors) (nf nh nv nt used : ℕ) → areLengthsOf ds nf nh nv nt used ≡ true → (nf ≡ allPixelsOf ds) × (nh ≡ allPixelsOf ds) × (nv ≡ nt)
 unfolding areLengthsOf isHitListOf
-lengths ds nf nh nv nt used e = go (eqb nf (allPixelsOf ds)) (eqb nh (allPixelsOf ds)) (eqb nv nt) _ refl refl refl e
-  where
-    go : (x y z w : Bool) → eqb nf (allPixelsOf ds) ≡ x → eqb nh (allPixelsOf ds) ≡ y → eqb nv nt ≡ z → (x && (y && (z && w))) ≡ true → (nf ≡ allPixelsOf ds) × (nh ≡ allPixelsOf ds) × (nv ≡ nt)
-    go true true true w u v t e = (eqb-true _ _ u, eqb-true _ _ v, eqb-true _ _ t)
-    go false y z w u v t e = absurd (clash (sym e))
-    go true false z w u v t e = absurd (clash (sym e))
-    go true true false w u v t e = absurd (clash (sym e))
+lengths ds nf nh nv nt used e =
+    let f = both _ _ e in
+    let g = both _ _ (f .1) in
+    (eqb-true _ _ (f .0), eqb-true _ _ (g .0), eqb-true _ _ (both _ _ (g .1) .0))
 
 pub holds-checked : (s : Memory) (h : DetectorHit) → Sound (s .detectors) → h .detector .0 < s .detectors .count → isMemoryOf s ≡ true → holdsOf s h ≡ true
 unfolding isMemoryOf holdsOf inMapsOf cellOf cellInOf placedOf
@@ -65,9 +62,8 @@ checked-record s h p e m =
 
 added-kept : {A : Type 0} (g : Detector2D → A) → ((d : Detector2D) (f : Float) → g (raised d f) ≡ g d) → (b : List DetectorHit) (s : Memory) (d : ℕ)
     → g (detectorAt (added s b .detectors .list) d) ≡ g (detectorAt (s .detectors .list) d)
-unfolding added writtenAt
-added-kept g e [] s d = refl
-added-kept g e (h ∷ b) s d = added-kept g e b (writtenAt s _ h) d ∙ kept g e (s .detectors .list) (h .detector .0) d (h .«flux_watts»)
+unfolding writtenAt
+added-kept g e b s d = added-keeps (λ m. g (detectorAt (m .detectors .list) d)) (λ s p k. kept g e (s .detectors .list) (k .detector .0) d (k .«flux_watts»)) b s
 
 grid-before : (b : List DetectorHit) (s : Memory) (d : ℕ) → Gridded (detectorAt (added s b .detectors .list) d) → Gridded (detectorAt (s .detectors .list) d)
 grid-before b s d g = gridded-kept _ _ (added-kept (λ d. d .«res_x») (λ d f. refl) b s d) (added-kept (λ d. d .«res_y») (λ d f. refl) b s d) g

@@ -84,35 +84,26 @@ module _ (s : Memory) (p : ℕ) (k : DetectorHit) where
 
 -- ---- any number of hits added
 
+-- what a hit keeps wherever it is written, any number of hits keep
+pub added-keeps : {A : Type 0} (g : Memory → A) → ((s : Memory) (p : ℕ) (k : DetectorHit) → g (writtenAt s p k) ≡ g s) → (b : List DetectorHit) (s : Memory) → g (added s b) ≡ g s
+unfolding added
+added-keeps g e [] s = refl
+added-keeps g e (k ∷ b) s = added-keeps g e b (writtenAt s _ k) ∙ e s _ k
+
 pub added-cell : (b : List DetectorHit) (s : Memory) (h : DetectorHit) → cellOf (added s b .detectors .list) h ≡ cellOf (s .detectors .list) h
-unfolding added
-added-cell [] s h = refl
-added-cell (k ∷ b) s h = added-cell b (writtenAt s _ k) h ∙ written-cell s _ k h
+added-cell b s h = added-keeps (λ m. cellOf (m .detectors .list) h) (λ s p k. written-cell s p k h) b s
 
-pub added-list : (b : List DetectorHit) (s : Memory) → length (added s b .detectors .list) ≡ length (s .detectors .list)
-unfolding added
-added-list [] s = refl
-added-list (k ∷ b) s = added-list b (writtenAt s _ k) ∙ written-list s _ k
+added-flux : (b : List DetectorHit) (s : Memory) → length (added s b .flux) ≡ length (s .flux)
+added-flux = added-keeps (λ m. length (m .flux)) written-flux
 
-pub added-flux : (b : List DetectorHit) (s : Memory) → length (added s b .flux) ≡ length (s .flux)
-unfolding added
-added-flux [] s = refl
-added-flux (k ∷ b) s = added-flux b (writtenAt s _ k) ∙ written-flux s _ k
+added-hits : (b : List DetectorHit) (s : Memory) → length (added s b .hits) ≡ length (s .hits)
+added-hits = added-keeps (λ m. length (m .hits)) written-hits
 
-pub added-hits : (b : List DetectorHit) (s : Memory) → length (added s b .hits) ≡ length (s .hits)
-unfolding added
-added-hits [] s = refl
-added-hits (k ∷ b) s = added-hits b (writtenAt s _ k) ∙ written-hits s _ k
+added-values : (b : List DetectorHit) (s : Memory) → length (added s b .values) ≡ length (s .values)
+added-values = added-keeps (λ m. length (m .values)) written-values
 
-pub added-values : (b : List DetectorHit) (s : Memory) → length (added s b .values) ≡ length (s .values)
-unfolding added
-added-values [] s = refl
-added-values (k ∷ b) s = added-values b (writtenAt s _ k) ∙ written-values s _ k
-
-pub added-tags : (b : List DetectorHit) (s : Memory) → length (added s b .tags) ≡ length (s .tags)
-unfolding added
-added-tags [] s = refl
-added-tags (k ∷ b) s = added-tags b (writtenAt s _ k) ∙ written-tags s _ k
+added-tags : (b : List DetectorHit) (s : Memory) → length (added s b .tags) ≡ length (s .tags)
+added-tags = added-keeps (λ m. length (m .tags)) written-tags
 
 pub added-holds : (b : List DetectorHit) (s : Memory) (h : DetectorHit) → holdsOf (added s b) h ≡ holdsOf s h
 unfolding holdsOf

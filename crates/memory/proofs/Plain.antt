@@ -2,7 +2,7 @@
 use Prim.{yes, no}
 use Prim.Native.Nat.{ℕ, _+_, _-_, _≤_, _<_}
 use mathlib.Core.Path.{_≡_, refl, ap, sym, _∙_, fun-ext}
-use mathlib.Core.Bool.{Bool, true, false, cond, _&&_, _||_}
+use mathlib.Core.Bool.{Bool, true, false, cond, _||_}
 use mathlib.Core.List.{List, [], _∷_, _++_}
 use native.Mathlib.Nat.{add-zero, add-assoc}
 use native.Mathlib.Omega.{arith}
@@ -12,15 +12,14 @@ use lib.Ieee.{Float}
 use lib.ListN.{length, getD, set, length-append}
 use lib.Seq.{getD-set-same, getD-set-other}
 use borrow.Author.Tests.{eq-eqb, ne-eqb, ltb-true, leb-false}
-use Rattle.doubles.proofs.Floats.{clash}
 use Rattle.detector.specs.declared.Detector2D.{Detector2D}
 use Rattle.memory.specs.declared.hits.DetectorHit.{DetectorHit}
 use Rattle.error.specs.Refusals.{Checked, passed, refusedAt}
 use Rattle.detectors.specs.declared.Placed.{Placed}
 use Rattle.detectors.specs.Detectors.{noDetector, detectorAt, findOf}
-use Rattle.memory.specs.Memory.{Memory, Outcome, done, refused, raised, writtenAt, judged, recordAt, recordHit, cellOf, capacityOf, inMapsOf, holdsOf, maxCount, detectorOf, listed, hitsFrom, leftOf, unless, isMemoryOf, recordClassifiedOf}
+use Rattle.memory.specs.Memory.{Memory, Outcome, done, refused, raised, writtenAt, judged, recordAt, recordHit, cellOf, capacityOf, holdsOf, maxCount, detectorOf, listed, hitsFrom, leftOf, unless, isMemoryOf, recordClassifiedOf}
 use Rattle.memory.specs.Plain.{sharing, numberIn, bookHit, added, Empty}
-use Rattle.memory.proofs.Records.{told-lengths}
+use Rattle.memory.proofs.Records.{both, told-lengths}
 use Rattle.memory.proofs.Keeps.{written-cell, written-hits, written-list, added-cell, added-holds, added-capacity}
 use Rattle.memory.proofs.Listed.{listed-added}
 
@@ -92,12 +91,10 @@ judged-same a a′ b b′ m n n′ ea eb en = cc
 pub held : (s : Memory) (h : DetectorHit) → holdsOf s h ≡ true
     → (h .detector .0 < 8) × (cellOf (s .detectors .list) h < length (s .flux)) × (cellOf (s .detectors .list) h < length (s .hits)) × (length (s .values) ≡ length (s .tags))
 unfolding holdsOf
-held s h e = go (ltb (h .detector .0) 8) refl e
-  where
-    go : (x : Bool) → ltb (h .detector .0) 8 ≡ x → (x && inMapsOf (cellOf (s .detectors .list) h) (length (s .flux)) (length (s .hits)) (length (s .values)) (length (s .tags))) ≡ true
-        → (h .detector .0 < 8) × (cellOf (s .detectors .list) h < length (s .flux)) × (cellOf (s .detectors .list) h < length (s .hits)) × (length (s .values) ≡ length (s .tags))
-    go true t e = let l = told-lengths _ _ _ _ _ true (sym e) refl in (ltb-true _ _ t, l .0, l .1, l .2)
-    go false t e = absurd (clash (sym e))
+held s h e =
+    let f = both (ltb (h .detector .0) 8) _ e in
+    let l = told-lengths _ _ _ _ _ true (sym (f .1)) refl in
+    (ltb-true _ _ (f .0), l .0, l .1, l .2)
 
 module _ (s : Memory) (eight : length (s .detectors .list) ≡ 8) (empty : Empty s) where
   pub used-by : (b : List DetectorHit) → added s b .used ≡ length b

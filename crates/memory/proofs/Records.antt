@@ -49,15 +49,17 @@ module _ (s : Memory) (p : ℕ) (h : DetectorHit) where
       put-done k l v t ev et el =
           rw (ev, et, el, lt-leb (length (s .values) / 4) (s .used) room, ne-eqb (getD (s .hits) p 0) maxCount more, ne-eqb (detectorOf s h .«total_rays_hit») maxCount k)
 
+-- what two tests that both held say
+pub both : (x y : Bool) → (x && y) ≡ true → (x ≡ true) × (y ≡ true)
+both true y e = (refl, e)
+both false y e = absurd (clash (sym e))
+
 pub told-lengths : (p nf nh nv nt : ℕ) (b : Bool) → b ≡ inMapsOf p nf nh nv nt → b ≡ true → (p < nf) × (p < nh) × (nv ≡ nt)
 unfolding inMapsOf
-told-lengths p nf nh nv nt b told k = go (ltb p nf) (ltb p nh) (eqb nv nt) refl refl refl (sym told ∙ k)
-  where
-    go : (x y z : Bool) → ltb p nf ≡ x → ltb p nh ≡ y → eqb nv nt ≡ z → (x && (y && z)) ≡ true → (p < nf) × (p < nh) × (nv ≡ nt)
-    go true true true u v w e = (ltb-true _ _ u, ltb-true _ _ v, eqb-true _ _ w)
-    go false y z u v w e = absurd (clash (sym e))
-    go true false z u v w e = absurd (clash (sym e))
-    go true true false u v w e = absurd (clash (sym e))
+told-lengths p nf nh nv nt b told k =
+    let f = both (ltb p nf) (ltb p nh && eqb nv nt) (sym told ∙ k) in
+    let g = both (ltb p nh) (eqb nv nt) (f .1) in
+    (ltb-true p nf (f .0), ltb-true p nh (g .0), eqb-true nv nt (g .1))
 
 -- what `record` and `record_hit_classified` know at theirs
 module _ (s : Memory) (h : DetectorHit) where

@@ -12,10 +12,10 @@ use Rattle.error.specs.Refusals.{numberOf, Checked, passed, refusedAt}
 use Rattle.detector.specs.declared.Detector2D.{Detector2D}
 use Rattle.detector.specs.Pixels.{pixelAtOf}
 use Rattle.detectors.specs.declared.Detectors.{Detectors}
-use Rattle.memory.specs.declared.hits.DetectorHit.{DetectorHit}
-use Rattle.memory.specs.declared.recording.Recorded.{Recorded}
 use Rattle.detectors.specs.declared.Placed.{Placed}
 use Rattle.detectors.specs.Detectors.{maxDetectors, detectorAt, allPixelsOf, placedOf, findOf}
+use Rattle.memory.specs.declared.hits.DetectorHit.{DetectorHit}
+use Rattle.memory.specs.declared.recording.Recorded.{Recorded}
 
 -- detectors, flux and hits of all pixels, the doubles and the whole numbers of the hit list, how many hits are used
 pub record Memory : Type 0 where
