@@ -111,7 +111,7 @@ def contracts(crate):
                 impl = m.group(1) + '/'
             if l.startswith('}'):
                 impl = ''
-            m = re.match(r'\s*(?:pub )?(?:extern "C" )?fn (\w+)', l)
+            m = re.match(r'\s*(?:pub(?:\(crate\))? )?(?:extern "C" )?fn (\w+)', l)
             if m:
                 name = mod + impl + m.group(1)
                 root_name = impl + m.group(1)
@@ -149,7 +149,7 @@ def returns(need, fs, body, defs):
     for f, w, p in fs:
         if w == 'ensures':
             rules.append('← ' + p)
-        elif w == 'given' and (f.startswith('enum-told') or re.search(r'enum-known-%s\b' % re.sub(r'\d+$', '', f), body)):
+        elif w == 'given' and (f.startswith('enum-told') or re.search(r'enum-known-(%s|%s)\b' % (f, re.sub(r'\d+$', '', f)), body)):
             rules.append(p + ' .1')
         elif w in ('taken', 'left'):
             rules.append(p)

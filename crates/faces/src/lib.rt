@@ -1,0 +1,113 @@
+// The faces of all detectors, worked out once a call, and the nearest detector that a ray crosses
+// (document 01, "How a ray lives"), after trace.rs.
+use detector::Crossed;
+use detector::Crossing;
+use detector::DetectorNo;
+use detector::Face;
+use detectors::Detectors;
+use rays::Ray;
+ghost use mathlib.Core.Path.{_≡_};
+ghost use Prim.Native.Nat.{_≤_};
+ghost use Rattle.nearest.specs.Nearest.{distanceOf, nearerOf};
+ghost use Rattle.detector.specs.Faces.{crossingOf};
+ghost use Rattle.faces.specs.declared.Sight.{Sight};
+ghost use Rattle.faces.specs.Faces.{facesOf, sightDistance, sightFrom, shownOf, nearestDetectorOf, sightOf};
+
+pub struct Faces {
+    pub list: [Face; 8],
+    pub count: u32,
+}
+
+// Where a ray crosses which detector.
+pub struct Sight {
+    pub detector: DetectorNo,
+    pub crossing: Crossing,
+}
+
+pub enum Sighting {
+    Seen(Sight),
+    Nothing,
+}
+
+// Infinite for nothing.
+fn distance(best: Sighting) -> f64
+    ensures { λ r. ⌜ r ≡ distanceOf Sight sightDistance (sightOf best) ⌝ }
+{
+    match best {
+        Sighting::Seen(s) => s.crossing.t,
+        Sighting::Nothing => doubles::infinity(),
+    }
+}
+
+// The best so far, or the crossing of detector i.
+fn nearer(face: Face, i: u32, ray: Ray, best: Sighting) -> Sighting
+    ensures { λ r. ⌜ sightOf r ≡ nearerOf Sight sightDistance (sightOf best) (sightFrom i (crossingOf face ray)) ⌝ }
+{
+    match face.intersect_ray(ray) {
+        Crossed::At(crossing) => {
+            if nearest::is_nearer(crossing.t, distance(best)) {
+                return Sighting::Seen(Sight {
+                    detector: DetectorNo(i),
+                    crossing,
+                });
+            }
+            best
+        }
+        Crossed::Miss => best,
+    }
+}
+
+// At most the 8 that the list has.
+fn shown(count: u32) -> u32
+    ensures { λ r. ⌜ (r ≡ shownOf count) × (r ≤ 8) ⌝ }
+{
+    if count <= Detectors::MAX {
+        return count;
+    }
+    Detectors::MAX
+}
+
+impl Faces {
+    pub fn new(detectors: Detectors) -> Faces
+        ensures { λ r. ⌜ r ≡ facesOf detectors ⌝ }
+    {
+        let l = detectors.list;
+        let d0 = l[0];
+        let d1 = l[1];
+        let d2 = l[2];
+        let d3 = l[3];
+        let d4 = l[4];
+        let d5 = l[5];
+        let d6 = l[6];
+        let d7 = l[7];
+        Faces {
+            list: [
+                d0.face(),
+                d1.face(),
+                d2.face(),
+                d3.face(),
+                d4.face(),
+                d5.face(),
+                d6.face(),
+                d7.face(),
+            ],
+            count: detectors.count,
+        }
+    }
+
+    // The nearest detector that a ray crosses; the first listed wins ties.
+    pub fn nearest(self, ray: Ray) -> Sighting
+        ensures { λ r. ⌜ sightOf r ≡ nearestDetectorOf self ray ⌝ }
+    {
+        let list = self.list;
+        let n = shown(self.count);
+        let mut best = Sighting::Nothing;
+        let mut i: u32 = 0;
+        while i < n {
+            let face = list[i as usize];
+            best = nearer(face, i, ray, best);
+            i += 1;
+        }
+        best
+    }
+}

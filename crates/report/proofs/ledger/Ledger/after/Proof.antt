@@ -1,0 +1,101 @@
+-- `report::ledger::Ledger::after` meets its contract. Assumes nothing.
+use Rattle.report.specs.Report.{ledgerAfter}
+use borrow.Author.Needs.{needs}
+use Rattle.report.proofs.ledger.Ledger.after.Statement.{statement}
+use Rattle.report.proofs.ledger.Ledger.after.Tie as tie
+
+enum-told : tie.Need-enum-told
+enum-told c = search needs
+
+absorb-requires : tie.Need-absorb-requires
+absorb-requires c κs = search needs
+
+enum-told-2 : tie.Need-enum-told-2
+enum-told-2 c = search needs
+
+absorb-requires-2 : tie.Need-absorb-requires-2
+absorb-requires-2 c κs = search needs
+
+enum-told-3 : tie.Need-enum-told-3
+enum-told-3 c = search needs
+
+escape-requires : tie.Need-escape-requires
+escape-requires c κs = search needs
+
+enum-told-4 : tie.Need-enum-told-4
+enum-told-4 c = search needs
+
+detect-requires : tie.Need-detect-requires
+detect-requires c κs = search needs
+
+enum-known-fate : tie.Need-enum-known-fate
+enum-known-fate c = search needs
+
+absorb-requires-3 : tie.Need-absorb-requires-3
+absorb-requires-3 c κs = search needs
+
+enum-known-fate-2 : tie.Need-enum-known-fate-2
+enum-known-fate-2 c = search needs
+
+unless-made-requires : tie.Need-unless-made-requires
+unless-made-requires c κs = search needs
+
+unless-made-requires-2 : tie.Need-unless-made-requires-2
+unless-made-requires-2 c κs = search needs
+
+enum-told-5 : tie.Need-enum-told-5
+enum-told-5 c = search needs
+
+returns : tie.Need-returns
+unfolding ledgerAfter
+returns c = simp (c .before .enum-told .given .1, ← c .absorb .ensures)
+
+returns-2 : tie.Need-returns-2
+unfolding ledgerAfter
+returns-2 c = simp (c .before .enum-told2 .given .1, ← c .absorb2 .ensures)
+
+returns-3 : tie.Need-returns-3
+unfolding ledgerAfter
+returns-3 c = simp (c .before .enum-told3 .given .1, ← c .escape .ensures)
+
+returns-4 : tie.Need-returns-4
+unfolding ledgerAfter
+returns-4 c = simp (c .before .enum-told4 .given .1, ← c .detect .ensures)
+
+returns-5 : tie.Need-returns-5
+unfolding ledgerAfter
+returns-5 c = simp (c .before .before .fate .given .1, ← c .absorb3 .ensures)
+
+returns-6 : tie.Need-returns-6
+unfolding ledgerAfter
+returns-6 c = simp (c .before .before .before .fate2 .given .1, ← c .before .unless-made .ensures, ← c .unless-made2 .ensures)
+
+returns-7 : tie.Need-returns-7
+unfolding ledgerAfter
+returns-7 c = simp (c .enum-told5 .given .1)
+
+pub after-spec : {M : Type 1} → statement M
+after-spec =
+    tie.close
+    (tie.spec
+    enum-told
+    absorb-requires
+    enum-told-2
+    absorb-requires-2
+    enum-told-3
+    escape-requires
+    enum-told-4
+    detect-requires
+    enum-known-fate
+    absorb-requires-3
+    enum-known-fate-2
+    unless-made-requires
+    unless-made-requires-2
+    enum-told-5
+    returns
+    returns-2
+    returns-3
+    returns-4
+    returns-5
+    returns-6
+    returns-7)

@@ -1,0 +1,105 @@
+-- `report::tallies::Tallies::after` meets its contract. Assumes nothing.
+use Rattle.report.specs.Report.{talliesAfter}
+use borrow.Author.Needs.{needs}
+use Rattle.report.proofs.tallies.Tallies.after.Statement.{statement}
+use Rattle.report.proofs.tallies.Tallies.after.Tie as tie
+
+enum-told : tie.Need-enum-told
+enum-told c = search needs
+
+add-dim-requires : tie.Need-add-dim-requires
+add-dim-requires c κs = search needs
+
+enum-told-2 : tie.Need-enum-told-2
+enum-told-2 c = search needs
+
+add-spent-requires : tie.Need-add-spent-requires
+add-spent-requires c κs = search needs
+
+enum-told-3 : tie.Need-enum-told-3
+enum-told-3 c = search needs
+
+add-gone-requires : tie.Need-add-gone-requires
+add-gone-requires c κs = search needs
+
+enum-told-4 : tie.Need-enum-told-4
+enum-told-4 c = search needs
+
+add-caught-requires : tie.Need-add-caught-requires
+add-caught-requires c κs = search needs
+
+enum-told-5 : tie.Need-enum-told-5
+enum-told-5 c = search needs
+
+add-surface-requires : tie.Need-add-surface-requires
+add-surface-requires c κs = search needs
+
+enum-known-fate : tie.Need-enum-known-fate
+enum-known-fate c = search needs
+
+opposite-requires : tie.Need-opposite-requires
+opposite-requires c κs = search needs
+
+faint-requires : tie.Need-faint-requires
+faint-requires c κs = search needs
+
+add-surface-requires-2 : tie.Need-add-surface-requires-2
+add-surface-requires-2 c κs = search needs
+
+enum-told-6 : tie.Need-enum-told-6
+enum-told-6 c = search needs
+
+returns : tie.Need-returns
+unfolding talliesAfter
+returns c = simp (c .before .enum-told .given .1, ← c .add-dim .ensures)
+
+returns-2 : tie.Need-returns-2
+unfolding talliesAfter
+returns-2 c = simp (c .before .enum-told2 .given .1, ← c .add-spent .ensures)
+
+returns-3 : tie.Need-returns-3
+unfolding talliesAfter
+returns-3 c = simp (c .before .enum-told3 .given .1, ← c .add-gone .ensures)
+
+returns-4 : tie.Need-returns-4
+unfolding talliesAfter
+returns-4 c = simp (c .before .enum-told4 .given .1, ← c .add-caught .ensures)
+
+returns-5 : tie.Need-returns-5
+unfolding talliesAfter
+returns-5 c = simp (c .before .enum-told5 .given .1, ← c .add-surface .ensures)
+
+returns-6 : tie.Need-returns-6
+unfolding talliesAfter
+returns-6 c = simp (c .before .before .before .before .fate .given .1, ← c .before .before .opposite .ensures, ← c .before .faint .ensures, ← c .add-surface2 .ensures)
+
+returns-7 : tie.Need-returns-7
+unfolding talliesAfter
+returns-7 c = simp (c .enum-told6 .given .1)
+
+pub after-spec : {M : Type 1} → statement M
+after-spec =
+    tie.close
+    (tie.spec
+    enum-told
+    add-dim-requires
+    enum-told-2
+    add-spent-requires
+    enum-told-3
+    add-gone-requires
+    enum-told-4
+    add-caught-requires
+    enum-told-5
+    add-surface-requires
+    enum-known-fate
+    opposite-requires
+    faint-requires
+    add-surface-requires-2
+    enum-told-6
+    returns
+    returns-2
+    returns-3
+    returns-4
+    returns-5
+    returns-6
+    returns-7)

@@ -1,0 +1,90 @@
+// The ledger: the powers of a tracing, in watts, added up in step order.
+use turn::Fate;
+ghost use mathlib.Core.Path.{_≡_};
+ghost use Rattle.turn.specs.Rays.{endOf};
+ghost use Rattle.report.specs.Report.{detecting, absorbing, escaping, unmade, ledgerAfter, energyRatioOf};
+
+pub struct Ledger {
+    pub launched_flux_watts: f64,
+    pub detected_flux_watts: f64,
+    pub absorbed_flux_watts: f64,
+    pub escaped_flux_watts: f64,
+}
+
+impl Ledger {
+    fn detect(self, power: f64) -> Ledger
+        ensures { λ r. ⌜ r ≡ detecting self power ⌝ }
+    {
+        Ledger {
+            launched_flux_watts: self.launched_flux_watts,
+            detected_flux_watts: self.detected_flux_watts + power,
+            absorbed_flux_watts: self.absorbed_flux_watts,
+            escaped_flux_watts: self.escaped_flux_watts,
+        }
+    }
+
+    fn absorb(self, power: f64) -> Ledger
+        ensures { λ r. ⌜ r ≡ absorbing self power ⌝ }
+    {
+        Ledger {
+            launched_flux_watts: self.launched_flux_watts,
+            detected_flux_watts: self.detected_flux_watts,
+            absorbed_flux_watts: self.absorbed_flux_watts + power,
+            escaped_flux_watts: self.escaped_flux_watts,
+        }
+    }
+
+    fn escape(self, power: f64) -> Ledger
+        ensures { λ r. ⌜ r ≡ escaping self power ⌝ }
+    {
+        Ledger {
+            launched_flux_watts: self.launched_flux_watts,
+            detected_flux_watts: self.detected_flux_watts,
+            absorbed_flux_watts: self.absorbed_flux_watts,
+            escaped_flux_watts: self.escaped_flux_watts + power,
+        }
+    }
+
+    // The power of a ray that is not made is absorbed.
+    fn unless_made(self, made: bool, power: f64) -> Ledger
+        ensures { λ r. ⌜ r ≡ unmade made self power ⌝ }
+    {
+        if made {
+            return self;
+        }
+        self.absorb(power)
+    }
+
+    // After what became of a ray of some power; the flags say which of its rays were made.
+    pub fn after(self, power: f64, fate: Fate, first: bool, second: bool) -> Ledger
+        ensures { λ r. ⌜ r ≡ ledgerAfter self power (endOf fate) first second ⌝ }
+    {
+        match fate {
+            Fate::Dim => self.absorb(power),
+            Fate::Spent => self.absorb(power),
+            Fate::Gone => self.escape(power),
+            Fate::Caught(_) => self.detect(power),
+            Fate::Stopped(left) => self.absorb(left),
+            Fate::Parted {
+                reflected,
+                transmitted,
+                total: _,
+            } => {
+                let l = self.unless_made(first, reflected);
+                l.unless_made(second, transmitted)
+            }
+            Fate::Refused(_) => self,
+        }
+    }
+
+    // Detected, absorbed and escaped power over launched; 1 where none was launched.
+    pub fn energy_conservation_ratio(self) -> f64
+        ensures { λ r. ⌜ r ≡ energyRatioOf self ⌝ }
+    {
+        if self.launched_flux_watts <= 0.0 {
+            return 1.0;
+        }
+        (self.detected_flux_watts + self.absorbed_flux_watts + self.escaped_flux_watts)
+            / self.launched_flux_watts
+    }
+}

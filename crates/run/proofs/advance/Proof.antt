@@ -1,0 +1,123 @@
+-- `run::advance` meets its contract. Assumes nothing.
+use Prim.Native.Nat.{ℕ, _≤_, _<_, _-_}
+use mathlib.Core.Path.{_≡_, refl, _∙_}
+use native.Mathlib.Omega.{arith}
+use lib.ListN.{length}
+use borrow.Author.Needs.{needs}
+use Rattle.memory.specs.Memory.{memoryOf, outcomeOf, recordHit}
+use Rattle.turn.specs.Rays.{sceneOf}
+use Rattle.given.specs.Given.{givenOf}
+use Rattle.run.specs.Run.{andThen, drive}
+use Rattle.run.proofs.Turns.{goes-pos, stops, turn-hit, turn-no-hit}
+use Rattle.run.proofs.advance.Statement.{statement}
+use Rattle.run.proofs.advance.Tie as tie
+
+abbrev Inv-loop : tie.InvT-loop
+Inv-loop config values tags count faces rays marks steps flux₀ hits₀ places₀ kinds₀ used check₀ stack₀ left₀ report₀ ds₀ n₀ k₀ flux hits places kinds check stack left report ds n k =
+    (length flux ≡ length flux₀) × (length hits ≡ length hits₀) × (length places ≡ length places₀) × (length kinds ≡ length kinds₀) × (andThen (drive recordHit (sceneOf values tags count faces config) (givenOf rays marks) k) (outcomeOf check (memoryOf ds flux hits places kinds n)) (record { stack = stack; left = left; report = report }) ≡ drive recordHit (sceneOf values tags count faces config) (givenOf rays marks) steps (memoryOf ds₀ flux₀ hits₀ places₀ kinds₀ used) (record { stack = stack₀; left = left₀; report = report₀ }))
+
+abbrev μ-loop : tie.MeasureT-loop
+μ-loop config values tags count faces rays marks steps flux₀ hits₀ places₀ kinds₀ used check₀ stack₀ left₀ report₀ ds₀ n₀ k₀ flux hits places kinds check stack left report ds n k =
+    k
+
+loop-holds : tie.Need-loop-holds Inv-loop μ-loop
+loop-holds c = (refl, refl, refl, refl, refl)
+
+goes-on-requires : tie.Need-goes-on-requires Inv-loop μ-loop
+goes-on-requires c κs = search needs
+
+sub-k : tie.Need-sub-k Inv-loop μ-loop
+sub-k c = omega (arith, goes-pos _ _ _ _ _ (c .before .goes-on .ensures) (c .if1 .taken))
+
+take-requires : tie.Need-take-requires Inv-loop μ-loop
+take-requires c κs = search needs
+
+turn-requires : tie.Need-turn-requires Inv-loop μ-loop
+turn-requires c κs = search needs
+
+after-requires : tie.Need-after-requires Inv-loop μ-loop
+after-requires c κs = search needs
+
+after-requires-2 : tie.Need-after-requires-2 Inv-loop μ-loop
+after-requires-2 c κs = search needs
+
+hit-in-requires : tie.Need-hit-in-requires Inv-loop μ-loop
+hit-in-requires c κs = search needs
+
+enum-known-h : tie.Need-enum-known-h Inv-loop μ-loop
+enum-known-h c = search needs
+
+record-requires : tie.Need-record-requires Inv-loop μ-loop
+record-requires c κs = search needs
+
+settled-requires : tie.Need-settled-requires Inv-loop μ-loop
+settled-requires c κs = search needs
+
+placed-requires : tie.Need-placed-requires Inv-loop μ-loop
+placed-requires c κs = search needs
+
+loop-less : tie.Need-loop-less Inv-loop μ-loop
+loop-less c = omega (arith, goes-pos _ _ _ _ _ (c .before .before .before .before .before .before .before .before .before .before .before .before .before .before .before .before .before .before .before .before .before .before .before .before .before .goes-on .ensures) (c .before .before .before .before .before .before .before .before .before .before .before .before .before .before .before .before .before .before .before .before .before .before .before .before .if1 .taken))
+
+loop-again : tie.Need-loop-again Inv-loop μ-loop
+loop-again c =
+    let g = c .before .before .before .before .before .before .before .before .before .before .before .«record» in
+    let l = c .before .before .before .before .before .before .before .before .before .before .before .before .before .before .before .before .before .before .before .before .before .before .before .before .before .before .loop .inv in
+    (g .kept .1 .0 ∙ l .0, g .kept .1 .1 .0 ∙ l .1, g .kept .1 .1 .1 .0 ∙ l .2, g .kept .1 .1 .1 .1 .0 ∙ l .3, turn-hit _ _ _ _ _ _ _ _ _ _ (c .before .before .before .before .before .before .before .before .before .before .before .before .before .before .before .before .before .before .before .before .before .before .before .before .before .goes-on .ensures) (c .before .before .before .before .before .before .before .before .before .before .before .before .before .before .before .before .before .before .before .before .before .before .before .before .if1 .taken) (c .before .before .before .before .before .before .before .before .before .before .before .before .before .before .before .before .before .before .before .before .before .before .before .before .before .before .loop .inv .4) (c .before .before .before .before .before .before .before .before .before .before .before .before .before .before .before .before .before .before .before .before .before .before .before .take .result) (c .before .before .before .before .before .before .before .before .before .before .before .before .before .before .before .before .before .before .before .before .before .before .before .take .ensures) (c .before .before .before .before .before .before .before .before .before .before .before .before .before .before .before .before .before .before .before .before .before .before .turn .result) (c .before .before .before .before .before .before .before .before .before .before .before .before .before .before .before .before .before .before .before .before .before .before .turn .ensures) (c .before .before .before .before .before .before .before .before .before .before .before .before .before .before .before .before .before .before .before .before .before .after .result) (c .before .before .before .before .before .before .before .before .before .before .before .before .before .before .before .before .before .before .before .before .before .after .ensures) (c .before .before .before .before .before .before .before .before .before .before .before .before .before .before .before .before .before .before .before .before .after2 .result) (c .before .before .before .before .before .before .before .before .before .before .before .before .before .before .before .before .before .before .before .before .after2 .ensures) (c .before .before .before .before .before .before .before .before .before .before .before .before .before .before .before .before .before .before .before .hit-in .result) (c .before .before .before .before .before .before .before .before .before .before .before .before .before .before .before .before .before .before .before .hit-in .ensures) _ (c .before .before .before .before .before .before .before .before .before .before .before .before .before .before .before .before .before .h .given .1) _ (c .before .before .before .before .before .before .before .before .before .before .before .«record» .result .check) (c .before .before .before .before .before .before .before .before .before .before .before .«record» .ensures) (c .before .settled .result) (c .before .settled .ensures) (c .placed .result) (c .placed .ensures))
+
+enum-told : tie.Need-enum-told Inv-loop μ-loop
+enum-told c = search needs
+
+refusal-in-requires : tie.Need-refusal-in-requires Inv-loop μ-loop
+refusal-in-requires c κs = search needs
+
+loop-less-2 : tie.Need-loop-less-2 Inv-loop μ-loop
+loop-less-2 c = omega (arith, goes-pos _ _ _ _ _ (c .before .before .before .before .before .before .before .before .before .goes-on .ensures) (c .before .before .before .before .before .before .before .before .if1 .taken))
+
+loop-again-2 : tie.Need-loop-again-2 Inv-loop μ-loop
+loop-again-2 c = (search needs, search needs, search needs, search needs, turn-no-hit _ _ _ _ _ _ _ _ _ _ (c .before .before .before .before .before .before .before .before .before .goes-on .ensures) (c .before .before .before .before .before .before .before .before .if1 .taken) (c .before .before .before .before .before .before .before .before .before .before .loop .inv .4) (c .before .before .before .before .before .before .before .take .result) (c .before .before .before .before .before .before .before .take .ensures) (c .before .before .before .before .before .before .turn .result) (c .before .before .before .before .before .before .turn .ensures) (c .before .before .before .before .before .after .result) (c .before .before .before .before .before .after .ensures) (c .before .before .before .before .after2 .result) (c .before .before .before .before .after2 .ensures) (c .before .before .before .hit-in .result) (c .before .before .before .hit-in .ensures) (c .before .enum-told .given .1) (c .refusal-in .result) (c .refusal-in .ensures))
+
+same-length : tie.Need-same-length Inv-loop μ-loop
+same-length c = search needs
+
+same-length-2 : tie.Need-same-length-2 Inv-loop μ-loop
+same-length-2 c = search needs
+
+same-length-3 : tie.Need-same-length-3 Inv-loop μ-loop
+same-length-3 c = search needs
+
+same-length-4 : tie.Need-same-length-4 Inv-loop μ-loop
+same-length-4 c = search needs
+
+returns : tie.Need-returns Inv-loop μ-loop
+returns c = stops _ _ _ _ _ (record { stack = c .before .before .loop .stack; left = c .before .before .loop .left; report = c .before .before .loop .report }) _ _ (c .before .goes-on .ensures) (c .if1 .left) (c .before .before .loop .inv .4)
+
+pub advance-spec : {M : Type 1} → statement M
+advance-spec =
+    tie.close
+    (tie.spec
+    Inv-loop
+    μ-loop
+    loop-holds
+    goes-on-requires
+    sub-k
+    take-requires
+    turn-requires
+    after-requires
+    after-requires-2
+    hit-in-requires
+    enum-known-h
+    record-requires
+    settled-requires
+    placed-requires
+    loop-less
+    loop-again
+    enum-told
+    refusal-in-requires
+    loop-less-2
+    loop-again-2
+    same-length
+    same-length-2
+    same-length-3
+    same-length-4
+    returns)

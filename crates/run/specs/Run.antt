@@ -1,0 +1,118 @@
+-- A run of steps into any memory that hits can be put into: the lent memory is one, the plain book another.
+use Prim.Native.Nat.{ℕ, zero, suc}
+use mathlib.Core.Bool.{Bool, false, cond, _&&_, _||_}
+use mathlib.Core.List.{List}
+use mathlib.Core.Option.{Option, none, some}
+use lib.Dec.{ltb}
+use lib.Ieee.{Float}
+use Rattle.error.specs.declared.Check.{Check}
+use Rattle.error.specs.declared.Check.the-variants.{Passed, Refused}
+use Rattle.error.specs.Refusals.{Checked, passed, refusedAt}
+use Rattle.memory.specs.declared.hits.DetectorHit.{DetectorHit}
+use Rattle.memory.specs.Memory.{Memory, memoryOf, Outcome, done, refused, unless, outcomeOf}
+use Rattle.turn.specs.declared.ActiveRay.{ActiveRay}
+use Rattle.turn.specs.Rays.{Scene, Step, End, dim, spent, gone, caught, stopped, parted, refusing}
+use Rattle.turn.specs.Turn.{turnOf}
+use Rattle.report.specs.declared.NonSeqTraceReport.{NonSeqTraceReport}
+use Rattle.report.specs.Report.{reportAfter, countedOf}
+use Rattle.run.specs.declared.stack.Taken.{Taken}
+use Rattle.run.specs.declared.Progress.{Progress}
+use Rattle.run.specs.declared.Advanced.{Advanced}
+use Rattle.run.specs.declared.settling.Catch.{Catch}
+use Rattle.run.specs.declared.settling.Catch.the-variants.{Hit, Nothing}
+use Rattle.run.specs.Stack.{takenOf, afterOf}
+
+-- where a run stands: the memory or a refusal, and the progress
+pub record Run (M : Type 0) : Type 0 where
+  pub outcome : Outcome M
+  pub progress : Progress
+
+-- what a step leaves of the memory, and the report
+pub record Settled (M : Type 0) : Type 0 where
+  pub outcome : Outcome M
+  pub report : NonSeqTraceReport
+
+-- the hit that a step brings, if any
+unfoldable pub hitIn : End → Option DetectorHit
+hitIn dim = none
+hitIn spent = none
+hitIn gone = none
+hitIn (caught h) = some h
+hitIn (stopped x) = none
+hitIn (parted r t total) = none
+hitIn (refusing n) = none
+
+-- 14 to 16, at the given ray's place
+unfoldable pub refusalIn : End → ℕ → Checked Unit
+refusalIn dim place = passed tt
+refusalIn spent place = passed tt
+refusalIn gone place = passed tt
+refusalIn (caught h) place = passed tt
+refusalIn (stopped x) place = passed tt
+refusalIn (parted r t total) place = passed tt
+refusalIn (refusing n) place = refusedAt n place
+
+-- the hit is in the memory; or 12 or 13, and the report is as the step found it, but its interaction is counted
+abbrev pub putFrom : {M : Type 0} → ℕ → NonSeqTraceReport → NonSeqTraceReport → Outcome M → Settled M
+putFrom place found after (done m) = record { outcome = done m; report = after }
+putFrom place found after (refused n at m) = record { outcome = refused n place m; report = countedOf found }
+
+-- whether a ray is left on the stack or in the batch
+unfoldable pub isLeft : Progress → Bool
+isLeft p = ltb 0 (p .stack .len) || ltb 0 (p .left)
+
+-- what follows unless there was a refusal
+abbrev pub andThen : {M : Type 0} → (M → Progress → Run M) → Outcome M → Progress → Run M
+andThen go (done m) p = go m p
+andThen go (refused n place m) p = record { outcome = refused n place m; progress = p }
+
+module _ {M : Type 0} (put : M → DetectorHit → Outcome M) where
+  -- found and after are the reports before the step and after it
+  abbrev pub settleWith : M → ℕ → NonSeqTraceReport → NonSeqTraceReport → Checked Unit → Option DetectorHit → Settled M
+  settleWith m place found after c (some h) = putFrom place found after (put m h)
+  settleWith m place found after c none = record { outcome = unless c m (done m); report = after }
+
+  abbrev pub settleOf : M → ℕ → NonSeqTraceReport → Float → Step → Settled M
+  settleOf m place r power s = settleWith m place r (reportAfter r power s) (refusalIn (s .end) place) (hitIn (s .end))
+
+  module _ (S : Scene) (given : ℕ → ActiveRay) where
+    abbrev pub stepFrom : M → Progress → Taken → Step → Run M
+    stepFrom m p t s =
+        let r = settleOf m (t .left) (p .report) (t .ray .ray .energy) s in
+        record { outcome = r .outcome; progress = record { stack = afterOf (p .stack) s; left = t .left; report = r .report } }
+
+    -- one step: the newest ray is taken, and what becomes of it is settled
+    unfoldable pub stepOn : M → Progress → Run M
+    stepOn m p = stepFrom m p (takenOf given (p .stack) (p .left)) (turnOf S (takenOf given (p .stack) (p .left) .ray))
+
+    -- at most k steps, while a ray is left
+    unfoldable pub drive : ℕ → M → Progress → Run M
+    drive zero m p = record { outcome = done m; progress = p }
+    drive (suc k) m p =
+        cond (isLeft p) (andThen (drive k) (stepOn m p .outcome) (stepOn m p .progress)) (record { outcome = done m; progress = p })
+
+-- ---- what the code's answers say
+
+abbrev pub catchOf : Catch → Option DetectorHit
+catchOf (Hit h) = some h
+catchOf Nothing = none
+
+abbrev pub runOf : Check → Memory → Progress → Run Memory
+runOf c m p = record { outcome = outcomeOf c m; progress = p }
+
+abbrev pub advancedOf : Advanced → List Float → List ℕ → List Float → List ℕ → Run Memory
+advancedOf r f h v t = runOf (r .check) (memoryOf (r .detectors) f h v t (r .used)) (r .progress)
+
+-- whether the loop goes on: not refused, steps left to take, a ray left
+unfoldable pub goesOnOf : Check → ℕ → ℕ → ℕ → Bool
+goesOnOf Passed k len left = ltb 0 k && (ltb 0 len || ltb 0 left)
+goesOnOf (Refused e place) k len left = false
+
+-- a refusal at another place
+abbrev pub replaced : Check → ℕ → Check
+replaced Passed place = Passed
+replaced (Refused e at) place = Refused e place
+
+abbrev pub settledBy : Check → NonSeqTraceReport → NonSeqTraceReport → NonSeqTraceReport
+settledBy Passed found after = after
+settledBy (Refused e at) found after = countedOf found

@@ -1,0 +1,54 @@
+-- The work stack, the newest ray last.
+use Prim.Native.Nat.{ℕ, _+_, _-_}
+use mathlib.Core.Bool.{Bool, cond, _&&_}
+use mathlib.Core.List.{List, []}
+use lib.Dec.{leb, ltb}
+use lib.Ieee.{nan}
+use lib.ListN.{getD, set, replicate}
+use Rattle.rays.specs.Vectors.{vec3}
+use Rattle.turn.specs.declared.ActiveRay.{ActiveRay}
+use Rattle.turn.specs.Rays.{Step}
+use Rattle.given.specs.Given.{blank}
+use Rattle.run.specs.declared.stack.Stack.{Stack}
+use Rattle.run.specs.declared.stack.Taken.{Taken}
+
+abbrev pub maxRays : ℕ
+maxRays = 17
+
+-- what stands past the end of a list of rays
+abbrev pub noRay : ActiveRay
+noRay =
+    record {
+      ray = record { origin = vec3 nan nan nan; direction = vec3 nan nan nan; «wavelength_nm» = nan; energy = nan };
+      «bounce_count» = 0;
+      «reflection_count» = 0;
+      «tir_count» = 0;
+      media = record { list = []; depth = 0 };
+    }
+
+unfoldable pub emptyStack : Stack
+emptyStack = record { rays = replicate 17 blank; len = 0 }
+
+-- the last given ray that is left
+unfoldable pub loadedOf : (ℕ → ActiveRay) → ℕ → Taken
+loadedOf given left = record { ray = given (left - 1); left = left - 1 }
+
+-- the newest ray and the given rays left: the top of the stack, or else a given ray
+unfoldable pub takenOf : (ℕ → ActiveRay) → Stack → ℕ → Taken
+takenOf given s left =
+    cond (ltb 0 (s .len) && leb (s .len) maxRays) (record { ray = getD (s .rays) (s .len - 1) noRay; left = left })
+    (loadedOf given left)
+
+unfoldable pub pushed : Stack → ActiveRay → Stack
+pushed s a = record { rays = set (s .rays) (s .len) a; len = s .len + 1 }
+
+unfoldable pub pushedIf : Bool → Stack → ActiveRay → Stack
+pushedIf b s a = cond b (pushed s a) s
+
+unfoldable pub popped : Stack → Stack
+popped s = record { rays = s .rays; len = s .len - 1 }
+
+-- the newest ray is gone, the reflected one is pushed, then the transmitted one; a stack without room for both takes neither, which no tracing meets
+unfoldable pub afterOf : Stack → Step → Stack
+afterOf s e =
+    cond (ltb (popped s .len) 16) (pushedIf (e .second) (pushedIf (e .«first») (popped s) (e .reflected)) (e .transmitted)) (popped s)

@@ -1,0 +1,99 @@
+// A run that can be taken up again (document 01, "How a ray lives"): steps until no ray is left, or as
+// many as are asked for, each hit recorded as it comes.
+mod settling;
+mod stack;
+
+use detectors::Detectors;
+use error::Check;
+use faces::Faces;
+use report::NonSeqTraceReport;
+pub use settling::Catch;
+pub use stack::Stack;
+pub use stack::Taken;
+use turn::NonSeqTraceConfig;
+ghost use mathlib.Core.Path.{_≡_};
+ghost use Rattle.memory.specs.Memory.{memoryOf, recordHit};
+ghost use Rattle.turn.specs.Rays.{sceneOf};
+ghost use Rattle.given.specs.Given.{givenOf};
+ghost use Rattle.run.specs.Run.{advancedOf, drive};
+
+// Where a run stands: the work stack, how many given rays are left, what it has added up.
+pub struct Progress {
+    pub stack: Stack,
+    pub left: u32,
+    pub report: NonSeqTraceReport,
+}
+
+// The refusal or none, and what goes on.
+pub struct Advanced {
+    pub check: Check,
+    pub progress: Progress,
+    pub detectors: Detectors,
+    pub used: usize,
+}
+
+// At most so many steps, while a ray is left on the stack or in the batch. A refusal ends the run; the
+// hits of the steps before it stay.
+pub fn advance(
+    config: NonSeqTraceConfig,
+    values: &[f64],
+    tags: &[u32],
+    count: u32,
+    faces: Faces,
+    rays: &[f64],
+    marks: &[u32],
+    progress: Progress,
+    steps: u32,
+    detectors: Detectors,
+    flux: &mut [f64],
+    hits: &mut [u32],
+    places: &mut [f64],
+    kinds: &mut [u32],
+    used: usize,
+) -> Advanced
+    ensures { λ r. ⌜ advancedOf r (now (flux .exit)) (now (hits .exit)) (now (places .exit)) (now (kinds .exit))
+        ≡ drive recordHit (sceneOf (now (values .entry)) (now (tags .entry)) count faces config)
+        (givenOf (now (rays .entry)) (now (marks .entry))) steps
+        (memoryOf detectors (now (flux .entry)) (now (hits .entry)) (now (places .entry)) (now (kinds .entry)) used) progress ⌝ }
+{
+    let mut check = Check::Passed;
+    let mut stack = progress.stack;
+    let mut left = progress.left;
+    let mut report = progress.report;
+    let mut ds = detectors;
+    let mut n = used;
+    let mut k = steps;
+    while settling::goes_on(check, k, stack.len, left) {
+        k -= 1;
+        let t = stack::take(stack, left, rays, marks);
+        let e = turn::turn(config, values, tags, count, faces, t.ray);
+        let after = report.after(t.ray.ray.energy, e);
+        left = t.left;
+        stack = stack.after(e);
+        let fate = e.fate;
+        match settling::hit_in(fate) {
+            Catch::Hit(h) => {
+                let r = memory::record(ds, flux, hits, places, kinds, n, h);
+                ds = r.detectors;
+                n = r.used;
+                let c = r.check;
+                report = settling::settled(c, report, after);
+                check = settling::placed(c, left);
+            }
+            Catch::Nothing => {
+                report = after;
+                check = settling::refusal_in(fate, left);
+            }
+        }
+    }
+    Advanced {
+        check,
+        progress: Progress {
+            stack,
+            left,
+            report,
+        },
+        detectors: ds,
+        used: n,
+    }
+}

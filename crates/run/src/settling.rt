@@ -1,0 +1,94 @@
+// What a step means for the memory and the report.
+use error::Check;
+use memory::DetectorHit;
+use report::NonSeqTraceReport;
+use turn::Fate;
+ghost use mathlib.Core.Path.{_≡_};
+ghost use Rattle.error.specs.Refusals.{checkOf};
+ghost use Rattle.turn.specs.Rays.{endOf};
+ghost use Rattle.run.specs.Run.{hitIn, refusalIn, catchOf, goesOnOf, replaced, settledBy};
+
+// The hit that a step brings, if any.
+pub enum Catch {
+    Hit(DetectorHit),
+    Nothing,
+}
+
+pub(crate) fn hit_in(fate: Fate) -> Catch
+    ensures { λ r. ⌜ catchOf r ≡ hitIn (endOf fate) ⌝ }
+{
+    match fate {
+        Fate::Dim => Catch::Nothing,
+        Fate::Spent => Catch::Nothing,
+        Fate::Gone => Catch::Nothing,
+        Fate::Caught(h) => Catch::Hit(h),
+        Fate::Stopped(_) => Catch::Nothing,
+        Fate::Parted {
+            reflected: _,
+            transmitted: _,
+            total: _,
+        } => Catch::Nothing,
+        Fate::Refused(_) => Catch::Nothing,
+    }
+}
+
+// A step's refusal (14 to 16), at the given ray's place.
+pub(crate) fn refusal_in(fate: Fate, place: u32) -> Check
+    ensures { λ r. ⌜ checkOf r ≡ refusalIn (endOf fate) place ⌝ }
+{
+    match fate {
+        Fate::Dim => Check::Passed,
+        Fate::Spent => Check::Passed,
+        Fate::Gone => Check::Passed,
+        Fate::Caught(_) => Check::Passed,
+        Fate::Stopped(_) => Check::Passed,
+        Fate::Parted {
+            reflected: _,
+            transmitted: _,
+            total: _,
+        } => Check::Passed,
+        Fate::Refused(error) => Check::Refused { error, place },
+    }
+}
+
+// A recording's refusal, at the given ray's place.
+pub(crate) fn placed(check: Check, place: u32) -> Check
+    ensures { λ r. ⌜ r ≡ replaced check place ⌝ }
+{
+    match check {
+        Check::Passed => Check::Passed,
+        Check::Refused { error, place: _ } => Check::Refused { error, place },
+    }
+}
+
+// The report after a recording; a refused one leaves it as it was found, but the interaction is counted.
+pub(crate) fn settled(
+    check: Check,
+    found: NonSeqTraceReport,
+    after: NonSeqTraceReport,
+) -> NonSeqTraceReport
+    ensures { λ r. ⌜ r ≡ settledBy check found after ⌝ }
+{
+    match check {
+        Check::Passed => after,
+        Check::Refused { error: _, place: _ } => found.counted(),
+    }
+}
+
+// Whether a run goes on: not refused, steps left to take, a ray left.
+pub(crate) fn goes_on(check: Check, steps: u32, len: usize, left: u32) -> bool
+    ensures { λ r. ⌜ r ≡ goesOnOf check steps len left ⌝ }
+{
+    match check {
+        Check::Passed => {
+            if 0 < steps {
+                if 0 < len {
+                    return true;
+                }
+                return 0 < left;
+            }
+            false
+        }
+        Check::Refused { error: _, place: _ } => false,
+    }
+}
