@@ -1,0 +1,2 @@
+-- Document 01, module 8: `trace_rays`.
+pub mod Trace

@@ -1,0 +1,119 @@
+-- A tracing: the checks before the run in document 01's order, then steps until no ray is left.
+use Prim.Native.Nat.{ℕ}
+use mathlib.Core.Bool.{cond, _&&_}
+use mathlib.Core.List.{List}
+use lib.Dec.{leb}
+use lib.Ieee.{Float, binary64, ofBits, le}
+use lib.ListN.{length}
+use Rattle.doubles.specs.Doubles.{finiteOf}
+use Rattle.error.specs.Refusals.{Checked, passed, refusedAt, after}
+use Rattle.scene.specs.Solids.{checkSolidsOf}
+use Rattle.detectors.specs.declared.Detectors.{Detectors}
+use Rattle.detectors.specs.Detectors.{checkDetectorsOf}
+use Rattle.memory.specs.declared.hits.DetectorHit.{DetectorHit}
+use Rattle.memory.specs.Memory.{Memory, memoryOf, Outcome, refused, outcomeOf, areLengthsOf, recordHit}
+use Rattle.faces.specs.Faces.{facesOf}
+use Rattle.turn.specs.declared.NonSeqTraceConfig.{NonSeqTraceConfig}
+use Rattle.turn.specs.declared.ActiveRay.{ActiveRay}
+use Rattle.turn.specs.Rays.{Scene, sceneOf}
+use Rattle.report.specs.declared.NonSeqTraceReport.{NonSeqTraceReport}
+use Rattle.report.specs.Report.{startReportOf, #0}
+use Rattle.given.specs.Given.{givenOf, checkListsOf, checkRaysFrom, launchedOf}
+use Rattle.run.specs.declared.Progress.{Progress}
+use Rattle.run.specs.declared.Advanced.{Advanced}
+use Rattle.run.specs.Stack.{emptyStack}
+use Rattle.run.specs.Run.{Run, drive}
+use Rattle.trace.specs.declared.Traced.{Traced}
+
+-- what a tracing is given, the memory aside: the rules, the solids, the rays
+pub record Batch : Type 0 where
+  pub config : NonSeqTraceConfig
+  pub values : List Float
+  pub tags : List ℕ
+  pub solids : ℕ
+  pub rayValues : List Float
+  pub rayTags : List ℕ
+  pub rays : ℕ
+
+abbrev pub batchOf : NonSeqTraceConfig → List Float → List ℕ → ℕ → List Float → List ℕ → ℕ → Batch
+batchOf g x k n v t m = record { config = g; values = x; tags = k; solids = n; rayValues = v; rayTags = t; rays = m }
+
+abbrev pub raysOf : Batch → ℕ → ActiveRay
+raysOf B = givenOf (B .rayValues) (B .rayTags)
+
+-- ---- the checks before the run
+
+-- 17, solids before rays
+unfoldable pub checkFlatOf : Batch → Checked Unit
+checkFlatOf B = after (checkSolidsOf (B .values) (B .tags) (B .solids)) (checkListsOf (length (B .rayValues)) (length (B .rayTags)) (B .rays))
+
+-- 1, then 2
+unfoldable pub checkConfigOf : NonSeqTraceConfig → Checked Unit
+checkConfigOf g =
+    cond (finiteOf (g .«min_power_threshold») && le #0 (g .«min_power_threshold»))
+    (cond (leb (g .«max_bounces») 16) (passed tt) (refusedAt 2 0))
+    (refusedAt 1 0)
+
+-- 3 for solids and rays
+unfoldable pub checkCountsOf : ℕ → ℕ → Checked Unit
+checkCountsOf solids rays = cond (leb solids 32 && leb rays 4096) (passed tt) (refusedAt 3 0)
+
+unfoldable pub checkRulesOf : NonSeqTraceConfig → ℕ → ℕ → Checked Unit
+checkRulesOf g solids rays = after (checkConfigOf g) (checkCountsOf solids rays)
+
+-- 9; nf, nh, nv and nt are the lengths of the memory's slices
+unfoldable pub checkLengthsOf : Detectors → ℕ → ℕ → ℕ → ℕ → ℕ → Checked Unit
+checkLengthsOf ds nf nh nv nt used = cond (areLengthsOf ds nf nh nv nt used) (passed tt) (refusedAt 9 0)
+
+-- 3 for detectors, 5 to 8 of each, then 9
+unfoldable pub checkMemoryOf : Detectors → ℕ → ℕ → ℕ → ℕ → ℕ → Checked Unit
+checkMemoryOf ds nf nh nv nt used = after (checkDetectorsOf ds) (checkLengthsOf ds nf nh nv nt used)
+
+-- 17, 1, 2, 3, the detectors, 9, the rays in list order (10, 11)
+unfoldable pub checkAllOf : Batch → Detectors → ℕ → ℕ → ℕ → ℕ → ℕ → Checked Unit
+checkAllOf B ds nf nh nv nt used =
+    after (checkFlatOf B)
+    (after (checkRulesOf (B .config) (B .solids) (B .rays))
+    (after (checkMemoryOf ds nf nh nv nt used) (checkRaysFrom (raysOf B) (B .solids) (B .rays) 0)))
+
+unfoldable pub checkTraceOf : Batch → Memory → Checked Unit
+checkTraceOf B s = checkAllOf B (s .detectors) (length (s .flux)) (length (s .hits)) (length (s .values)) (length (s .tags)) (s .used)
+
+-- ---- the run
+
+-- more steps than any batch takes (the theorem `enough`)
+abbrev pub allSteps : ℕ
+allSteps = 4294967295
+
+unfoldable pub startOf : (ℕ → ActiveRay) → ℕ → Progress
+startOf given n = record { stack = emptyStack; left = n; report = startReportOf n (launchedOf given n) }
+
+abbrev pub sceneIn : Batch → Detectors → Scene
+sceneIn B ds = sceneOf (B .values) (B .tags) (B .solids) (facesOf ds) (B .config)
+
+-- into any memory; of the detectors it uses the faces
+unfoldable pub runOn : {M : Type 0} → (M → DetectorHit → Outcome M) → Detectors → Batch → M → Run M
+runOn put ds B m = drive put (sceneIn B ds) (raysOf B) allSteps m (startOf (raysOf B) (B .rays))
+
+-- what a tracing answers and leaves
+pub record Trace (M : Type 0) : Type 0 where
+  pub outcome : Outcome M
+  pub report : NonSeqTraceReport
+
+abbrev pub endOf : {M : Type 0} → Run M → Trace M
+endOf r = record { outcome = r .outcome; report = r .progress .report }
+
+-- a refusal before the run changes nothing, and its report is all zeros
+abbrev pub traceAfter : {M : Type 0} → Checked Unit → M → Run M → Trace M
+traceAfter (passed u) m r = endOf r
+traceAfter (refusedAt n place) m r = record { outcome = refused n place m; report = startReportOf 0 #0 }
+
+unfoldable pub traceRaysOf : Batch → Memory → Trace Memory
+traceRaysOf B s = traceAfter (checkTraceOf B s) s (runOn recordHit (s .detectors) B s)
+
+-- what the code's answers say
+abbrev pub answeredOf : Advanced → Traced
+answeredOf r = record { check = r .check; report = r .progress .report; detectors = r .detectors; used = r .used }
+
+abbrev pub tracedOf : Traced → List Float → List ℕ → List Float → List ℕ → Trace Memory
+tracedOf r f h v t = record { outcome = outcomeOf (r .check) (memoryOf (r .detectors) f h v t (r .used)); report = r .report }

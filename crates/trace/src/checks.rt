@@ -1,0 +1,138 @@
+// The checks before a run, in document 01's order.
+use detectors::Detectors;
+use error::Check;
+use error::NonSeqError;
+use turn::NonSeqTraceConfig;
+ghost use mathlib.Core.Path.{_≡_};
+ghost use Rattle.error.specs.Refusals.{checkOf};
+ghost use Rattle.trace.specs.Trace.{batchOf, checkFlatOf, checkConfigOf, checkCountsOf, checkRulesOf, checkLengthsOf, checkMemoryOf, checkAllOf};
+
+// Lists of solids or rays that do not fit (17).
+fn check_flat(
+    config: NonSeqTraceConfig,
+    values: &[f64],
+    tags: &[u32],
+    count: u32,
+    rays: &[f64],
+    marks: &[u32],
+    given: u32,
+) -> Check
+    ensures { λ r. ⌜ checkOf r ≡ checkFlatOf (batchOf config (now (values .entry)) (now (tags .entry)) count (now (rays .entry)) (now (marks .entry)) given) ⌝ }
+{
+    match scene::check_solids(values, tags, count) {
+        Check::Passed => given::check_lists(rays.len(), marks.len(), given),
+        Check::Refused { error, place } => Check::Refused { error, place },
+    }
+}
+
+// The threshold (1), then the bounce limit (2).
+fn check_config(config: NonSeqTraceConfig) -> Check
+    ensures { λ r. ⌜ checkOf r ≡ checkConfigOf config ⌝ }
+{
+    let threshold = config.min_power_threshold;
+    if doubles::is_finite(threshold) {
+        if threshold >= 0.0 {
+            if config.max_bounces <= 16 {
+                return Check::Passed;
+            }
+            return Check::Refused {
+                error: NonSeqError::BounceLimitTooLarge,
+                place: 0,
+            };
+        }
+    }
+    Check::Refused {
+        error: NonSeqError::InvalidThreshold,
+        place: 0,
+    }
+}
+
+// At most 32 solids and 4,096 rays (3).
+fn check_counts(count: u32, given: u32) -> Check
+    ensures { λ r. ⌜ checkOf r ≡ checkCountsOf count given ⌝ }
+{
+    if count <= 32 {
+        if given <= 4096 {
+            return Check::Passed;
+        }
+    }
+    Check::Refused {
+        error: NonSeqError::ListTooLong,
+        place: 0,
+    }
+}
+
+fn check_rules(config: NonSeqTraceConfig, count: u32, given: u32) -> Check
+    ensures { λ r. ⌜ checkOf r ≡ checkRulesOf config count given ⌝ }
+{
+    match check_config(config) {
+        Check::Passed => check_counts(count, given),
+        Check::Refused { error, place } => Check::Refused { error, place },
+    }
+}
+
+// The memory's slices (9).
+fn check_lengths(
+    detectors: Detectors,
+    flux: usize,
+    hits: usize,
+    places: usize,
+    kinds: usize,
+    used: usize,
+) -> Check
+    ensures { λ r. ⌜ checkOf r ≡ checkLengthsOf detectors flux hits places kinds used ⌝ }
+{
+    if memory::are_lengths(detectors, flux, hits, places, kinds, used) {
+        return Check::Passed;
+    }
+    Check::Refused {
+        error: NonSeqError::InvalidSliceLength,
+        place: 0,
+    }
+}
+
+fn check_memory(
+    detectors: Detectors,
+    flux: usize,
+    hits: usize,
+    places: usize,
+    kinds: usize,
+    used: usize,
+) -> Check
+    ensures { λ r. ⌜ checkOf r ≡ checkMemoryOf detectors flux hits places kinds used ⌝ }
+{
+    match detectors.check() {
+        Check::Passed => check_lengths(detectors, flux, hits, places, kinds, used),
+        Check::Refused { error, place } => Check::Refused { error, place },
+    }
+}
+
+// All checks of a tracing; flux, hits, places and kinds are the lengths of the memory's slices.
+pub fn check_trace(
+    config: NonSeqTraceConfig,
+    values: &[f64],
+    tags: &[u32],
+    count: u32,
+    rays: &[f64],
+    marks: &[u32],
+    given: u32,
+    detectors: Detectors,
+    flux: usize,
+    hits: usize,
+    places: usize,
+    kinds: usize,
+    used: usize,
+) -> Check
+    ensures { λ r. ⌜ checkOf r ≡ checkAllOf (batchOf config (now (values .entry)) (now (tags .entry)) count (now (rays .entry)) (now (marks .entry)) given) detectors flux hits places kinds used ⌝ }
+{
+    match check_flat(config, values, tags, count, rays, marks, given) {
+        Check::Passed => match check_rules(config, count, given) {
+            Check::Passed => match check_memory(detectors, flux, hits, places, kinds, used) {
+                Check::Passed => given::check_rays(rays, marks, given, count),
+                Check::Refused { error, place } => Check::Refused { error, place },
+            },
+            Check::Refused { error, place } => Check::Refused { error, place },
+        },
+        Check::Refused { error, place } => Check::Refused { error, place },
+    }
+}

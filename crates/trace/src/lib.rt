@@ -1,0 +1,109 @@
+// Tracing a batch of rays (document 01, module 8), after trace.rs: all checks, then the run.
+mod checks;
+
+pub use checks::check_trace;
+use detectors::Detectors;
+use error::Check;
+use faces::Faces;
+use report::NonSeqTraceReport;
+use run::Advanced;
+use run::Progress;
+use run::Stack;
+use turn::NonSeqTraceConfig;
+ghost use mathlib.Core.Path.{_≡_};
+ghost use Rattle.memory.specs.Memory.{memoryOf};
+ghost use Rattle.given.specs.Given.{givenOf};
+ghost use Rattle.trace.specs.Trace.{batchOf, startOf, answeredOf, traceRaysOf, tracedOf};
+
+// The refusal or none, the ledger and tallies, and what goes on: the detectors' records and the number
+// of hits used.
+pub struct Traced {
+    pub check: Check,
+    pub report: NonSeqTraceReport,
+    pub detectors: Detectors,
+    pub used: usize,
+}
+
+// Before the first step.
+fn start(rays: &[f64], marks: &[u32], given: u32) -> Progress
+    ensures { λ r. ⌜ r ≡ startOf (givenOf (now (rays .entry)) (now (marks .entry))) given ⌝ }
+{
+    let launched = given::launched(rays, marks, given);
+    Progress {
+        stack: Stack::empty(),
+        left: given,
+        report: NonSeqTraceReport::start(given, launched),
+    }
+}
+
+// What a run leaves, as the answer.
+fn answer(r: Advanced) -> Traced
+    ensures { λ a. ⌜ a ≡ answeredOf r ⌝ }
+{
+    let check = r.check;
+    let detectors = r.detectors;
+    let p = r.progress;
+    let report = p.report;
+    Traced {
+        check,
+        report,
+        detectors,
+        used: r.used,
+    }
+}
+
+// Traces `given` rays through `count` solids to the detectors, rays last to first. `values` and `tags` are
+// the solids, `rays` and `marks` the given rays; `flux`, `hits`, `places` and `kinds` the memory. What is
+// refused before the run changes nothing (17, 1, 2, 3, 5 to 8, 9, 10, 11); what is refused in it (12 to 16)
+// keeps the hits of the steps before.
+pub fn trace_rays(
+    config: NonSeqTraceConfig,
+    values: &[f64],
+    tags: &[u32],
+    count: u32,
+    rays: &[f64],
+    marks: &[u32],
+    given: u32,
+    detectors: Detectors,
+    flux: &mut [f64],
+    hits: &mut [u32],
+    places: &mut [f64],
+    kinds: &mut [u32],
+    used: usize,
+) -> Traced
+    ensures { λ r. ⌜ tracedOf r (now (flux .exit)) (now (hits .exit)) (now (places .exit)) (now (kinds .exit))
+        ≡ traceRaysOf (batchOf config (now (values .entry)) (now (tags .entry)) count (now (rays .entry)) (now (marks .entry)) given)
+        (memoryOf detectors (now (flux .entry)) (now (hits .entry)) (now (places .entry)) (now (kinds .entry)) used) ⌝ }
+{
+    match check_trace(
+        config,
+        values,
+        tags,
+        count,
+        rays,
+        marks,
+        given,
+        detectors,
+        flux.len(),
+        hits.len(),
+        places.len(),
+        kinds.len(),
+        used,
+    ) {
+        Check::Refused { error, place } => Traced {
+            check: Check::Refused { error, place },
+            report: NonSeqTraceReport::start(0, 0.0),
+            detectors,
+            used,
+        },
+        Check::Passed => {
+            let faces = Faces::new(detectors);
+            let progress = start(rays, marks, given);
+            let r = run::advance(
+                config, values, tags, count, faces, rays, marks, progress, 4294967295, detectors, flux,
+                hits, places, kinds, used,
+            );
+            answer(r)
+        }
+    }
+}
