@@ -131,12 +131,7 @@ pub fn compute_snell_fresnel_interaction(
     let c1 = cosine(d, n);
     let eta = n1 / n2;
     if radicand(eta, c1) <= 0.0 {
-        return total(leaving(
-            ray,
-            hit.point,
-            reflected_direction(d, n, c1),
-            power,
-        ));
+        return total(leaving(ray, hit.point, reflected_direction(d, n, c1), power));
     }
     refract(ray, hit, n1, n2, eta, c1, power)
 }

@@ -100,8 +100,21 @@ pub fn trace_rays(
             let faces = Faces::new(detectors);
             let progress = start(rays, marks, given);
             let r = run::advance(
-                config, values, tags, count, faces, rays, marks, progress, 4294967295, detectors, flux,
-                hits, places, kinds, used,
+                config,
+                values,
+                tags,
+                count,
+                faces,
+                rays,
+                marks,
+                progress,
+                4294967295,
+                detectors,
+                flux,
+                hits,
+                places,
+                kinds,
+                used,
             );
             answer(r)
         }

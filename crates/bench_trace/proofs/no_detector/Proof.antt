@@ -1,0 +1,12 @@
+-- `bench_trace::no_detector` meets its contract. Assumes nothing.
+use mathlib.Core.Path.{refl}
+use Rattle.bench_trace.specs.Plain.{blankDetector}
+use Rattle.bench_trace.proofs.no_detector.Statement.{statement}
+use Rattle.bench_trace.proofs.no_detector.Tie as tie
+
+returns : tie.Need-returns
+unfolding blankDetector
+returns c = refl
+
+pub no-detector-spec : {M : Type 1} → statement M
+no-detector-spec = tie.close (tie.spec returns)

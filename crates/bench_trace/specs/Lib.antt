@@ -1,0 +1,2 @@
+-- A tracing in plain numbers.
+pub mod Plain

@@ -1,0 +1,11 @@
+-- Theorems about tracings.
+pub mod Bred
+pub mod Stacks
+pub mod Weights
+pub mod Runs
+pub mod Tracings
+pub mod Places
+pub mod Balance
+pub mod Roomy
+pub mod Checked
+pub mod Counts

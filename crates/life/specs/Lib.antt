@@ -1,0 +1,3 @@
+-- What is said of whole tracings.
+pub mod Sums
+pub mod Room

@@ -1,0 +1,3 @@
+-- Statements about tracing that need names.
+pub mod Marks
+pub mod Refused
