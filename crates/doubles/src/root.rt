@@ -4,7 +4,7 @@ ghost use mathlib.Core.Path.{_≡_};
 ghost use Prim.Native.Nat.{_+_, _*_, _^_, _≤_, _<_};
 ghost use lib.Ieee.{ofBits, binary64};
 ghost use Rattle.doubles.specs.Root.{sqrtOf, nearestRoot, isNearestRoot};
-ghost use Rattle.doubles.specs.Guess.{guessOf};
+ghost use Rattle.doubles.specs.Guess.{guessOf, isBesideOneOf, besideOneOf};
 
 // Whether q is the whole number nearest to the root of m * 2^52.
 // With q = h * 2^27 + l, m * 2^52 - q * q is ((m - 4 * h * h) * 2^24 - h * l) * 2^28 - l * l,
@@ -120,8 +120,44 @@ fn root_slowly(b: u64) -> f64
     f64::from_bits((e + 1021) / 2 * 0x10_0000_0000_0000 + r)
 }
 
-// The same where b is not subnormal, by the guess, or the slow way if the guess is not the nearest.
-fn root_normal(b: u64) -> f64
+// The same where b is not subnormal, by a whole number that may be the nearest root of its digits, or
+// the slow way if it is not.
+fn root_by(b: u64, q: u64) -> f64
+    requires { ⌜ (2 ^ 52 ≤ b) × (b < 0x7ff0_0000_0000_0000) × (q < 2 ^ 53) ⌝ }
+    ensures { λ r. ⌜ r ≡ sqrtOf (ofBits binary64 b) ⌝ }
+{
+    let e = b / 0x10_0000_0000_0000;
+    let d = b % 0x10_0000_0000_0000 + 0x10_0000_0000_0000;
+    if pins(d << ((e + 1) % 2), q) {
+        return f64::from_bits((e + 1021) / 2 * 0x10_0000_0000_0000 + q);
+    }
+    root_slowly(b)
+}
+
+// Whether b is a double within 2^-24 of 1, as the squared length of a vector that was made a unit
+// vector is.
+fn is_beside_one(b: u64) -> bool
+    ensures { λ r. ⌜ r ≡ isBesideOneOf b ⌝ }
+{
+    if 0x3fef_ffff_e000_0000 <= b {
+        return b < 0x3ff0_0000_1000_0000;
+    }
+    false
+}
+
+// The digits of its root, which is as far from 1 as half of b's distance, rounded down.
+fn beside_one(b: u64) -> u64
+    ensures { λ r. ⌜ (r ≡ besideOneOf b) × (r < 2 ^ 53) ⌝ }
+{
+    let d = b % 0x10_0000_0000_0000;
+    if b < 0x3ff0_0000_0000_0000 {
+        return 0x20_0000_0000_0000 - (0x10_0000_0000_0001 - d) / 2;
+    }
+    0x10_0000_0000_0000 + d / 2
+}
+
+// By the guess.
+fn root_guessed(b: u64) -> f64
     requires { ⌜ (2 ^ 52 ≤ b) × (b < 0x7ff0_0000_0000_0000) ⌝ }
     ensures { λ r. ⌜ r ≡ sqrtOf (ofBits binary64 b) ⌝ }
 {
@@ -129,13 +165,21 @@ fn root_normal(b: u64) -> f64
     if g != g {
         return root_slowly(b);
     }
-    let q = f64::to_bits(g) % 0x10_0000_0000_0000 + 0x10_0000_0000_0000;
-    let e = b / 0x10_0000_0000_0000;
-    let d = b % 0x10_0000_0000_0000 + 0x10_0000_0000_0000;
-    if pins(d << ((e + 1) % 2), q) {
-        return f64::from_bits((e + 1021) / 2 * 0x10_0000_0000_0000 + q);
+    root_by(
+        b,
+        f64::to_bits(g) % 0x10_0000_0000_0000 + 0x10_0000_0000_0000,
+    )
+}
+
+// The root of a double that is not subnormal.
+fn root_normal(b: u64) -> f64
+    requires { ⌜ (2 ^ 52 ≤ b) × (b < 0x7ff0_0000_0000_0000) ⌝ }
+    ensures { λ r. ⌜ r ≡ sqrtOf (ofBits binary64 b) ⌝ }
+{
+    if is_beside_one(b) {
+        return root_by(b, beside_one(b));
     }
-    root_slowly(b)
+    root_guessed(b)
 }
 
 // `x.sqrt()`: the double nearest to the root of x.

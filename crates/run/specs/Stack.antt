@@ -52,3 +52,23 @@ popped s = record { rays = s .rays; len = s .len - 1 }
 unfoldable pub afterOf : Stack → Step → Stack
 afterOf s e =
     cond (ltb (popped s .len) 16) (pushedIf (e .second) (pushedIf (e .«first») (popped s) (e .reflected)) (e .transmitted)) (popped s)
+
+-- ---- the same as the code does it: two places are written, with what stood there where no ray comes
+
+unfoldable pub topAt : ℕ → ℕ
+topAt len = cond (ltb 0 len && leb len maxRays) (len - 1) 0
+
+unfoldable pub takenBy : (ℕ → ActiveRay) → ActiveRay → ℕ → ℕ → Taken
+takenBy given top len left = cond (ltb 0 len && leb len maxRays) (record { ray = top; left = left }) (loadedOf given left)
+
+unfoldable pub slotOf : ℕ → ℕ
+slotOf at = cond (ltb at 16) at 0
+
+unfoldable pub lowerOf : Step → ℕ → ActiveRay → ActiveRay
+lowerOf e at old = cond (ltb at 16) (cond (e .«first») (e .reflected) (cond (e .second) (e .transmitted) old)) old
+
+unfoldable pub upperOf : Step → ℕ → ActiveRay → ActiveRay
+upperOf e at old = cond (ltb at 16) (cond (e .«first») (cond (e .second) (e .transmitted) old) old) old
+
+unfoldable pub heightOf : Bool → Bool → ℕ → ℕ
+heightOf made also at = cond (ltb at 16) (cond made (cond also (at + 1 + 1) (at + 1)) (cond also (at + 1) at)) at

@@ -65,11 +65,16 @@ pub fn advance(
     let mut k = steps;
     while settling::goes_on(check, k, stack.len, left) {
         k -= 1;
-        let t = stack::take(stack, left, rays, marks);
+        let newest = stack.rays[stack::top_at(stack.len)];
+        let t = stack::take(newest, stack.len, left, rays, marks);
         let e = turn::turn(config, values, tags, count, faces, t.ray);
         let after = report.after(t.ray.ray.energy, e);
         left = t.left;
-        stack = stack.after(e);
+        let at = stack::under(stack.len);
+        let slot = stack::slot(at);
+        stack.rays[slot] = stack::lower(e, at, stack.rays[slot]);
+        stack.rays[slot + 1] = stack::upper(e, at, stack.rays[slot + 1]);
+        stack.len = stack::height(e.first, e.second, at);
         let fate = e.fate;
         match settling::hit_in(fate) {
             Catch::Hit(h) => {

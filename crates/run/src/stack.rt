@@ -2,10 +2,10 @@
 use turn::ActiveRay;
 use turn::Event;
 ghost use mathlib.Core.Path.{_≡_};
-ghost use Prim.Native.Nat.{_-_};
+ghost use Prim.Native.Nat.{_-_, _<_};
 ghost use Rattle.turn.specs.Rays.{stepOf};
 ghost use Rattle.given.specs.Given.{givenOf};
-ghost use Rattle.run.specs.Stack.{emptyStack, loadedOf, takenOf, afterOf};
+ghost use Rattle.run.specs.Stack.{emptyStack, loadedOf, topAt, takenBy, slotOf, lowerOf, upperOf, heightOf};
 
 pub struct Stack {
     pub rays: [ActiveRay; 17],
@@ -39,28 +39,101 @@ fn load(left: u32, values: &[f64], tags: &[u32]) -> Taken
     }
 }
 
-// The newest ray: the top of the stack, or else the last given ray that is left.
-pub(crate) fn take(stack: Stack, left: u32, values: &[f64], tags: &[u32]) -> Taken
-    ensures { λ r. ⌜ r ≡ takenOf (givenOf (now (values .entry)) (now (tags .entry))) stack left ⌝ }
+// Where the newest ray stands; 0 for a stack that holds none.
+pub(crate) fn top_at(len: usize) -> usize
+    ensures { λ r. ⌜ (r ≡ topAt len) × (r < 17) ⌝ }
 {
-    if 0 < stack.len {
-        if stack.len <= 17 {
-            let at = stack.len - 1;
-            let ray = stack.rays[at];
-            return Taken { ray, left };
+    if 0 < len {
+        if len <= 17 {
+            return len - 1;
+        }
+        return 0;
+    }
+    0
+}
+
+// The newest ray: the top of the stack, or else the last given ray that is left.
+pub(crate) fn take(top: ActiveRay, len: usize, left: u32, values: &[f64], tags: &[u32]) -> Taken
+    ensures { λ r. ⌜ r ≡ takenBy (givenOf (now (values .entry)) (now (tags .entry))) top len left ⌝ }
+{
+    if 0 < len {
+        if len <= 17 {
+            return Taken { ray: top, left };
         }
         return load(left, values, tags);
     }
     load(left, values, tags)
 }
 
-fn under(len: usize) -> usize
+// One ray fewer; none stays none.
+pub(crate) fn under(len: usize) -> usize
     ensures { λ r. ⌜ r ≡ len - 1 ⌝ }
 {
     if 0 < len {
         return len - 1;
     }
     0
+}
+
+// The first place that a step may change.
+pub(crate) fn slot(at: usize) -> usize
+    ensures { λ r. ⌜ (r ≡ slotOf at) × (r < 16) ⌝ }
+{
+    if at < 16 {
+        return at;
+    }
+    0
+}
+
+// What stands there after the step.
+pub(crate) fn lower(event: Event, at: usize, old: ActiveRay) -> ActiveRay
+    ensures { λ r. ⌜ r ≡ lowerOf (stepOf event) at old ⌝ }
+{
+    if at < 16 {
+        if event.first {
+            return event.reflected;
+        }
+        if event.second {
+            return event.transmitted;
+        }
+        return old;
+    }
+    old
+}
+
+// What stands in the next place.
+pub(crate) fn upper(event: Event, at: usize, old: ActiveRay) -> ActiveRay
+    ensures { λ r. ⌜ r ≡ upperOf (stepOf event) at old ⌝ }
+{
+    if at < 16 {
+        if event.first {
+            if event.second {
+                return event.transmitted;
+            }
+            return old;
+        }
+        return old;
+    }
+    old
+}
+
+// How many rays there are then.
+pub(crate) fn height(first: bool, second: bool, at: usize) -> usize
+    ensures { λ r. ⌜ r ≡ heightOf first second at ⌝ }
+{
+    if at < 16 {
+        if first {
+            if second {
+                return at + 1 + 1;
+            }
+            return at + 1;
+        }
+        if second {
+            return at + 1;
+        }
+        return at;
+    }
+    at
 }
 
 impl Stack {
@@ -70,36 +143,5 @@ impl Stack {
         let blank = given::no_ray();
         let rays = [blank; 17];
         Stack { rays, len: 0 }
-    }
-
-    // The newest ray goes; the reflected one and then the transmitted one come, if they are made.
-    pub fn after(self, event: Event) -> Stack
-        ensures { λ r. ⌜ r ≡ afterOf self (stepOf event) ⌝ }
-    {
-        let mut s = self;
-        let at = under(self.len);
-        let a = event.reflected;
-        let b = event.transmitted;
-        s.len = at;
-        if at < 16 {
-            if event.first {
-                s.rays[at] = a;
-                let next = at + 1;
-                s.len = next;
-                if event.second {
-                    s.rays[next] = b;
-                    s.len = next + 1;
-                    return s;
-                }
-                return s;
-            }
-            if event.second {
-                s.rays[at] = b;
-                s.len = at + 1;
-                return s;
-            }
-            return s;
-        }
-        s
     }
 }

@@ -6,6 +6,8 @@
 //!   scenegen batch FROM COUNT DIR   writes DIR/SEED.F.in and DIR/SEED.F.out, F in 0..4
 //!   scenegen bench SEED N        ns per interaction of the original
 //!   scenegen vectors DIR         tables of single functions of the original (hex bits, printed style)
+//!   scenegen scenes DIR          DIR/scenes_1.txt and _2.txt, small scenes with the original's answers, and DIR/stdout,
+//!                                what crates/scenes prints of them
 //! A SEED of the form tN is the "typical" bench scene number N (8 solids, 2 detectors).
 use nalgebra::{Matrix4, Vector4};
 use optics_core::{Ray, Vec3};
@@ -17,6 +19,8 @@ use optics_nonseq::scene::{NonSeqObject, NonSeqScene};
 use optics_nonseq::source::NonSeqRay;
 use optics_nonseq::trace::{NonSeqTraceConfig, NonSeqTraceReport, NonSeqTracer};
 use std::fmt::Write as _;
+
+mod scenes;
 
 struct Sm(u64);
 impl Sm {
@@ -434,31 +438,36 @@ fn number(e: &NonSeqError) -> u32 {
 
 struct Done { scene: NonSeqScene, rep: NonSeqTraceReport, tallies: Option<([u64; 7], bool)> }
 
+/// The tallies of a run that was not refused, and whether `weak` is sure: from the recorded paths and a
+/// second run with one more bounce.
+fn tallies(c: &Case, rays: &[NonSeqRay], rep: &NonSeqTraceReport) -> Option<([u64; 7], bool)> {
+    let mut s2 = c.scene.clone();
+    cfg(c, c.bounces + 1, false).trace_rays(&mut s2, rays, None).ok().map(|more| {
+        let lit: Vec<&NonSeqRay> = rays.iter().filter(|r| !(r.ray.energy <= c.threshold)).collect();
+        let dim = (rays.len() - lit.len()) as u64;
+        let past = lit.iter().filter(|r| r.bounce_count > c.bounces).count() as u64;
+        let spent = (more.total_interactions - rep.total_interactions) as u64 + past;
+        let n = |t: &str| rep.paths.iter().filter(|p| p.interaction == t).count() as u64;
+        let caught = n("DetectorHit");
+        let gone = n("EscapedToInfinity");
+        let surface = rep.paths.len() as u64 - caught - gone;
+        let made = dim + spent + caught + gone + surface - rays.len() as u64;
+        let mirrored = rep.paths.iter().filter(|p| p.interaction == "MirrorReflection" && p.power_watts > c.threshold).count() as u64;
+        // A total reflection told by power alone (radicand above 0) would be one short here:
+        // where indices are wild and such a segment occurs, weak is left open (?).
+        let weak = 2 * n("SnellFresnelSplit") + n("TotalInternalReflection") - (made - mirrored);
+        let sure = !c.wild || n("TotalInternalReflection") == 0;
+        ([made, dim, spent, caught, gone, surface, weak], sure)
+    })
+}
+
 fn solve(c: &Case) -> Result<Done, (u32, usize)> {
     let mut scene = c.scene.clone();
     let res = cfg(c, c.bounces, true).trace_rays(&mut scene, &c.rays, None);
     let hits: usize = scene.detectors.iter().map(|d| d.hits.len()).sum();
     match res {
         Ok(rep) if hits <= 1024 => {
-            // Tallies from the recorded paths and a second run with one more bounce.
-            let mut s2 = c.scene.clone();
-            let tallies = cfg(c, c.bounces + 1, false).trace_rays(&mut s2, &c.rays, None).ok().map(|more| {
-                let lit: Vec<&NonSeqRay> = c.rays.iter().filter(|r| !(r.ray.energy <= c.threshold)).collect();
-                let dim = (c.rays.len() - lit.len()) as u64;
-                let past = lit.iter().filter(|r| r.bounce_count > c.bounces).count() as u64;
-                let spent = (more.total_interactions - rep.total_interactions) as u64 + past;
-                let n = |t: &str| rep.paths.iter().filter(|p| p.interaction == t).count() as u64;
-                let caught = n("DetectorHit");
-                let gone = n("EscapedToInfinity");
-                let surface = rep.paths.len() as u64 - caught - gone;
-                let made = dim + spent + caught + gone + surface - c.rays.len() as u64;
-                let mirrored = rep.paths.iter().filter(|p| p.interaction == "MirrorReflection" && p.power_watts > c.threshold).count() as u64;
-                // A total reflection told by power alone (radicand above 0) would be one short here:
-                // where indices are wild and such a segment occurs, weak is left open (?).
-                let weak = 2 * n("SnellFresnelSplit") + n("TotalInternalReflection") - (made - mirrored);
-                let sure = !c.wild || n("TotalInternalReflection") == 0;
-                ([made, dim, spent, caught, gone, surface, weak], sure)
-            });
+            let tallies = tallies(c, &c.rays, &rep);
             Ok(Done { scene, rep, tallies })
         }
         _ => {
@@ -788,6 +797,7 @@ fn main() {
         "scene" => print!("{}", scene_text(&case_of(&a[2]), "-")),
         "answer" => print!("{}", answer(&solve(&case_of(&a[2])), a[3].parse().unwrap())),
         "vectors" => vectors(&a[2]),
+        "scenes" => scenes::write(&a[2]),
         "batch" => {
             let from: u64 = a[2].parse().unwrap();
             let count: u64 = a[3].parse().unwrap();
