@@ -5,3 +5,4 @@ pub mod Whole
 pub mod Slow
 pub mod Patterns
 pub mod Roots
+pub mod Beside

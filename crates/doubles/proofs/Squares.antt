@@ -42,7 +42,7 @@ product-lt i j {a} {b} ha hb =
     subst (λ (n : ℕ). a * b < n) (sym (pow-add 2 i j))
     (lt-of-le-of-lt (mul-le-mul-left a (le-of-lt hb)) (mul-lt-mul-of-pos-right ha (pow-pos j)))
 
-square-of : (p h l : ℕ) → (h * p + l) * (h * p + l) ≡ h * h * (p * p) + h * l * (p + p) + l * l
+pub square-of : (p h l : ℕ) → (h * p + l) * (h * p + l) ≡ h * h * (p * p) + h * l * (p + p) + l * l
 square-of p h l = simp (mul-add, add-mul, mul-assoc, mul-comm, mul-left-comm, add-assoc, add-comm, add-left-comm) refl
 
 -- q by its halves h and l, which `pins` computes with

@@ -1,6 +1,6 @@
 -- The first guess of the root: a float whose digits are near those of the root. Nothing rests on its value: `root_by` tests it, and has another way where it fails.
 use Prim.Native.Nat.{ℕ, _+_, _-_, _/_, _%_, _^_}
-use mathlib.Core.Bool.{Bool, cond, _&&_}
+use mathlib.Core.Bool.{Bool, _&&_}
 use lib.Dec.{leb, ltb}
 use lib.Ieee.{Float, binary64, add, sub, mul, ofBits}
 
@@ -28,12 +28,6 @@ guessOf b =
     let w = sub binary64 (ofBits binary64 0x3ffc000000000000) (mul binary64 g (mul binary64 h (ofBits binary64 0x3ff8000000000000))) in
     add binary64 g (mul binary64 d (mul binary64 h w))
 
--- within 2^-24 of 1
+-- within 2^-26 of 1
 unfoldable pub isBesideOneOf : ℕ → Bool
-isBesideOneOf b = leb 0x3fefffffe0000000 b && ltb b 0x3ff0000010000000
-
--- the root of 1 + x is near 1 + x / 2
-unfoldable pub besideOneOf : ℕ → ℕ
-besideOneOf b =
-    let d = b % 2 ^ 52 in
-    cond (ltb b 0x3ff0000000000000) (2 ^ 53 - (2 ^ 52 + 1 - d) / 2) (2 ^ 52 + d / 2)
+isBesideOneOf b = leb 0x3feffffffc000000 b && ltb b 0x3ff0000004000000

@@ -4,7 +4,7 @@ ghost use mathlib.Core.Path.{_≡_};
 ghost use Prim.Native.Nat.{_+_, _*_, _^_, _≤_, _<_};
 ghost use lib.Ieee.{ofBits, binary64};
 ghost use Rattle.doubles.specs.Root.{sqrtOf, nearestRoot, isNearestRoot};
-ghost use Rattle.doubles.specs.Guess.{guessOf, isBesideOneOf, besideOneOf};
+ghost use Rattle.doubles.specs.Guess.{guessOf, isBesideOneOf};
 
 // Whether q is the whole number nearest to the root of m * 2^52.
 // With q = h * 2^27 + l, m * 2^52 - q * q is ((m - 4 * h * h) * 2^24 - h * l) * 2^28 - l * l,
@@ -134,26 +134,27 @@ fn root_by(b: u64, q: u64) -> f64
     root_slowly(b)
 }
 
-// Whether b is a double within 2^-24 of 1, as the squared length of a vector that was made a unit
+// Whether b is a double within 2^-26 of 1, as the squared length of a vector that was made a unit
 // vector is.
 fn is_beside_one(b: u64) -> bool
     ensures { λ r. ⌜ r ≡ isBesideOneOf b ⌝ }
 {
-    if 0x3fef_ffff_e000_0000 <= b {
-        return b < 0x3ff0_0000_1000_0000;
+    if 0x3fef_ffff_fc00_0000 <= b {
+        return b < 0x3ff0_0000_0400_0000;
     }
     false
 }
 
-// The digits of its root, which is as far from 1 as half of b's distance, rounded down.
-fn beside_one(b: u64) -> u64
-    ensures { λ r. ⌜ (r ≡ besideOneOf b) × (r < 2 ^ 53) ⌝ }
+// The root of such a double is half as far from 1, by as many of the smallest steps; an odd number of
+// steps goes to the lower root.
+fn root_beside_one(b: u64) -> f64
+    requires { ⌜ (0x3fef_ffff_fc00_0000 ≤ b) × (b < 0x3ff0_0000_0400_0000) ⌝ }
+    ensures { λ r. ⌜ r ≡ sqrtOf (ofBits binary64 b) ⌝ }
 {
-    let d = b % 0x10_0000_0000_0000;
     if b < 0x3ff0_0000_0000_0000 {
-        return 0x20_0000_0000_0000 - (0x10_0000_0000_0001 - d) / 2;
+        return f64::from_bits(0x3ff0_0000_0000_0000 - (0x3ff0_0000_0000_0000 - b + 1) / 2);
     }
-    0x10_0000_0000_0000 + d / 2
+    f64::from_bits(0x3ff0_0000_0000_0000 + (b - 0x3ff0_0000_0000_0000) / 2)
 }
 
 // By the guess.
@@ -177,7 +178,7 @@ fn root_normal(b: u64) -> f64
     ensures { λ r. ⌜ r ≡ sqrtOf (ofBits binary64 b) ⌝ }
 {
     if is_beside_one(b) {
-        return root_by(b, beside_one(b));
+        return root_beside_one(b);
     }
     root_guessed(b)
 }
