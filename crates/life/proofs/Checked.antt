@@ -33,7 +33,7 @@ isPassed (refusedAt n place) = false
 not-passed : {A : Type 0} {C : Type 0} (n place : ℕ) (a : A) → refusedAt n place ≡ passed a → C
 not-passed n place a e = false-true (ap isPassed e)
 
-both-passed : {A : Type 0} (a : A) (c : Checked Unit) (x : Checked A) → after c x ≡ passed a → (c ≡ passed tt) × (x ≡ passed a)
+pub both-passed : {A : Type 0} (a : A) (c : Checked Unit) (x : Checked A) → after c x ≡ passed a → (c ≡ passed tt) × (x ≡ passed a)
 both-passed a (passed tt) x e = (refl, e)
 both-passed a (refusedAt n p) x e = not-passed n p a e
 
@@ -44,7 +44,7 @@ config-lim g =
     (λ q. pick (λ (c : Checked Unit). (c ≡ passed tt → g .«max_bounces» ≤ 16)) (leb (g .«max_bounces») 16) (λ z e. leb-true (g .«max_bounces») 16 z) (λ z e. not-passed 2 0 tt e))
     (λ q e. not-passed 1 0 tt e)
 
-counts-few : (solids rays : ℕ) → checkCountsOf solids rays ≡ passed tt → rays ≤ 4096
+pub counts-few : (solids rays : ℕ) → checkCountsOf solids rays ≡ passed tt → rays ≤ 4096
 unfolding checkCountsOf
 counts-few solids rays =
     pick (λ (c : Checked Unit). (c ≡ passed tt → rays ≤ 4096)) (leb solids 32 && leb rays 4096)

@@ -1,0 +1,9 @@
+-- Demand 3.
+pub mod Drives
+pub mod Sights
+pub mod Stacks
+pub mod Later
+pub mod Reached
+pub mod Joined
+pub mod Checks
+pub mod Split

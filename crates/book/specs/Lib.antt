@@ -1,0 +1,3 @@
+-- Demand 3: split batches, and what a list of calls leaves.
+pub mod Parts
+pub mod Calls

@@ -1,0 +1,1 @@
+// Theorems about split batches and lists of calls.
