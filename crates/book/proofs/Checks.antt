@@ -131,7 +131,7 @@ more-used ds nf nh nv nt u v k e =
     rw (t .0, t .1, t .2, t .3, le-leb v (nv / 4) k)
 
 -- by pixels and lengths alone
-same-lengths : (ds es : Detectors) (nf nh nv nt u : ℕ) → allPixelsOf es ≡ allPixelsOf ds → checkLengthsOf es nf nh nv nt u ≡ checkLengthsOf ds nf nh nv nt u
+pub same-lengths : (ds es : Detectors) (nf nh nv nt u : ℕ) → allPixelsOf es ≡ allPixelsOf ds → checkLengthsOf es nf nh nv nt u ≡ checkLengthsOf ds nf nh nv nt u
 unfolding checkLengthsOf areLengthsOf
 same-lengths ds es nf nh nv nt u e = rw e
 

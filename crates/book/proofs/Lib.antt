@@ -7,3 +7,6 @@ pub mod Reached
 pub mod Joined
 pub mod Checks
 pub mod Split
+pub mod Bare
+pub mod Booked
+pub mod Lists

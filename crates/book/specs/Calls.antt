@@ -1,5 +1,6 @@
 -- Document 01's plain book of a list of calls.
-use Prim.Native.Nat.{ℕ}
+use Prim.Native.Nat.{ℕ, _<_}
+use mathlib.Core.Path.{_≡_}
 use mathlib.Core.Bool.{cond, _||_}
 use mathlib.Core.List.{List, [], _∷_, _++_, map}
 use lib.Dec.{leb, eqb}
@@ -8,10 +9,10 @@ use lib.ListN.{length, replicate}
 use Rattle.rays.specs.declared.Ray.{Ray}
 use Rattle.detector.specs.declared.Detector2D.{Detector2D}
 use Rattle.detector.specs.declared.DetectorNo.{DetectorNo}
-use Rattle.detectors.specs.Detectors.{findOf}
+use Rattle.detectors.specs.Detectors.{detectorAt, findOf}
 use Rattle.memory.specs.declared.hits.DetectorHit.{DetectorHit}
-use Rattle.memory.specs.Memory.{Memory, Outcome, done, refused, leftOf, unless, judged, maxCount, cellOf, capacityOf, isMemoryOf, recordClassifiedOf}
-use Rattle.memory.specs.Plain.{View, sharing, numberIn, #0}
+use Rattle.memory.specs.Memory.{Memory, Outcome, done, refused, leftOf, unless, judged, maxCount, listed, cellOf, capacityOf, isMemoryOf, recordClassifiedOf}
+use Rattle.memory.specs.Plain.{View, sharing, numberIn, added, viewOf, plusAll, #0}
 use Rattle.filter.specs.declared.RayPathFilter.{RayPathFilter}
 use Rattle.trace.specs.Trace.{Batch, checkTraceOf, runOn, traceAfter, traceRaysOf}
 
@@ -121,3 +122,15 @@ bookAfter s (c ∷ cs) b = bookAfter s cs (leftOf (bookedOf s (wishOf c) b))
 
 abbrev pub zeroView : ℕ → ℕ → View
 zeroView nf nh = record { total = #0; count = 0; flux = replicate nf #0; hits = replicate nh 0 }
+
+-- ---- what is claimed of the memory m after a list of calls: s is the memory before it, b the book
+
+pub record Told (s m : Memory) (b : List DetectorHit) : Type 0 where
+  -- the number used and the hit list are the book's
+  pub used : m .used ≡ length b
+  pub list : listed m ≡ b
+  -- each detector's maps, total and count are what zeros become when its listed hits are added in list order
+  pub views :
+      (d : ℕ) → d < 8 → viewOf m d ≡ plusAll d (detectorAt (s .detectors .list) d) (zeroView (length (viewOf s d .flux)) (length (viewOf s d .hits))) b
+  -- and nothing else has changed
+  pub memory : m ≡ added s b
