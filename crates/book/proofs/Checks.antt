@@ -143,7 +143,7 @@ reached-lengths s m r e =
     ∙ rw (added-flux b s, added-hits b s, added-values b s, added-tags b s, same-lengths (s .detectors) _ (length (s .flux)) (length (s .hits)) (length (s .values)) (length (s .tags)) (m .used) (added-all b s))
     (more-used (s .detectors) (length (s .flux)) (length (s .hits)) (length (s .values)) (length (s .tags)) (s .used) (m .used) (r .room) e)
 
-reached-checks : (s m : Memory) → Reached s m → checkDetectorsOf (s .detectors) ≡ passed tt → checkDetectorsOf (m .detectors) ≡ passed tt
+pub reached-checks : (s m : Memory) → Reached s m → checkDetectorsOf (s .detectors) ≡ passed tt → checkDetectorsOf (m .detectors) ≡ passed tt
 reached-checks s m r e = ap (λ (x : Memory). checkDetectorsOf (x .detectors)) (r .sum) ∙ added-checks (r .hits) s ∙ e
 
 -- ---- the parts of a batch that passed pass, on what calls leave of its memory

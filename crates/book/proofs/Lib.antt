@@ -10,3 +10,5 @@ pub mod Split
 pub mod Bare
 pub mod Booked
 pub mod Lists
+pub mod Nine
+pub mod Demand

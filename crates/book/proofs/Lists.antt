@@ -140,3 +140,8 @@ module _ (s : Memory) (eight : length (s .detectors .list) ≡ 8) (empty : Empty
             ∙ ap (λ v. plusAll d (detectorAt (s .detectors .list) d) v b) (zero-view s eight empty d k);
         memory = e;
       }
+
+  -- what one more call answers then
+  pub answered : (cs : List Call) (w : Wish) → grantedOf w (memoryAfter cs s) ≡ mapOutcome (added s) (bookedOf (bare s) w (bookAfter (bare s) cs []))
+  unfolding added
+  answered cs w = ap (grantedOf w) (calls-booked cs []) ∙ call-booked w (bookAfter (bare s) cs [])

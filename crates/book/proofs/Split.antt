@@ -14,7 +14,7 @@ use Rattle.run.specs.Stack.{emptyStack}
 use Rattle.run.specs.Run.{isLeft, drive}
 use Rattle.trace.specs.Trace.{Batch, raysOf, allSteps, startOf, sceneIn, runOn, checkTraceOf, traceRaysOf}
 use Rattle.life.proofs.Checked.{fit}
-use Rattle.book.specs.Parts.{Part, Exact, AllExact, noRays, joined, joinedAll, withRays, shifted, thenOn, tracePartsOf}
+use Rattle.book.specs.Parts.{Part, Exact, AllExact, noRays, joined, joinedAll, withRays, Splits, shifted, thenOn, tracePartsOf}
 use Rattle.book.proofs.Drives.{drive-keeps}
 use Rattle.book.proofs.Later.{over, two-runs}
 use Rattle.book.proofs.Reached.{Reached, added-faces, reached-itself, reached-record}
@@ -80,6 +80,7 @@ parts-of B (p ∷ ps) s e w =
     ∙ two-parts B p (joinedAll ps) s (e .0) x w
 
 -- from any start, refused or not: the memory, and the number and the place of the refusal
-pub split : (B : Batch) (ps : List Part) (s : Memory) → AllExact ps → checkTraceOf (withRays B (joinedAll ps)) s ≡ passed tt
-    → tracePartsOf B ps s ≡ traceRaysOf (withRays B (joinedAll ps)) s .outcome
-split B ps s e c = parts-of B ps s e (passes _ s c)
+pub split : (B : Batch) (ps : List Part) (s : Memory) → Splits B ps → checkTraceOf B s ≡ passed tt → tracePartsOf B ps s ≡ traceRaysOf B s .outcome
+split B ps s e c =
+    parts-of B ps s (e .exact) (passes (withRays B (joinedAll ps)) s (ap (λ C. checkTraceOf C s) (e .whole) ∙ c))
+    ∙ ap (λ C. traceRaysOf C s .outcome) (e .whole)

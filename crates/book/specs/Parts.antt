@@ -47,6 +47,11 @@ withRays B p =
       rays = p .rays;
     }
 
+-- parts that put together in order give a batch's rays
+pub record Splits (B : Batch) (ps : List Part) : Type 0 where
+  pub exact : AllExact ps
+  pub whole : withRays B (joinedAll ps) ≡ B
+
 -- ---- traced one by one, the last first, until one is refused
 
 -- a refusal at its place in a batch in which n rays stand before the part

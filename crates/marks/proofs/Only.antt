@@ -7,9 +7,11 @@ use lib.Dec.{eqb}
 use borrow.Author.Tests.{eqb-false}
 use Rattle.doubles.proofs.Floats.{clash}
 use Rattle.error.specs.Refusals.{refusedAt}
-use Rattle.memory.specs.Memory.{Memory}
+use Rattle.memory.specs.declared.hits.DetectorHit.{DetectorHit}
+use Rattle.memory.specs.Memory.{Memory, holdsOf}
 use Rattle.turn.specs.declared.ActiveRay.{ActiveRay}
-use Rattle.turn.specs.Rays.{Scene}
+use Rattle.turn.specs.Rays.{Scene, caught}
+use Rattle.turn.specs.Turn.{turnOf}
 use Rattle.trace.specs.Trace.{Batch, sceneIn, checkTraceOf}
 use Rattle.marks.specs.Refused.{StepRefused, Reached, RunRefused, ListFull, CountFull, BadWavelength, BadMedium, BadRay, Only, Refusals}
 use Rattle.marks.proofs.Early.{isEarly, check-refuses}
@@ -21,6 +23,18 @@ differ a b e f = absurd (eqb-false a b e f)
 -- ---- of a step that is refused with that number
 
 module _ (t : Memory) (S : Scene) (a : ActiveRay) where
+  -- the memory lacks the hit's place: no tracing that passed its checks meets this
+  pub at-9 : StepRefused t S a 9 → (h : DetectorHit) × ((turnOf S a .end ≡ caught h) × (holdsOf t h ≡ false))
+  at-9 (inl (h, (e, inl (n, k)))) = (h, (e, k))
+  at-9 (inl (h, (e, inr (inl (n, k))))) = differ 9 12 refl n
+  at-9 (inl (h, (e, inr (inr (n, k))))) = differ 9 13 refl n
+  at-9 (inr (h, (e, inl (f, inl (inl (n, k)))))) = differ 9 14 refl n
+  at-9 (inr (h, (e, inl (f, inl (inr (n, k)))))) = differ 9 15 refl n
+  at-9 (inr (h, (e, inl (f, inr (inl (inl (n, k))))))) = differ 9 14 refl n
+  at-9 (inr (h, (e, inl (f, inr (inl (inr (n, k))))))) = differ 9 15 refl n
+  at-9 (inr (h, (e, inl (f, inr (inr (n, k)))))) = differ 9 16 refl n
+  at-9 (inr (h, (e, inr (n, k)))) = differ 9 16 refl n
+
   at-12 : StepRefused t S a 12 → ListFull t S a
   at-12 (inl (h, (e, inl (n, k)))) = differ 12 9 refl n
   at-12 (inl (h, (e, inr (inl (n, k))))) = (h, (e, k))
