@@ -6,7 +6,7 @@ use native.Mathlib.Omega.{arith}
 use native.Mathlib.Nat.{add-zero, zero-add}
 use lib.Dec.{leb, eqb}
 use lib.ListN.{length}
-use borrow.Author.Tests.{leb-true, le-leb, eq-eqb}
+use borrow.Author.Tests.{leb-true, le-leb, eq-eqb, eqb-true}
 use Rattle.error.specs.Refusals.{Checked, passed, refusedAt, after}
 use Rattle.rays.specs.Rays.{validRayOf}
 use Rattle.scene.specs.Solids.{checkSolidsOf}
@@ -70,6 +70,12 @@ counts-less k n m l e =
 pub exact-lists : (p : Part) → Exact p → checkListsOf (length (p .values)) (length (p .tags)) (p .rays) ≡ passed tt
 unfolding checkListsOf
 exact-lists p e = rw (eq-eqb _ _ (e .values), eq-eqb _ _ (e .tags))
+
+pub lists-say : (nv nt n : ℕ) → checkListsOf nv nt n ≡ passed tt → (nv ≡ n * 8) × (nt ≡ n * 10)
+unfolding checkListsOf
+lists-say nv nt n e =
+    let t = said (eqb nv (n * 8) && eqb nt (n * 10)) 17 0 e in
+    (eqb-true nv (n * 8) (and-left (eqb nv (n * 8)) (eqb nt (n * 10)) t), eqb-true nt (n * 10) (and-right (eqb nv (n * 8)) (eqb nt (n * 10)) t))
 
 ray-anywhere : (a : ActiveRay) (solids i j : ℕ) → checkRayOf a solids i ≡ passed tt → checkRayOf a solids j ≡ passed tt
 unfolding checkRayOf

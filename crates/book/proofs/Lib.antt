@@ -7,6 +7,7 @@ pub mod Reached
 pub mod Joined
 pub mod Checks
 pub mod Split
+pub mod Places
 pub mod Bare
 pub mod Booked
 pub mod Lists

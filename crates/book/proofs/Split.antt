@@ -26,7 +26,7 @@ use Rattle.book.proofs.Checks.{Passes, passes, all-pass, used-room, for
 abbrev ranIn : Faces → Batch → Memory → Outcome Memory
 ranIn fs B m = drive recordHit (sceneOf (B .values) (B .tags) (B .solids) fs (B .config)) (raysOf B) allSteps m (startOf (raysOf B) (B .rays)) .outcome
 
-traced : (B : Batch) (m : Memory) → Passes B m → traceRaysOf B m .outcome ≡ ranIn (facesOf (m .detectors)) B m
+pub traced : (B : Batch) (m : Memory) → Passes B m → traceRaysOf B m .outcome ≡ ranIn (facesOf (m .detectors)) B m
 unfolding traceRaysOf runOn
 traced B m p = rw (all-pass B m p)
 

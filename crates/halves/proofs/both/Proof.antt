@@ -1,0 +1,82 @@
+-- `halves::both` meets its contract. Assumes nothing.
+use mathlib.Core.Path.{refl, ap, _∙_}
+use native.Mathlib.Omega.{arith}
+use borrow.Author.Needs.{needs}
+use Rattle.memory.specs.Memory.{Memory}
+use Rattle.trace.specs.Trace.{Trace}
+use Rattle.halves.proofs.Cut.{lists-are, halves-refused, halves-done}
+use Rattle.halves.proofs.both.Statement.{statement}
+use Rattle.halves.proofs.both.Tie as tie
+
+later-requires : tie.Need-later-requires
+later-requires c κs = let o = c .before .before .before .before .before .before .before .before .before .before .before .before in let e = lists-are _ _ (o .pre .1) in (o .pre .0, omega (arith, e .0), omega (arith, e .1))
+
+enum-known-c : tie.Need-enum-known-c
+enum-known-c c = search needs
+
+further-requires : tie.Need-further-requires
+further-requires c κs = search needs
+
+enum-told : tie.Need-enum-told
+enum-told c = search needs
+
+former-requires : tie.Need-former-requires
+former-requires c κs = let o = c .before .before .before .before .before .before .before .before .before .before .before .before .before .before .before .before .before .before .before .before .before .before .before .before .before .before .before .before in let e = lists-are _ _ (o .pre .1) in (o .pre .0, omega (arith, e .0), omega (arith, e .1))
+
+answer-requires : tie.Need-answer-requires
+answer-requires c κs = search needs
+
+same-length : tie.Need-same-length
+same-length c = search needs
+
+same-length-2 : tie.Need-same-length-2
+same-length-2 c = search needs
+
+same-length-3 : tie.Need-same-length-3
+same-length-3 c = search needs
+
+same-length-4 : tie.Need-same-length-4
+same-length-4 c = search needs
+
+returns : tie.Need-returns
+returns c =
+    let o = c .before .before .before .before .before .before .before .before .before .before .before .before .before .before .before .before .before .before .before .before .before .before .before .before .before .before in
+    rw (c .further .ensures) (halves-refused _ _ _ (o .pre .0) (o .pre .1) _ _ _ (c .before .before .before .before .before .before .before .before .before .before .before .before .before .later .ensures) refl _ _ (c .before .before .c .given .1))
+
+same-length-5 : tie.Need-same-length-5
+same-length-5 c = c .before .before .before .before .before .before .before .before .before .former .kept .1 .1 .1 .1 .1 .1 .1 .1 .1 .0 ∙ c .before .before .before .before .before .before .before .before .before .before .before .before .before .before .before .before .before .before .before .before .before .before .before .before .before .later .kept .1 .1 .1 .1 .1 .1 .1 .1 .1 .0
+
+same-length-6 : tie.Need-same-length-6
+same-length-6 c = c .before .before .before .before .before .before .before .before .before .former .kept .1 .1 .1 .1 .1 .1 .1 .1 .1 .1 .0 ∙ c .before .before .before .before .before .before .before .before .before .before .before .before .before .before .before .before .before .before .before .before .before .before .before .before .before .later .kept .1 .1 .1 .1 .1 .1 .1 .1 .1 .1 .0
+
+same-length-7 : tie.Need-same-length-7
+same-length-7 c = c .before .before .before .before .before .before .before .before .before .former .kept .1 .1 .1 .1 .1 .1 .1 .1 .1 .1 .1 .0 ∙ c .before .before .before .before .before .before .before .before .before .before .before .before .before .before .before .before .before .before .before .before .before .before .before .before .before .later .kept .1 .1 .1 .1 .1 .1 .1 .1 .1 .1 .1 .0
+
+same-length-8 : tie.Need-same-length-8
+same-length-8 c = search needs
+
+returns-2 : tie.Need-returns-2
+returns-2 c =
+    let o = c .before .before .before .before .before .before .before .before .before .before .before .before .before .before .before .before .before .before .before .before .before .before .before .before .before .before .before .before .before .before .before .before .before .before .before .before .before .before in
+    rw (c .answer .ensures) (halves-done _ _ _ (o .pre .0) (o .pre .1) _ _ _ (c .before .before .before .before .before .before .before .before .before .before .before .before .before .before .before .before .before .before .before .before .before .before .before .before .before .later .ensures) refl (c .before .before .before .before .before .before .before .before .before .before .before .before .before .before .enum-told .given .1) _ (ap (λ (t : Trace Memory). t .outcome) (c .before .before .before .before .before .before .before .before .before .former .ensures)))
+
+pub both-spec : {M : Type 1} → statement M
+both-spec =
+    tie.close
+    (tie.spec
+    later-requires
+    enum-known-c
+    further-requires
+    enum-told
+    former-requires
+    answer-requires
+    same-length
+    same-length-2
+    same-length-3
+    same-length-4
+    returns
+    same-length-5
+    same-length-6
+    same-length-7
+    same-length-8
+    returns-2)

@@ -1,0 +1,33 @@
+-- The two parts of a batch cut at a ray.
+use Prim.Native.Nat.{ℕ, _+_, _-_, _*_}
+use mathlib.Core.Bool.{cond}
+use mathlib.Core.List.{List}
+use lib.Dec.{leb}
+use lib.Ieee.{Float}
+use lib.ListN.{length, take, drop}
+use Rattle.memory.specs.Memory.{Memory, memoryOf, Outcome, outcomeOf}
+use Rattle.trace.specs.declared.Traced.{Traced}
+use Rattle.book.specs.Parts.{Part}
+use Rattle.halves.specs.declared.Halved.{Halved}
+
+-- at most all rays
+unfoldable pub cutOf : ℕ → ℕ → ℕ
+cutOf cut given = cond (leb cut given) cut given
+
+-- a place n further on; no batch comes near the largest
+unfoldable pub furtherOf : ℕ → ℕ → ℕ
+furtherOf place n = cond (leb place (4294967295 - n)) (n + place) place
+
+-- the rays from n on, and those before
+abbrev pub laterPart : List Float → List ℕ → ℕ → ℕ → Part
+laterPart v t given n = record { values = take (length v - n * 8) (drop (n * 8) v); tags = take (length t - n * 10) (drop (n * 10) t); rays = given - n }
+
+abbrev pub formerPart : List Float → List ℕ → ℕ → Part
+formerPart v t n = record { values = take (n * 8) v; tags = take (n * 10) t; rays = n }
+
+-- what the code's answers say
+abbrev pub answeredOf : Traced → Halved
+answeredOf r = record { check = r .check; detectors = r .detectors; used = r .used }
+
+abbrev pub halvedOf : Halved → List Float → List ℕ → List Float → List ℕ → Outcome Memory
+halvedOf r f h v t = outcomeOf (r .check) (memoryOf (r .detectors) f h v t (r .used))

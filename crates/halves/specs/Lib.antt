@@ -1,0 +1,2 @@
+-- A batch traced in two parts.
+pub mod Halves

@@ -1,0 +1,278 @@
+// A batch traced in two parts (letter, demand 3): what it leaves is what the batch traced whole leaves.
+use detectors::Detectors;
+use error::Check;
+use trace::Traced;
+use turn::NonSeqTraceConfig;
+ghost use mathlib.Core.Path.{_≡_};
+ghost use Prim.Native.Nat.{_≤_, _*_};
+ghost use lib.ListN.{length};
+ghost use Rattle.error.specs.Refusals.{passed};
+ghost use Rattle.memory.specs.Memory.{memoryOf};
+ghost use Rattle.trace.specs.Trace.{batchOf, checkTraceOf, traceRaysOf, tracedOf};
+ghost use Rattle.book.specs.Parts.{withRays};
+ghost use Rattle.halves.specs.Halves.{cutOf, furtherOf, laterPart, formerPart, answeredOf, halvedOf};
+
+// The refusal or none, and what goes on. The ledger and tallies of a split batch are those of its parts.
+pub struct Halved {
+    pub check: Check,
+    pub detectors: Detectors,
+    pub used: usize,
+}
+
+// How many rays the first part has: at most all.
+fn cut_at(cut: u32, given: u32) -> u32
+    ensures { λ r. ⌜ (r ≡ cutOf cut given) × (r ≤ given) ⌝ }
+{
+    if cut <= given {
+        return cut;
+    }
+    given
+}
+
+// The place in the batch of a ray of the second part; no batch comes near the largest number.
+fn further(place: u32, n: u32) -> u32
+    ensures { λ r. ⌜ r ≡ furtherOf place n ⌝ }
+{
+    if place <= 4294967295 - n {
+        return n + place;
+    }
+    place
+}
+
+// The rays from n on.
+fn later(
+    config: NonSeqTraceConfig,
+    values: &[f64],
+    tags: &[u32],
+    count: u32,
+    rays: &[f64],
+    marks: &[u32],
+    given: u32,
+    n: u32,
+    detectors: Detectors,
+    flux: &mut [f64],
+    hits: &mut [u32],
+    places: &mut [f64],
+    kinds: &mut [u32],
+    used: usize,
+) -> Traced
+    requires { ⌜ (n ≤ given) × (given * 8 ≤ length (now rays)) × (given * 10 ≤ length (now marks)) ⌝ }
+    ensures { λ r. ⌜ tracedOf r (now (flux .exit)) (now (hits .exit)) (now (places .exit)) (now (kinds .exit))
+        ≡ traceRaysOf (withRays (batchOf config (now (values .entry)) (now (tags .entry)) count (now (rays .entry)) (now (marks .entry)) given)
+        (laterPart (now (rays .entry)) (now (marks .entry)) given n))
+        (memoryOf detectors (now (flux .entry)) (now (hits .entry)) (now (places .entry)) (now (kinds .entry)) used) ⌝ }
+{
+    let a = n as usize * 8;
+    let b = n as usize * 10;
+    let left = given - n;
+    let r = &rays[a..];
+    let m = &marks[b..];
+    trace::trace_rays(
+        config,
+        values,
+        tags,
+        count,
+        r,
+        m,
+        left,
+        detectors,
+        flux,
+        hits,
+        places,
+        kinds,
+        used,
+    )
+}
+
+// The rays before n.
+fn former(
+    config: NonSeqTraceConfig,
+    values: &[f64],
+    tags: &[u32],
+    count: u32,
+    rays: &[f64],
+    marks: &[u32],
+    given: u32,
+    n: u32,
+    detectors: Detectors,
+    flux: &mut [f64],
+    hits: &mut [u32],
+    places: &mut [f64],
+    kinds: &mut [u32],
+    used: usize,
+) -> Traced
+    requires { ⌜ (n ≤ given) × (given * 8 ≤ length (now rays)) × (given * 10 ≤ length (now marks)) ⌝ }
+    ensures { λ r. ⌜ tracedOf r (now (flux .exit)) (now (hits .exit)) (now (places .exit)) (now (kinds .exit))
+        ≡ traceRaysOf (withRays (batchOf config (now (values .entry)) (now (tags .entry)) count (now (rays .entry)) (now (marks .entry)) given)
+        (formerPart (now (rays .entry)) (now (marks .entry)) n))
+        (memoryOf detectors (now (flux .entry)) (now (hits .entry)) (now (places .entry)) (now (kinds .entry)) used) ⌝ }
+{
+    let a = n as usize * 8;
+    let b = n as usize * 10;
+    let r = &rays[..a];
+    let m = &marks[..b];
+    trace::trace_rays(
+        config,
+        values,
+        tags,
+        count,
+        r,
+        m,
+        n,
+        detectors,
+        flux,
+        hits,
+        places,
+        kinds,
+        used,
+    )
+}
+
+fn answer(r: Traced) -> Halved
+    ensures { λ a. ⌜ a ≡ answeredOf r ⌝ }
+{
+    let check = r.check;
+    let detectors = r.detectors;
+    Halved {
+        check,
+        detectors,
+        used: r.used,
+    }
+}
+
+// The two parts of a batch that passed the checks: the rays from n on, then, unless they are refused,
+// those before.
+fn both(
+    config: NonSeqTraceConfig,
+    values: &[f64],
+    tags: &[u32],
+    count: u32,
+    rays: &[f64],
+    marks: &[u32],
+    given: u32,
+    n: u32,
+    detectors: Detectors,
+    flux: &mut [f64],
+    hits: &mut [u32],
+    places: &mut [f64],
+    kinds: &mut [u32],
+    used: usize,
+) -> Halved
+    requires { ⌜ (n ≤ given) × (checkTraceOf (batchOf config (now values) (now tags) count (now rays) (now marks) given)
+        (memoryOf detectors (now flux) (now hits) (now places) (now kinds) used) ≡ passed tt) ⌝ }
+    ensures { λ r. ⌜ halvedOf r (now (flux .exit)) (now (hits .exit)) (now (places .exit)) (now (kinds .exit))
+        ≡ traceRaysOf (batchOf config (now (values .entry)) (now (tags .entry)) count (now (rays .entry)) (now (marks .entry)) given)
+        (memoryOf detectors (now (flux .entry)) (now (hits .entry)) (now (places .entry)) (now (kinds .entry)) used) .outcome ⌝ }
+{
+    let a = later(
+        config,
+        values,
+        tags,
+        count,
+        rays,
+        marks,
+        given,
+        n,
+        detectors,
+        flux,
+        hits,
+        places,
+        kinds,
+        used,
+    );
+    let ds = a.detectors;
+    let c = a.check;
+    match c {
+        Check::Refused { error, place } => Halved {
+            check: Check::Refused {
+                error,
+                place: further(place, n),
+            },
+            detectors: ds,
+            used: a.used,
+        },
+        Check::Passed => {
+            let b = former(
+                config,
+                values,
+                tags,
+                count,
+                rays,
+                marks,
+                given,
+                n,
+                ds,
+                flux,
+                hits,
+                places,
+                kinds,
+                a.used,
+            );
+            answer(b)
+        }
+    }
+}
+
+// Traces a batch cut before ray `cut`: the second part first, then, unless it is refused, the first. All
+// checks are those of the batch, and so are the refusal, its place, the memory and what is given back.
+pub fn trace_rays_in_two(
+    config: NonSeqTraceConfig,
+    values: &[f64],
+    tags: &[u32],
+    count: u32,
+    rays: &[f64],
+    marks: &[u32],
+    given: u32,
+    cut: u32,
+    detectors: Detectors,
+    flux: &mut [f64],
+    hits: &mut [u32],
+    places: &mut [f64],
+    kinds: &mut [u32],
+    used: usize,
+) -> Halved
+    ensures { λ r. ⌜ halvedOf r (now (flux .exit)) (now (hits .exit)) (now (places .exit)) (now (kinds .exit))
+        ≡ traceRaysOf (batchOf config (now (values .entry)) (now (tags .entry)) count (now (rays .entry)) (now (marks .entry)) given)
+        (memoryOf detectors (now (flux .entry)) (now (hits .entry)) (now (places .entry)) (now (kinds .entry)) used) .outcome ⌝ }
+{
+    match trace::check_trace(
+        config,
+        values,
+        tags,
+        count,
+        rays,
+        marks,
+        given,
+        detectors,
+        flux.len(),
+        hits.len(),
+        places.len(),
+        kinds.len(),
+        used,
+    ) {
+        Check::Refused { error, place } => Halved {
+            check: Check::Refused { error, place },
+            detectors,
+            used,
+        },
+        Check::Passed => {
+            let n = cut_at(cut, given);
+            both(
+                config,
+                values,
+                tags,
+                count,
+                rays,
+                marks,
+                given,
+                n,
+                detectors,
+                flux,
+                hits,
+                places,
+                kinds,
+                used,
+            )
+        }
+    }
+}
