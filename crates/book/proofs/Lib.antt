@@ -13,3 +13,4 @@ pub mod Booked
 pub mod Lists
 pub mod Nine
 pub mod Demand
+pub mod Example
