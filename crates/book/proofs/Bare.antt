@@ -1,17 +1,16 @@
 -- What the plain book is fed is all that it needs: an empty memory and it without contents differ only in hit places that are not used. Assumes nothing.
-use Prim.Native.Nat.{ℕ, suc, _+_, _-_, _/_, _≤_, _<_}
+use Prim.Native.Nat.{ℕ, suc, _+_, _-_, _<_}
 use mathlib.Core.Path.{_≡_, refl, ap, sym, subst, _∙_}
-use mathlib.Core.List.{List, [], _∷_, _++_, map}
+use mathlib.Core.List.{List, [], _∷_, map}
 use native.Mathlib.Omega.{arith}
 use lib.Ieee.{Float, nan}
 use lib.ListN.{length, getD, replicate, take, drop, length-replicate, getD-replicate, length-take, length-drop}
 use lib.Seq.{ext-getD, getD-take, getD-drop}
-use Rattle.error.specs.Refusals.{Checked}
 use Rattle.detector.specs.declared.Detector2D.{Detector2D}
 use Rattle.detectors.specs.declared.Detectors.{Detectors}
-use Rattle.detectors.specs.Detectors.{noDetector, detectorAt, allPixelsOf}
+use Rattle.detectors.specs.Detectors.{detectorAt}
 use Rattle.memory.specs.declared.hits.DetectorHit.{DetectorHit}
-use Rattle.memory.specs.Memory.{Memory, areLengthsOf, isMemoryOf, capacityOf}
+use Rattle.memory.specs.Memory.{Memory, isMemoryOf, capacityOf}
 use Rattle.memory.specs.Plain.{Empty, viewOf, partOf, #0}
 use Rattle.trace.specs.Trace.{Batch, checkTraceOf}
 use Rattle.book.specs.Calls.{bareDetector, bare, withUsed, plainHit, zeroView}

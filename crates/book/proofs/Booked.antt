@@ -1,29 +1,26 @@
 -- One call on the memory and in the plain book: the empty memory with the book's hits added goes to the empty memory with the book's hits added. Assumes nothing.
-use Prim.Native.Nat.{ℕ, _+_, _/_, _≤_, _<_}
-use mathlib.Core.Path.{_≡_, refl, ap, sym, subst, _∙_}
-use mathlib.Core.Bool.{Bool, true, false, cond, _&&_, _||_}
-use mathlib.Core.List.{List, [], _∷_, _++_}
+use Prim.Native.Nat.{ℕ, _≤_, _<_}
+use mathlib.Core.Path.{_≡_, refl, ap, sym, _∙_}
+use mathlib.Core.Bool.{Bool, true, false, cond}
+use mathlib.Core.List.{List}
 use native.Mathlib.Omega.{arith}
-use lib.Dec.{leb, ltb, eqb}
 use lib.ListN.{length}
 use borrow.Author.Tests.{le-leb}
 use Rattle.error.specs.Refusals.{Checked, passed, refusedAt, after}
 use Rattle.detector.specs.declared.DetectorNo.{DetectorNo}
 use Rattle.detectors.specs.declared.Detectors.{Detectors}
-use Rattle.detectors.specs.declared.Placed.{Placed}
 use Rattle.detectors.specs.Detectors.{allPixelsOf, checkDetectorsOf, checkAskedOf, placedOf, findOf}
 use Rattle.detectors.proofs.Passed.{Sound, sound, asked-sound}
 use Rattle.memory.specs.declared.hits.DetectorHit.{DetectorHit}
-use Rattle.memory.specs.Memory.{Memory, Outcome, done, refused, leftOf, unless, recordHit, holdsOf, areLengthsOf, isMemoryOf, recordClassifiedOf}
+use Rattle.memory.specs.Memory.{Memory, Outcome, refused, unless, recordHit, holdsOf, areLengthsOf, isMemoryOf, recordClassifiedOf}
 use Rattle.memory.specs.Plain.{Empty, added, bookHit}
 use Rattle.memory.proofs.Plain.{mapOutcome, same-put, used-by}
 use Rattle.memory.proofs.Booked.{holds-checked}
 use Rattle.faces.specs.declared.Faces.{Faces}
 use Rattle.faces.specs.Faces.{facesOf, shownOf}
-use Rattle.turn.specs.declared.ActiveRay.{ActiveRay}
 use Rattle.turn.specs.Rays.{Scene, sceneOf}
 use Rattle.run.specs.Run.{Run, drive}
-use Rattle.trace.specs.Trace.{Batch, raysOf, allSteps, startOf, sceneIn, runOn, checkLengthsOf, checkMemoryOf, checkAllOf, checkTraceOf, traceAfter, traceRaysOf}
+use Rattle.trace.specs.Trace.{Batch, raysOf, allSteps, startOf, runOn, checkLengthsOf, checkMemoryOf, checkAllOf, checkTraceOf, traceAfter, traceRaysOf}
 use Rattle.book.specs.Calls.{withUsed, bare, plainHit, bookTraced, bookRecorded}
 use Rattle.book.proofs.Drives.{Brought, map-drive, same-drive}
 use Rattle.book.proofs.Sights.{brought-there}

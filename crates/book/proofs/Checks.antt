@@ -1,6 +1,6 @@
 -- What the checks before a run say of a batch and a memory, part by part, and that parts of a batch that passed pass. Assumes nothing.
 use Prim.Native.Nat.{ℕ, zero, suc, _+_, _*_, _/_, _%_, _≤_, _<_}
-use mathlib.Core.Path.{_≡_, refl, ap, sym, subst, _∙_}
+use mathlib.Core.Path.{_≡_, refl, ap, _∙_}
 use mathlib.Core.Bool.{Bool, true, false, cond, _&&_}
 use native.Mathlib.Omega.{arith}
 use native.Mathlib.Nat.{add-zero, zero-add}
@@ -17,8 +17,8 @@ use Rattle.memory.specs.Memory.{Memory, capacityOf, isHitListOf, areLengthsOf}
 use Rattle.turn.specs.declared.ActiveRay.{ActiveRay}
 use Rattle.given.specs.Given.{validMediaOf, checkListsOf, checkRayOf, checkRaysFrom}
 use Rattle.trace.specs.Trace.{Batch, raysOf, checkFlatOf, checkConfigOf, checkCountsOf, checkRulesOf, checkLengthsOf, checkMemoryOf, checkAllOf, checkTraceOf}
-use Rattle.life.proofs.Bred.{pick, false-true}
-use Rattle.life.proofs.Checked.{both-passed, counts-few}
+use Rattle.life.proofs.Bred.{false-true}
+use Rattle.life.proofs.Checked.{both-passed}
 use Rattle.book.specs.Parts.{Part, Exact, joined, withRays}
 use Rattle.book.proofs.Reached.{Reached, added-checks, added-all, added-flux, added-hits, added-values, added-tags}
 use Rattle.book.proofs.Joined.{former-given, later-given}

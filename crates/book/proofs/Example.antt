@@ -1,13 +1,11 @@
 -- A memory, a detector and a list of calls that meet every hypothesis and have hits in them: document 01's scene traced, a hit recorded, a filter, and the scene again, for which the list has no room.
-use Prim.Native.Nat.{ℕ, zero, suc, _<_}
 use mathlib.Core.Path.{_≡_, refl, ap, subst}
-use mathlib.Core.Bool.{Bool, true, false}
 use mathlib.Core.List.{List, [], _∷_}
 use lib.Ieee.{Float, nan, binary64, add, sub, mul, div, neg, lt, le, ofBits, toBits, ofInt, toUnsigned}
-use lib.ListN.{length, getD, replicate, getD-replicate, length-replicate}
+use lib.ListN.{length, replicate, getD-replicate}
 use Rattle.doubles.specs.Doubles.{absOf, clampOf, finiteOf}
 use Rattle.doubles.specs.Root.{sqrtOf}
-use Rattle.error.specs.Refusals.{Checked, passed}
+use Rattle.error.specs.Refusals.{passed}
 use Rattle.rays.specs.Rays.{atOf, finiteRayOf, validRayOf}
 use Rattle.rays.specs.Vectors.{vec3, dotOf, crossOf, plusOf, minusOf, scaleOf, divideOf, normOf, normalizeOf, finiteVecOf}
 use Rattle.material.specs.declared.OpticalMedium.the-variants.{Air}
@@ -18,19 +16,19 @@ use Rattle.detector.specs.declared.Detector2D.{Detector2D}
 use Rattle.detector.specs.Checks.{isSizeOf, isParallelOf, checkGridOf, checkDetectorOf}
 use Rattle.detector.specs.Faces.{orthogonalOf, faceOf, acrossOf, crossingOf}
 use Rattle.detector.specs.Pixels.{indexAlongOf, pixelsOf, pixelAtOf}
-use Rattle.detectors.specs.Detectors.{noDetector, detectorAt, firstPixelOf, allPixelsOf, checkFromOf, checkDetectorsOf, checkAskedOf, placedOf, findOf}
+use Rattle.detectors.specs.Detectors.{noDetector, firstPixelOf, allPixelsOf, checkFromOf, checkDetectorsOf, checkAskedOf, placedOf, findOf}
 use Rattle.memory.specs.declared.hits.DetectorHit.{DetectorHit}
-use Rattle.memory.specs.Memory.{Memory, Outcome, done, refused, judged, cellInOf, cellOf, capacityOf, isHitListOf, areLengthsOf, isMemoryOf}
+use Rattle.memory.specs.Memory.{Memory, done, refused, judged, cellInOf, cellOf, capacityOf, isHitListOf, areLengthsOf, isMemoryOf}
 use Rattle.memory.specs.Plain.{Empty, sharing}
 use Rattle.filter.specs.declared.RayPathFilter.the-variants.{GhostsOnly}
 use Rattle.faces.specs.Faces.{facesOf, sightFrom, shownOf, nearestDetectorOf}
 use Rattle.turn.specs.Turn.{firstMetOf, meetsOf, interactOf, turnOf}
-use Rattle.given.specs.Given.{readRayOf, readMediaOf, blank, givenOf, checkListsOf, allSolids, validMediaOf, checkRayOf, checkRaysFrom, launchedFrom, launchedOf}
+use Rattle.given.specs.Given.{readRayOf, readMediaOf, givenOf, checkListsOf, allSolids, validMediaOf, checkRayOf, checkRaysFrom, launchedFrom, launchedOf}
 use Rattle.run.specs.Stack.{emptyStack, loadedOf, takenOf, pushedIf, popped, afterOf}
 use Rattle.run.specs.Run.{hitIn, refusalIn, isLeft, stepOn, drive}
 use Rattle.trace.specs.Trace.{Batch, checkFlatOf, checkConfigOf, checkCountsOf, checkRulesOf, checkLengthsOf, checkMemoryOf, checkAllOf, checkTraceOf, startOf, runOn, traceRaysOf}
 use Rattle.book.specs.Parts.{Part, AllExact, noRays, joinedAll, Splits, tracePartsOf}
-use Rattle.book.specs.Calls.{Call, tracing, recording, refilter, Wish, rays, wishOf, memoryAfter, bare, plainHit, bookTraced, bookRecorded, bookedOf, bookAfter, Told}
+use Rattle.book.specs.Calls.{Call, tracing, recording, refilter, rays, wishOf, memoryAfter, bare, plainHit, bookTraced, bookRecorded, bookedOf, bookAfter, Told}
 use Rattle.book.proofs.Split.{split}
 use Rattle.book.proofs.Lists.{told}
 

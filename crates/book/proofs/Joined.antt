@@ -8,7 +8,7 @@ use lib.ListN.{length, getD, length-append, List·getD-append}
 use lib.Seq.{getD-append-add}
 use borrow.Author.Tests.{le-leb}
 use Rattle.given.specs.Given.{readRayOf, readMediaOf, givenOf}
-use Rattle.book.specs.Parts.{Part, Exact, AllExact, noRays, joined, joinedAll}
+use Rattle.book.specs.Parts.{Part, Exact, AllExact, joined, joinedAll}
 
 pub exact-joined : (p q : Part) → Exact p → Exact q → Exact (joined p q)
 exact-joined p q e f =

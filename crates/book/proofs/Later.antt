@@ -1,29 +1,27 @@
 -- A run of some rays is how the run of a longer batch begins: rays are taken last to first. Assumes nothing.
 use Prim.Native.Nat.{ℕ, zero, suc, _+_, _≤_, _<_}
 use mathlib.Core.Path.{_≡_, refl, ap, sym, _∙_}
-use mathlib.Core.Bool.{Bool, true, false, cond}
+use mathlib.Core.Bool.{Bool, true, false}
 use native.Mathlib.Omega.{arith}
 use native.Mathlib.Nat.{zero-add}
-use lib.Dec.{ltb}
-use borrow.Author.Tests.{lt-ltb, le-ltb}
+use borrow.Author.Tests.{le-ltb}
 use Rattle.memory.specs.declared.hits.DetectorHit.{DetectorHit}
 use Rattle.memory.specs.Memory.{Outcome, done, refused}
 use Rattle.turn.specs.declared.ActiveRay.{ActiveRay}
-use Rattle.turn.specs.Rays.{Scene, Step, End, dim, spent, gone, caught, stopped, parted, refusing}
+use Rattle.turn.specs.Rays.{Scene, End, dim, spent, gone, caught, stopped, parted, refusing}
 use Rattle.turn.specs.Turn.{turnOf}
 use Rattle.report.specs.declared.NonSeqTraceReport.{NonSeqTraceReport}
-use Rattle.report.specs.Report.{reportAfter}
 use Rattle.run.specs.declared.Progress.{Progress}
-use Rattle.run.specs.Stack.{takenOf, afterOf, emptyStack}
-use Rattle.run.specs.Run.{Run, Settled, hitIn, refusalIn, putFrom, isLeft, andThen, settleWith, stepOn, drive}
+use Rattle.run.specs.Stack.{takenOf, emptyStack}
+use Rattle.run.specs.Run.{hitIn, refusalIn, putFrom, isLeft, andThen, settleWith, stepOn, drive}
 use Rattle.trace.specs.Trace.{allSteps, startOf}
-use Rattle.life.specs.Sums.{sumLeft, heft, Full}
+use Rattle.life.specs.Sums.{Full}
 use Rattle.life.proofs.Bred.{false-true}
-use Rattle.life.proofs.Stacks.{next, next-full, none-left}
+use Rattle.life.proofs.Stacks.{next, none-left}
 use Rattle.life.proofs.Runs.{limit, weight, next-less, weight-pos}
 use Rattle.life.proofs.Tracings.{start-full, start-weight}
 use Rattle.book.specs.Parts.{shifted, thenOn}
-use Rattle.book.proofs.Stacks.{Alike, after-alike, Like, Takes, takes}
+use Rattle.book.proofs.Stacks.{after-alike, Like, Takes, takes}
 
 -- ---- with no ray left nothing happens
 

@@ -1,6 +1,6 @@
 -- Any list of calls on the memory and in the plain book. Assumes nothing.
 use Prim.{tt}
-use Prim.Native.Nat.{ℕ, _<_}
+use Prim.Native.Nat.{_<_}
 use mathlib.Core.Path.{_≡_, refl, ap, sym, subst, _∙_}
 use mathlib.Core.Bool.{Bool, true, false, cond}
 use mathlib.Core.List.{List, [], _∷_}
@@ -16,10 +16,8 @@ use Rattle.memory.proofs.Plain.{mapOutcome, same-put, used-by, record-lists}
 use Rattle.memory.proofs.Views.{Fits}
 use Rattle.memory.proofs.Booked.{Booked, empty-booked, record-books, booked-view}
 use Rattle.faces.specs.Faces.{facesOf}
-use Rattle.turn.specs.Rays.{Scene}
-use Rattle.run.specs.Run.{Run}
 use Rattle.trace.specs.Trace.{Batch, raysOf, allSteps, startOf, sceneIn, runOn, checkTraceOf, traceAfter}
-use Rattle.book.specs.Calls.{Call, Wish, rays, hit, nothing, wishOf, grantedOf, memoryAfter, bare, withUsed, plainHit, bookTraced, bookRecorded, bookedOf, bookAfter, zeroView, Told}
+use Rattle.book.specs.Calls.{Call, Wish, rays, hit, nothing, wishOf, grantedOf, memoryAfter, bare, withUsed, plainHit, bookTraced, bookRecorded, bookedOf, bookAfter, Told}
 use Rattle.book.proofs.Drives.{Brought, drive-keeps}
 use Rattle.book.proofs.Sights.{brought-there}
 use Rattle.book.proofs.Checks.{Passes, passes}

@@ -1,7 +1,7 @@
 -- In a run no hit is refused by 9: every refusal by 9 comes before it. Assumes nothing.
 use Prim.Native.Nat.{ℕ, _<_}
 use mathlib.Core.Path.{_≡_, refl, ap, sym, subst, _∙_}
-use mathlib.Core.Bool.{true, false}
+use mathlib.Core.Bool.{true}
 use mathlib.Core.Logic.{_⊎_, inl, inr}
 use native.Mathlib.Omega.{arith}
 use Rattle.error.specs.Refusals.{Checked, passed, refusedAt}
@@ -10,13 +10,10 @@ use Rattle.memory.specs.declared.hits.DetectorHit.{DetectorHit}
 use Rattle.memory.specs.Memory.{Memory, Outcome, done, refused, leftOf, recordHit, holdsOf, isMemoryOf}
 use Rattle.memory.proofs.Booked.{holds-checked}
 use Rattle.faces.specs.Faces.{facesOf}
-use Rattle.turn.specs.declared.ActiveRay.{ActiveRay}
-use Rattle.turn.specs.Rays.{caught}
-use Rattle.turn.specs.Turn.{turnOf}
-use Rattle.run.specs.Run.{Run, drive}
+use Rattle.run.specs.Run.{Run}
 use Rattle.trace.specs.Trace.{Batch, raysOf, startOf, sceneIn, checkLengthsOf, checkTraceOf, runOn, traceAfter, traceRaysOf}
 use Rattle.life.proofs.Bred.{false-true}
-use Rattle.marks.specs.Refused.{StepRefused, RunRefused}
+use Rattle.marks.specs.Refused.{RunRefused}
 use Rattle.marks.proofs.Refused.{trace-refuses}
 use Rattle.marks.proofs.Only.{at-9}
 use Rattle.book.proofs.Drives.{Brought, drive-keeps}

@@ -1,7 +1,7 @@
 -- A run is refused at a place among its given rays. Assumes nothing.
 use Prim.Native.Nat.{ℕ, zero, suc, _-_, _≤_}
-use mathlib.Core.Path.{_≡_, refl, subst, sym, _∙_}
-use mathlib.Core.Bool.{Bool, true, false, cond, _&&_}
+use mathlib.Core.Path.{_≡_, subst, sym, _∙_}
+use mathlib.Core.Bool.{_&&_}
 use native.Mathlib.Omega.{arith}
 use lib.Dec.{leb, ltb}
 use Rattle.memory.specs.declared.hits.DetectorHit.{DetectorHit}
@@ -10,7 +10,6 @@ use Rattle.turn.specs.declared.ActiveRay.{ActiveRay}
 use Rattle.turn.specs.Rays.{Scene, End, dim, spent, gone, caught, stopped, parted, refusing}
 use Rattle.turn.specs.Turn.{turnOf}
 use Rattle.report.specs.declared.NonSeqTraceReport.{NonSeqTraceReport}
-use Rattle.report.specs.Report.{reportAfter}
 use Rattle.run.specs.declared.stack.Stack.{Stack}
 use Rattle.run.specs.declared.stack.Taken.{Taken}
 use Rattle.run.specs.declared.Progress.{Progress}

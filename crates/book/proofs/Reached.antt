@@ -1,20 +1,18 @@
 -- What calls leave of a memory: it with hits added, and so the same detectors but for totals and counts, slices as long, and no more used than they hold. Assumes nothing.
-use Prim.Native.Nat.{ℕ, zero, suc, _+_, _*_, _/_, _≤_, _<_}
-use mathlib.Core.Path.{_≡_, refl, ap, sym, subst, _∙_}
+use Prim.Native.Nat.{ℕ, zero, suc, _+_, _≤_, _<_}
+use mathlib.Core.Path.{_≡_, refl, ap, sym, _∙_}
 use mathlib.Core.Bool.{Bool, true, false}
 use mathlib.Core.List.{List, [], _∷_, _++_}
 use native.Mathlib.Omega.{arith}
-use lib.Dec.{leb}
 use lib.Ieee.{Float}
 use lib.ListN.{length}
 use borrow.Author.Tests.{leb-false}
-use Rattle.error.specs.Refusals.{Checked, after}
 use Rattle.detector.specs.declared.Detector2D.{Detector2D}
 use Rattle.detector.specs.Checks.{checkGridOf, checkDetectorOf}
 use Rattle.detector.specs.Faces.{faceOf}
-use Rattle.detectors.specs.Detectors.{detectorAt, firstPixelOf, allPixelsOf, checkFromOf, checkDetectorsOf}
+use Rattle.detectors.specs.Detectors.{detectorAt, allPixelsOf, checkFromOf, checkDetectorsOf}
 use Rattle.memory.specs.declared.hits.DetectorHit.{DetectorHit}
-use Rattle.memory.specs.Memory.{Memory, Outcome, done, refused, leftOf, raised, cellOf, capacityOf, judged, recordAt, recordHit, holdsOf, writtenAt}
+use Rattle.memory.specs.Memory.{Memory, Outcome, leftOf, raised, cellOf, capacityOf, judged, recordAt, recordHit, holdsOf, writtenAt}
 use Rattle.memory.specs.Plain.{added}
 use Rattle.memory.proofs.Keeps.{kept, first-kept, written-flux, written-hits, written-values, written-tags, added-keeps, added-capacity}
 use Rattle.memory.proofs.Plain.{added-snoc}

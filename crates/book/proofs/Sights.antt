@@ -15,13 +15,12 @@ use Rattle.media.specs.declared.Media.{Media}
 use Rattle.nearest.specs.Nearest.{IsNearest}
 use Rattle.nearest.proofs.Laws.{nearest-is}
 use Rattle.detector.specs.declared.face.Crossing.{Crossing}
-use Rattle.detector.specs.Faces.{crossingOf}
 use Rattle.memory.specs.declared.hits.DetectorHit.{DetectorHit}
 use Rattle.faces.specs.declared.Sight.{Sight}
-use Rattle.faces.specs.Faces.{noFace, sightDistance, sightFrom, sightsOf, shownOf, nearestDetectorOf}
+use Rattle.faces.specs.Faces.{sightDistance, sightFrom, sightsOf, shownOf, nearestDetectorOf}
 use Rattle.turn.specs.declared.ActiveRay.{ActiveRay}
 use Rattle.turn.specs.Rays.{Optics, Scene, Step, End, dim, spent, gone, caught, stopped, parted, refusing}
-use Rattle.turn.specs.Turn.{Met, detector, solid, nothing, partedOf, partedFrom, clearBetween, clearOf, mirrorFrom, mirrorOf, surfaceBy, surfaceOf, nearerOf, firstMetOf, meetsOf, interactOf, turnOf}
+use Rattle.turn.specs.Turn.{Met, detector, nothing, partedOf, partedFrom, clearBetween, clearOf, mirrorFrom, mirrorOf, surfaceBy, surfaceOf, nearerOf, firstMetOf, meetsOf, interactOf, turnOf}
 use Rattle.life.proofs.Bred.{pick, false-true}
 use Rattle.book.proofs.Drives.{Brought}
 

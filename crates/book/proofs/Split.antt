@@ -1,15 +1,12 @@
 -- Split batches: the parts of a batch, traced one by one, the last first, leave what the batch leaves. Assumes nothing.
-use Prim.Native.Nat.{ℕ, _+_, _≤_, _<_}
+use Prim.Native.Nat.{ℕ, _+_, _≤_}
 use mathlib.Core.Path.{_≡_, refl, ap, sym, subst, _∙_}
-use mathlib.Core.Bool.{false}
 use mathlib.Core.List.{List, [], _∷_}
-use native.Mathlib.Omega.{arith}
 use Rattle.error.specs.Refusals.{passed}
-use Rattle.memory.specs.declared.hits.DetectorHit.{DetectorHit}
 use Rattle.memory.specs.Memory.{Memory, Outcome, done, refused, leftOf, recordHit}
 use Rattle.faces.specs.declared.Faces.{Faces}
 use Rattle.faces.specs.Faces.{facesOf}
-use Rattle.turn.specs.Rays.{Scene, sceneOf}
+use Rattle.turn.specs.Rays.{sceneOf}
 use Rattle.run.specs.Stack.{emptyStack}
 use Rattle.run.specs.Run.{isLeft, drive}
 use Rattle.trace.specs.Trace.{Batch, raysOf, allSteps, startOf, sceneIn, runOn, checkTraceOf, traceRaysOf}

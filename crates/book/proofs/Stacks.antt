@@ -19,7 +19,7 @@ use Rattle.run.specs.declared.Progress.{Progress}
 use Rattle.run.specs.Stack.{noRay, takenOf, pushed, pushedIf, popped, afterOf}
 use Rattle.run.specs.Run.{isLeft}
 use Rattle.life.specs.Sums.{Full}
-use Rattle.life.proofs.Stacks.{full-popped, full-if, if-len, full-after, top-taken, given-taken, some-left, popped-len}
+use Rattle.life.proofs.Stacks.{full-popped, full-if, if-len, top-taken, given-taken, some-left}
 
 -- the same rays; what stands in the places above them may differ
 pub record Alike (s t : Stack) : Type 0 where

@@ -1,0 +1,4 @@
+-- What holds of the definitions.
+pub mod Writing
+pub mod Back
+pub mod Lines
