@@ -1,0 +1,16 @@
+-- `answer_text::detectors_text::count_of` meets its contract. Assumes nothing.
+use borrow.Author.Tests.{le-leb, lt-leb}
+use Rattle.answer_text.specs.Answer.{countOf}
+use Rattle.answer_text.proofs.detectors_text.count_of.Statement.{statement}
+use Rattle.answer_text.proofs.detectors_text.count_of.Tie as tie
+
+returns : tie.Need-returns
+unfolding countOf
+returns c = simp (le-leb _ _ (c .if1 .taken))
+
+returns-2 : tie.Need-returns-2
+unfolding countOf
+returns-2 c = simp (lt-leb _ _ (c .if1 .left))
+
+pub count-of-spec : {M : Type 1} → statement M
+count-of-spec = tie.close (tie.spec returns returns-2)

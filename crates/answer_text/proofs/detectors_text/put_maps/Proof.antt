@@ -1,0 +1,57 @@
+-- `answer_text::detectors_text::put_maps` meets its contract. Assumes nothing.
+use Prim.Native.Nat.{_-_, _≤_}
+use mathlib.Core.Path.{_≡_, refl, _∙_}
+use lib.ListN.{length}
+use borrow.Author.Needs.{needs}
+use Rattle.printing.specs.Printing.{putAll}
+use Rattle.answer_text.specs.Answer.{heldOf, mapText, eachFrom, countOf}
+use Rattle.answer_text.proofs.Texts.{each-start, each-turn, each-end}
+use Rattle.answer_text.proofs.detectors_text.put_maps.Statement.{statement}
+use Rattle.answer_text.proofs.detectors_text.put_maps.Tie as tie
+
+abbrev Inv-loop : tie.InvT-loop
+Inv-loop buf₀ at detectors filter flux values tags used n p₀ d₀ buf p d =
+    (d ≤ n) × (length buf ≡ length buf₀) × (putAll buf p (eachFrom (mapText (heldOf detectors flux values tags used) filter) (n - d) d) ≡ putAll buf₀ at (eachFrom (mapText (heldOf detectors flux values tags used) filter) (countOf (detectors .count)) 0))
+
+abbrev μ-loop : tie.MeasureT-loop
+μ-loop buf₀ at detectors filter flux values tags used n p₀ d₀ buf p d = n - d
+
+count-of-requires : tie.Need-count-of-requires Inv-loop μ-loop
+count-of-requires c κs = search needs
+
+loop-holds : tie.Need-loop-holds Inv-loop μ-loop
+loop-holds c = (search needs, refl, each-start _ _ _ _ _ (c .count-of .ensures))
+
+put-map-requires : tie.Need-put-map-requires Inv-loop μ-loop
+put-map-requires c κs = search needs
+
+add-d : tie.Need-add-d Inv-loop μ-loop
+add-d c = search needs
+
+loop-less : tie.Need-loop-less Inv-loop μ-loop
+loop-less c = search needs
+
+loop-again : tie.Need-loop-again Inv-loop μ-loop
+loop-again c =
+    (search needs, c .before .before .put-map .kept .0 ∙ c .before .before .before .before .before .loop .inv .1, each-turn _ _ _ _ _ _ _ (c .before .before .before .before .before .loop .d) (c .before .before .before .before .loop-test .taken) (c .before .before .put-map .ensures) (c .before .before .before .before .before .loop .inv .2))
+
+same-length : tie.Need-same-length Inv-loop μ-loop
+same-length c = search needs
+
+returns : tie.Need-returns Inv-loop μ-loop
+returns c = each-end _ _ _ _ _ _ (c .loop-test .left) (c .before .loop .inv .2)
+
+pub put-maps-spec : {M : Type 1} → statement M
+put-maps-spec =
+    tie.close
+    (tie.spec
+    Inv-loop
+    μ-loop
+    count-of-requires
+    loop-holds
+    put-map-requires
+    add-d
+    loop-less
+    loop-again
+    same-length
+    returns)

@@ -1,0 +1,45 @@
+-- `answer_text::maps::put_map` meets its contract. Assumes nothing.
+use mathlib.Core.Path.{sym}
+use native.Mathlib.Omega.{arith}
+use lib.Seq.{length-take-le}
+use Rattle.answer_text.proofs.Shown.{map-none, map-some}
+use borrow.Author.Needs.{needs}
+use Rattle.answer_text.proofs.maps.put_map.Statement.{statement}
+use Rattle.answer_text.proofs.maps.put_map.Tie as tie
+
+grid-at-requires : tie.Need-grid-at-requires
+grid-at-requires c κs = search needs
+
+array-borrow-prefix-work : tie.Need-array-borrow-prefix-work
+array-borrow-prefix-work c = search needs
+
+slice-aggregate-filtered-pixel-flux : tie.Need-slice-aggregate-filtered-pixel-flux
+slice-aggregate-filtered-pixel-flux c = sym (length-take-le _ _ (omega (arith, c .before .grid-at .ensures .1)))
+
+filtered-pixel-flux-requires : tie.Need-filtered-pixel-flux-requires
+filtered-pixel-flux-requires c κs = search needs
+
+returns : tie.Need-returns
+returns c = map-none _ _ _ _ (c .before .before .before .before .before .before .before .before .grid-at .ensures .0) _ _ (c .before .if1 .taken)
+
+put-pixels-requires : tie.Need-put-pixels-requires
+put-pixels-requires c κs = search needs
+
+same-length : tie.Need-same-length
+same-length c = search needs
+
+returns-2 : tie.Need-returns-2
+returns-2 c = map-some _ _ _ _ (c .before .before .before .before .before .before .before .before .before .before .before .before .grid-at .ensures .0) _ _ _ _ (c .before .before .before .before .before .if1 .left) (c .before .before .before .before .before .before .filtered-pixel-flux .ensures .0) (c .before .before .before .put-pixels .ensures)
+
+pub put-map-spec : {M : Type 1} → statement M
+put-map-spec =
+    tie.close
+    (tie.spec
+    grid-at-requires
+    array-borrow-prefix-work
+    slice-aggregate-filtered-pixel-flux
+    filtered-pixel-flux-requires
+    returns
+    put-pixels-requires
+    same-length
+    returns-2)

@@ -1,0 +1,50 @@
+-- `answer_text::put_ledger` meets its contract. Assumes nothing.
+use Rattle.answer_text.specs.Answer.{bytesOf, ledgerText}
+use borrow.Author.Needs.{needs}
+use Rattle.printing.proofs.Writing.{put-join}
+use Rattle.answer_text.proofs.put_ledger.Statement.{statement}
+use Rattle.answer_text.proofs.put_ledger.Tie as tie
+
+wide-requires : tie.Need-wide-requires
+wide-requires c κs = search needs
+
+wide-requires-2 : tie.Need-wide-requires-2
+wide-requires-2 c κs = search needs
+
+slice-aggregate-put-all : tie.Need-slice-aggregate-put-all
+slice-aggregate-put-all c = search needs
+
+put-all-requires : tie.Need-put-all-requires
+put-all-requires c κs = search needs
+
+slice-aggregate-put-row : tie.Need-slice-aggregate-put-row
+slice-aggregate-put-row c = search needs
+
+slice-aggregate-put-row-2 : tie.Need-slice-aggregate-put-row-2
+slice-aggregate-put-row-2 c = search needs
+
+put-row-requires : tie.Need-put-row-requires
+put-row-requires c κs = search needs
+
+same-length : tie.Need-same-length
+same-length c = search needs
+
+returns : tie.Need-returns
+unfolding bytesOf ledgerText
+returns c =
+    put-join _ _ _ _ _ _ _ (c .before .before .before .before .before .before .before .before .put-all .ensures)
+    (rw (c .before .before .before .before .before .before .before .before .before .before .before .before .wide .ensures, c .before .before .before .before .before .before .before .before .before .before .before .wide2 .ensures) at (c .before .before .put-row .ensures))
+
+pub put-ledger-spec : {M : Type 1} → statement M
+put-ledger-spec =
+    tie.close
+    (tie.spec
+    wide-requires
+    wide-requires-2
+    slice-aggregate-put-all
+    put-all-requires
+    slice-aggregate-put-row
+    slice-aggregate-put-row-2
+    put-row-requires
+    same-length
+    returns)

@@ -1,0 +1,27 @@
+-- `answer_text::put_maps` meets its contract. Assumes nothing.
+use borrow.Author.Needs.{needs}
+use Rattle.printing.proofs.Writing.{put-join}
+use Rattle.answer_text.specs.Answer.{bytesOf, mapsText}
+use Rattle.answer_text.proofs.put_maps.Statement.{statement}
+use Rattle.answer_text.proofs.put_maps.Tie as tie
+
+slice-aggregate-put-all : tie.Need-slice-aggregate-put-all
+slice-aggregate-put-all c = search needs
+
+put-all-requires : tie.Need-put-all-requires
+put-all-requires c κs = search needs
+
+put-maps-requires : tie.Need-put-maps-requires
+put-maps-requires c κs = search needs
+
+same-length : tie.Need-same-length
+same-length c = search needs
+
+returns : tie.Need-returns
+unfolding bytesOf mapsText
+returns c = put-join _ _ _ _ _ _ _ (c .before .before .before .before .before .before .put-all .ensures) (c .before .before .put-maps .ensures)
+
+pub put-maps-spec : {M : Type 1} → statement M
+put-maps-spec =
+    tie.close
+    (tie.spec slice-aggregate-put-all put-all-requires put-maps-requires same-length returns)

@@ -1,0 +1,63 @@
+// The lines of all detectors, and of all their pixels.
+use crate::maps;
+use detectors::Detectors;
+use filter::RayPathFilter;
+ghost use mathlib.Core.Path.{_≡_};
+ghost use Rattle.printing.specs.Printing.{out, putAll};
+ghost use Rattle.answer_text.specs.Answer.{heldOf, detectorText, mapText, eachFrom, countOf};
+
+// A count that is refused (3) is no count.
+fn count_of(count: u32) -> u32
+    ensures { λ r. ⌜ r ≡ countOf count ⌝ }
+{
+    if count <= Detectors::MAX {
+        return count;
+    }
+    0
+}
+
+pub(crate) fn put_detectors(
+    buf: &mut [u8],
+    at: usize,
+    detectors: Detectors,
+    filter: RayPathFilter,
+    flux: &[f64],
+    values: &[f64],
+    tags: &[u32],
+    used: usize,
+) -> usize
+    ensures { λ r. ⌜ out (now (buf .exit)) r ≡ putAll (now (buf .entry)) at
+        (eachFrom (detectorText (heldOf detectors (now (flux .entry)) (now (values .entry)) (now (tags .entry)) used) filter) (countOf (detectors .count)) 0) ⌝ }
+{
+    let n = count_of(detectors.count);
+    let mut p = at;
+    let mut d: u32 = 0;
+    while d < n {
+        p = maps::put_detector(buf, p, detectors, d, filter, flux, values, tags, used);
+        d += 1;
+    }
+    p
+}
+
+pub(crate) fn put_maps(
+    buf: &mut [u8],
+    at: usize,
+    detectors: Detectors,
+    filter: RayPathFilter,
+    flux: &[f64],
+    values: &[f64],
+    tags: &[u32],
+    used: usize,
+) -> usize
+    ensures { λ r. ⌜ out (now (buf .exit)) r ≡ putAll (now (buf .entry)) at
+        (eachFrom (mapText (heldOf detectors (now (flux .entry)) (now (values .entry)) (now (tags .entry)) used) filter) (countOf (detectors .count)) 0) ⌝ }
+{
+    let n = count_of(detectors.count);
+    let mut p = at;
+    let mut d: u32 = 0;
+    while d < n {
+        p = maps::put_map(buf, p, detectors, d, filter, flux, values, tags, used);
+        d += 1;
+    }
+    p
+}

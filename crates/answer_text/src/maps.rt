@@ -1,0 +1,160 @@
+// The lines of one detector: its hits and flux under a filter, and its pixels.
+use crate::pixels;
+use detector::DetectorNo;
+use detectors::Detectors;
+use detectors::Spot;
+use filter::RayPathFilter;
+use filtering::Filtered;
+ghost use mathlib.Core.Path.{_≡_};
+ghost use Prim.Native.Nat.{_≤_};
+ghost use Rattle.printing.specs.Printing.{out, putAll};
+ghost use Rattle.answer_text.specs.Answer.{heldOf, fewOf, gridOf, filteredBy, detectorText, mapText};
+
+// How many pixels a detector has, and how many columns.
+pub struct Grid {
+    pub pixels: usize,
+    pub columns: usize,
+}
+
+// As many as there is room for.
+fn few(n: usize) -> usize
+    ensures { λ r. ⌜ (r ≡ fewOf n) × (r ≤ 4096) ⌝ }
+{
+    if n <= 4096 {
+        return n;
+    }
+    4096
+}
+
+fn grid_at(detectors: Detectors, d: u32) -> Grid
+    ensures { λ r. ⌜ (r ≡ gridOf detectors d) × (r .pixels ≤ 4096) ⌝ }
+{
+    match detectors.at(DetectorNo(d)) {
+        Spot::There(p) => {
+            let e = p.detector;
+            Grid {
+                pixels: few(e.pixels()),
+                columns: e.res_x as usize,
+            }
+        }
+        Spot::Nowhere => Grid {
+            pixels: 0,
+            columns: 0,
+        },
+    }
+}
+
+// Total and count of a detector's hits under a filter.
+fn shown(
+    detectors: Detectors,
+    d: u32,
+    filter: RayPathFilter,
+    flux: &[f64],
+    values: &[f64],
+    tags: &[u32],
+    used: usize,
+) -> Filtered
+    ensures { λ r. ⌜ (r .«total_flux_watts» ≡ filteredBy (heldOf detectors (now (flux .entry)) (now (values .entry)) (now (tags .entry)) used) filter d .total)
+        × (r .«hit_count» ≡ filteredBy (heldOf detectors (now (flux .entry)) (now (values .entry)) (now (tags .entry)) used) filter d .count) ⌝ }
+{
+    let g = grid_at(detectors, d);
+    let n = g.pixels;
+    let mut work = [0.0f64; 4096];
+    filtering::refilter(
+        detectors,
+        DetectorNo(d),
+        filter,
+        flux,
+        &mut work[..n],
+        values,
+        tags,
+        used,
+    )
+}
+
+// A detector's line.
+pub(crate) fn put_detector(
+    buf: &mut [u8],
+    at: usize,
+    detectors: Detectors,
+    d: u32,
+    filter: RayPathFilter,
+    flux: &[f64],
+    values: &[f64],
+    tags: &[u32],
+    used: usize,
+) -> usize
+    ensures { λ r. ⌜ out (now (buf .exit)) r ≡ putAll (now (buf .entry)) at
+        (detectorText (heldOf detectors (now (flux .entry)) (now (values .entry)) (now (tags .entry)) used) filter d) ⌝ }
+{
+    let a = shown(detectors, d, filter, flux, values, tags, used);
+    let s = shown(
+        detectors,
+        d,
+        RayPathFilter::SignalOnly,
+        flux,
+        values,
+        tags,
+        used,
+    );
+    let t = shown(
+        detectors,
+        d,
+        RayPathFilter::StrayLight,
+        flux,
+        values,
+        tags,
+        used,
+    );
+    let wholes = [
+        d as u64,
+        a.hit_count as u64,
+        s.hit_count as u64,
+        t.hit_count as u64,
+    ];
+    let powers = [a.total_flux_watts];
+    printing::put_row(buf, at, &wholes, &powers)
+}
+
+// The lines of its pixels.
+pub(crate) fn put_map(
+    buf: &mut [u8],
+    at: usize,
+    detectors: Detectors,
+    d: u32,
+    filter: RayPathFilter,
+    flux: &[f64],
+    values: &[f64],
+    tags: &[u32],
+    used: usize,
+) -> usize
+    ensures { λ r. ⌜ out (now (buf .exit)) r ≡ putAll (now (buf .entry)) at
+        (mapText (heldOf detectors (now (flux .entry)) (now (values .entry)) (now (tags .entry)) used) filter d) ⌝ }
+{
+    let g = grid_at(detectors, d);
+    let n = g.pixels;
+    let w = g.columns;
+    let mut work = [0.0f64; 4096];
+    let mut refusal: u32 = 0;
+    let mut place: u32 = 0;
+    let mut total: f64 = 0.0;
+    let mut count: usize = 0;
+    let map = filtering::filtered_pixel_flux(
+        detectors,
+        DetectorNo(d),
+        filter,
+        flux,
+        &mut work[..n],
+        values,
+        tags,
+        used,
+        &mut refusal,
+        &mut place,
+        &mut total,
+        &mut count,
+    );
+    if w == 0 {
+        return at;
+    }
+    pixels::put_pixels(buf, at, d as u64, w, map)
+}
