@@ -6,6 +6,7 @@ mod pixels;
 
 use detectors::Detectors;
 use filter::RayPathFilter;
+pub use maps::few;
 use report::NonSeqTraceReport;
 use report::Tallies;
 ghost use mathlib.Core.Path.{_≡_};

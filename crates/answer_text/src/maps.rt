@@ -16,8 +16,8 @@ pub struct Grid {
     pub columns: usize,
 }
 
-// As many as there is room for.
-fn few(n: usize) -> usize
+// As many pixels as there is room for.
+pub fn few(n: usize) -> usize
     ensures { λ r. ⌜ (r ≡ fewOf n) × (r ≤ 4096) ⌝ }
 {
     if n <= 4096 {

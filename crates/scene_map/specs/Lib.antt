@@ -1,0 +1,2 @@
+-- Document 01, "`straymap`": a scene's tables of numbers, traced and answered.
+pub mod Tables
