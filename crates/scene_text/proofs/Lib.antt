@@ -1,0 +1,6 @@
+pub mod Filling
+pub mod Joined
+pub mod Alike
+pub mod Walking
+pub mod Standing
+pub mod Gathering
