@@ -180,7 +180,7 @@ module _ (s : List ℕ) (m : Slices) where
   unfolding sceneOf
   scene-long c i j k h e = rw (lt-ltb _ _ h, e .0, e .1, e .2, e .3)
 
-  scene-short : length s ≤ 65536 → sceneOf s m ≡ answerOf (tallyOf (contentsOf s)) (filledWith (contentsOf s) m) m
+  pub scene-short : length s ≤ 65536 → sceneOf s m ≡ answerOf (tallyOf (contentsOf s)) (filledWith (contentsOf s) m) m
   unfolding sceneOf
   scene-short h = rw (le-ltb _ _ h)
 

@@ -4,3 +4,4 @@ pub mod Alike
 pub mod Walking
 pub mod Standing
 pub mod Gathering
+pub mod Example

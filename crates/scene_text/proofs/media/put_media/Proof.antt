@@ -1,4 +1,5 @@
 -- `scene_text::media::put_media` meets its contract. Assumes nothing.
+use native.Mathlib.Omega.{arith}
 use borrow.Author.Needs.{needs}
 use mathlib.Core.Path.{_≡_, refl, _∙_}
 use Prim.Native.Nat.{_+_, _-_, _≤_}
@@ -33,13 +34,13 @@ loop-less : tie.Need-loop-less Inv-loop μ-loop
 loop-less c = search needs
 
 loop-again : tie.Need-loop-again Inv-loop μ-loop
-loop-again c = (c .before .before .before .before .next-medium .ensures .1, c .before .before .put-u32 .kept .0 ∙ c .before .before .before .before .before .before .loop .inv .1, media-turn _ (c .before .before .before .before .before .before .loop .at) _ _ (c .before .before .before .before .before .before .loop .j) _ _ _ _ _ (c .before .before .before .before .before .loop-test .taken) (c .before .before .before .before .next-medium .ensures .0) (c .before .before .put-u32 .ensures) (c .before .before .before .before .before .before .loop .inv .2))
+loop-again c = (c .before .before .before .before .next-medium .ensures .1, c .before .before .put-u32 .kept .0 ∙ c .before .before .before .before .before .before .loop .inv .1, media-turn _ (c .before .before .before .before .before .before .loop .at) _ _ (c .before .before .before .before .before .before .loop .j) _ _ _ _ _ (omega (arith, c .before .before .before .before .before .loop-test .taken)) (c .before .before .before .before .next-medium .ensures .0) (c .before .before .put-u32 .ensures) (c .before .before .before .before .before .before .loop .inv .2))
 
 same-length : tie.Need-same-length Inv-loop μ-loop
 same-length c = search needs
 
 returns : tie.Need-returns Inv-loop μ-loop
-returns c = media-end _ (c .before .loop .at) (c .before .loop .j) _ _ _ (c .loop-test .left) (c .before .loop .inv .2)
+returns c = media-end _ (c .before .loop .at) (c .before .loop .j) _ _ _ (omega (arith, c .loop-test .left)) (c .before .loop .inv .2)
 
 pub put-media-spec : {M : Type 1} → statement M
 put-media-spec =

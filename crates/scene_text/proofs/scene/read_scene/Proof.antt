@@ -47,7 +47,7 @@ same-length-8 c = search needs
 returns-2 : tie.Need-returns-2
 returns-2 c =
     let a = c .before .before .before .before .before .before .before .before .before .before .before .before .before .before .before .before .before .before .before .before .before .before .before .before .before .before .before .before .before .before .before .before .before .before .before .before .before .args in
-    scene-filled _ (slices (a .run .now) (a .runs .now) (a .solids .now) (a .tags .now) (a .detectors .now) (a .sizes .now) (a .rays .now) (a .marks .now)) _ _ _ _ _ _ (c .before .before .before .before .before .before .before .before .before .before .before .before .before .before .before .before .before .before .before .before .before .before .before .before .before .before .before .if1 .left) (c .before .before .before .before .before .before .before .before .before .before .before .before .before .before .before .before .before .before .before .before .before .before .before .before .before .before .check-text .ensures) (c .before .before .before .before .before .before .before .before .before .before .before .before .before .before .before .before .before .before .before .before .before .before .before .before .before .if2 .taken) (c .before .before .before .before .before .before .before .before .before .before .before .before .before .before .before .before .read-blocks .ensures .1)
+    scene-filled _ (slices (a .run .now) (a .runs .now) (a .solids .now) (a .tags .now) (a .detectors .now) (a .sizes .now) (a .rays .now) (a .marks .now)) _ _ _ _ _ _ (c .before .before .before .before .before .before .before .before .before .before .before .before .before .before .before .before .before .before .before .before .before .before .before .before .before .before .before .if1 .left) (c .before .before .before .before .before .before .before .before .before .before .before .before .before .before .before .before .before .before .before .before .before .before .before .before .before .before .check-text .ensures) (search needs) (c .before .before .before .before .before .before .before .before .before .before .before .before .before .before .before .before .read-blocks .ensures .1)
 
 refused-requires-2 : tie.Need-refused-requires-2
 refused-requires-2 c κs = search needs
@@ -55,7 +55,7 @@ refused-requires-2 c κs = search needs
 returns-3 : tie.Need-returns-3
 returns-3 c =
     let a = c .before .before .before .before .before .before .before .before .before .before .before .before .before .args in
-    scene-refused _ (slices (a .run .now) (a .runs .now) (a .solids .now) (a .tags .now) (a .detectors .now) (a .sizes .now) (a .rays .now) (a .marks .now)) _ _ _ _ _ _ _ _ _ (c .before .before .before .if1 .left) (c .before .before .check-text .ensures) (c .before .if2 .left) (c .refused2 .ensures)
+    scene-refused _ (slices (a .run .now) (a .runs .now) (a .solids .now) (a .tags .now) (a .detectors .now) (a .sizes .now) (a .rays .now) (a .marks .now)) _ _ _ _ _ _ _ _ _ (c .before .before .before .if1 .left) (c .before .before .check-text .ensures) (search needs) (c .refused2 .ensures)
 
 pub read-scene-spec : {M : Type 1} → statement M
 read-scene-spec =
