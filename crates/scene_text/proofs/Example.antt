@@ -1,0 +1,78 @@
+-- Document 01's scene, read; an empty text; a text that is cut before its last LF.
+use Prim.Native.Nat.{ℕ, _≤_}
+use Prim.Native.String.{String}
+use mathlib.Core.Path.{_≡_, refl, ap, _∙_}
+use mathlib.Core.List.{List, [], _∷_, _++_}
+use mathlib.Core.Bool.{Bool, true, false}
+use lib.Ieee.{Float, binary64, ofBits}
+use lib.ListN.{length, replicate}
+use borrow.Author.Tests.{ltb-false}
+use Rattle.fields.specs.Split.{before, later, split, isByteOf}
+use Rattle.fields.specs.Number.{digitOf, isHex, hexPad, bitsOf, isDecimal, decimalFrom, ledBy, wholeOf}
+use Rattle.scene_text.specs.Names.{bytesOf, ended, runNames, runForm, solidNames, solidForm, detectorNames, detectorForm, rayNames, rayForm}
+use Rattle.scene_text.specs.Cells.{values, joined, doubleCell, wholeCell, below, filterOf, numberAs, mediaParts, oneMore, isNumber, countFrom, numberOr0, mediaFrom, mediaCell, mediaOf, cellOf}
+use Rattle.scene_text.specs.Lines.{isNil, has, behind, lineOf}
+use Rattle.scene_text.specs.Blocks.{sameOf, lineThen, oneLine, endsWell, linesTo, namesAt}
+use Rattle.scene_text.specs.Scene.{runOf, contentsOf, Tally, tally, tallyOf, Slices, filledWith, refused, answerOf, sceneOf}
+use Rattle.scene_text.proofs.Gathering.{scene-short}
+
+abbrev #0 : Float
+#0 = ofBits binary64 0
+
+abbrev #1 : Float
+#1 = ofBits binary64 0x3ff0000000000000
+
+abbrev #4 : Float
+#4 = ofBits binary64 0x4010000000000000
+
+abbrev line : String → List ℕ
+line s = ended (bytesOf s)
+
+-- up to the last ray's line
+abbrev start : List ℕ
+start =
+    line "threshold bounces filter ambient a b c d e f"
+    ++ (line "0 4 - 0 0 0 0 0 0 0"
+    ++ (line "shape p q r active finish rho medium a b c d e f m w"
+    ++ (line "cx cy cz nx ny nz ux uy uz width height resx resy"
+    ++ (line "0 0 4024 0 0 3ff 0 3ff 0 401 401 2 2"
+    ++ line "ox oy oz dx dy dz nm power bounce media"))))
+
+abbrev scene : List ℕ
+scene = start ++ line "3ff 3ff 0 0 0 3ff 40813 3ff 0 -"
+
+pub run-line : lineOf runForm (line "0 4 - 0 0 0 0 0 0 0") ≡ values true (#0 ∷ #0 ∷ #0 ∷ #0 ∷ #0 ∷ #0 ∷ #0 ∷ []) (4 ∷ 5 ∷ 0 ∷ [])
+unfolding lineOf runForm bytesOf ended has behind before isNil joined cellOf doubleCell wholeCell numberAs filterOf below isByteOf bitsOf isHex hexPad digitOf wholeOf ledBy isDecimal decimalFrom
+run-line = refl
+
+pub counted : tallyOf (contentsOf scene) ≡ tally true 8 0 1 1
+unfolding tallyOf contentsOf runOf namesAt linesTo oneLine lineThen endsWell sameOf split before later lineOf runNames runForm solidNames solidForm detectorNames detectorForm rayNames rayForm bytesOf ended has behind isNil joined cellOf doubleCell wholeCell numberAs filterOf below isByteOf bitsOf isHex hexPad digitOf wholeOf ledBy isDecimal decimalFrom mediaOf mediaParts mediaCell countFrom mediaFrom
+counted = refl
+
+pub detector-read : contentsOf scene .detectors .read ≡ values true (#0 ∷ #0 ∷ ofBits binary64 0x4024000000000000 ∷ #0 ∷ #0 ∷ #1 ∷ #0 ∷ #1 ∷ #0 ∷ #4 ∷ #4 ∷ []) (2 ∷ 2 ∷ [])
+unfolding contentsOf runOf namesAt linesTo oneLine lineThen endsWell sameOf split before later lineOf runNames runForm solidNames solidForm detectorNames detectorForm rayNames rayForm bytesOf ended has behind isNil joined cellOf doubleCell wholeCell numberAs filterOf below isByteOf bitsOf isHex hexPad digitOf wholeOf ledBy isDecimal decimalFrom mediaOf mediaParts mediaCell countFrom mediaFrom
+detector-read = refl
+
+pub ray-read : contentsOf scene .rays .read ≡ values true (#1 ∷ #1 ∷ #0 ∷ #0 ∷ #0 ∷ #1 ∷ ofBits binary64 0x4081300000000000 ∷ #1 ∷ []) (replicate 10 0)
+unfolding contentsOf runOf namesAt linesTo oneLine lineThen endsWell sameOf split before later lineOf runNames runForm solidNames solidForm detectorNames detectorForm rayNames rayForm bytesOf ended has behind isNil joined cellOf doubleCell wholeCell numberAs filterOf below isByteOf bitsOf isHex hexPad digitOf wholeOf ledBy isDecimal decimalFrom mediaOf mediaParts mediaCell countFrom mediaFrom
+ray-read = refl
+
+pub empty-text : (m : Slices) → sceneOf [] m ≡ refused 1 m
+unfolding sceneOf answerOf tallyOf contentsOf runOf namesAt linesTo oneLine endsWell split before later isNil runNames bytesOf ended
+empty-text m = refl
+
+abbrev cut : List ℕ
+cut = start ++ bytesOf "3ff 3ff 0 0 0 3ff 40813 3ff 0 -"
+
+cut-counted : tallyOf (contentsOf cut) ≡ tally false 7 0 1 0
+unfolding tallyOf contentsOf runOf namesAt linesTo oneLine lineThen endsWell sameOf split before later lineOf runNames runForm solidNames solidForm detectorNames detectorForm rayNames rayForm bytesOf ended has behind isNil joined cellOf doubleCell wholeCell numberAs filterOf below isByteOf bitsOf isHex hexPad digitOf wholeOf ledBy isDecimal decimalFrom mediaOf mediaParts mediaCell countFrom mediaFrom
+cut-counted = refl
+
+cut-short : length cut ≤ 65536
+unfolding bytesOf ended
+cut-short = ltb-false 65536 (length cut) refl
+
+-- the ray's line is the seventh
+pub cut-text : (m : Slices) → sceneOf cut m ≡ refused 7 m
+unfolding answerOf
+cut-text m = scene-short cut m cut-short ∙ ap (λ (t : Tally). answerOf t (filledWith (contentsOf cut) m) m) cut-counted

@@ -1,0 +1,57 @@
+-- `scene_text::rows::next_cell` meets its contract. Assumes nothing.
+use native.Mathlib.Omega.{arith}
+use Rattle.fields.proofs.Parts.{end-in}
+use Rattle.scene_text.proofs.Walking.{cell-turn, cell-none, cell-past}
+use borrow.Author.Tests.{lt-ltb, le-ltb}
+use borrow.Author.Needs.{needs}
+use Rattle.scene_text.proofs.rows.next_cell.Statement.{statement}
+use Rattle.scene_text.proofs.rows.next_cell.Tie as tie
+
+end-of-requires : tie.Need-end-of-requires
+end-of-requires c κs = search needs
+
+sub-read-cell : tie.Need-sub-read-cell
+sub-read-cell c = end-in _ _ _ _ (c .before .end-of .ensures) (search needs) .0
+
+part-read-cell-start : tie.Need-part-read-cell-start
+part-read-cell-start c = let h = end-in _ _ _ _ (c .before .end-of .ensures) (search needs) in search needs
+
+part-read-cell-end : tie.Need-part-read-cell-end
+part-read-cell-end c = search needs
+
+read-cell-requires : tie.Need-read-cell-requires
+read-cell-requires c κs = search needs
+
+add-t14 : tie.Need-add-t14
+add-t14 c = search needs
+
+same-length : tie.Need-same-length
+same-length c = search needs
+
+same-length-2 : tie.Need-same-length-2
+same-length-2 c = search needs
+
+returns : tie.Need-returns
+returns c = ((λ form. cell-turn _ _ _ _ (c .before .before .before .before .before .before .before .before .before .end-of .ensures) (search needs) _ _ _ _ _ _ _ form (c .before .before .before .before .before .before .before .before .if2 .taken) (c .before .before .before .before .before .before .before .before .before .before .if1 .taken) (c .before .before .before .before .read-cell .ensures)), search needs)
+
+returns-2 : tie.Need-returns-2
+returns-2 c = ((λ form. cell-none _ _ _ _ (c .before .end-of .ensures) (search needs) _ _ _ _ _ _ form (c .if2 .left) (c .before .before .if1 .taken)), search needs)
+
+returns-3 : tie.Need-returns-3
+returns-3 c = ((λ form. cell-past _ _ _ _ _ form (c .if1 .left)), search needs)
+
+pub next-cell-spec : {M : Type 1} → statement M
+next-cell-spec =
+    tie.close
+    (tie.spec
+    end-of-requires
+    sub-read-cell
+    part-read-cell-start
+    part-read-cell-end
+    read-cell-requires
+    add-t14
+    same-length
+    same-length-2
+    returns
+    returns-2
+    returns-3)

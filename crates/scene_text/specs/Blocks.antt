@@ -1,0 +1,88 @@
+-- The lines of a text, one after the other.
+use Prim.Native.Nat.{ℕ, suc, _+_}
+use mathlib.Core.List.{List, [], _∷_}
+use mathlib.Core.Bool.{Bool, true, false, cond}
+use lib.Dec.{eqb}
+use lib.ListN.{length, drop}
+use Rattle.fields.specs.Split.{split}
+use Rattle.scene_text.specs.Names.{ended}
+use Rattle.scene_text.specs.Cells.{Values, noValues, badValues, joined}
+use Rattle.scene_text.specs.Lines.{isNil, lineOf}
+use Rattle.scene_text.specs.Tables.{Table, put}
+
+unfoldable pub sameOf : List ℕ → List ℕ → Bool
+sameOf [] [] = true
+sameOf [] (y ∷ b) = false
+sameOf (x ∷ a) [] = false
+sameOf (x ∷ a) (y ∷ b) = cond (eqb x y) (sameOf a b) false
+
+-- What a block of lines is: whether all are well formed, the number of the line to come or else of the first bad or missing one,
+-- how many lines of values there are, what they hold, and the lines behind the block
+pub record Block : Type 0 where
+  pub ok : Bool
+  pub line : ℕ
+  pub rows : ℕ
+  pub read : Values
+  pub rest : List (List ℕ)
+
+abbrev pub block : Bool → ℕ → ℕ → Values → List (List ℕ) → Block
+block b n k v ls = record { ok = b; line = n; rows = k; read = v; rest = ls }
+
+-- a block that is over, with line n to come
+abbrev pub over : ℕ → List (List ℕ) → Block
+over n ls = block true n 0 noValues ls
+
+-- line n is bad or missing
+abbrev pub stopped : ℕ → Block
+stopped n = block false n 0 badValues []
+
+-- line n holds v, and then comes b
+unfoldable pub lineThen : Values → ℕ → Block → Block
+lineThen v n b = cond (v .ok) (block (b .ok) (b .line) (suc (b .rows)) (joined v (b .read)) (b .rest)) (block false n 0 v [])
+
+-- In all that follows the lines are a text's parts between its LFs. What follows the last LF is the last part, and no line.
+
+-- line n, the first of these, has this form
+unfoldable pub oneLine : List ℕ → List (List ℕ) → ℕ → Block
+oneLine form [] n = stopped n
+oneLine form (l ∷ ls) n = cond (isNil ls) (stopped n) (lineThen (lineOf form (ended l)) n (over (n + 1) ls))
+
+-- whether a text may end with so many bytes behind its last LF, before this line of names: with none, and if there are no names to come
+unfoldable pub endsWell : ℕ → List ℕ → Bool
+endsWell bytes names = cond (eqb bytes 0) (eqb (length names) 0) false
+
+-- any number of lines of this form, up to the next block's line of names; up to the text's end if there are no names
+unfoldable pub linesTo : List ℕ → List ℕ → List (List ℕ) → ℕ → Block
+linesTo names form [] n = stopped n
+linesTo names form (l ∷ ls) n =
+    cond (isNil ls) (cond (endsWell (length l) names) (over n (l ∷ ls)) (stopped n))
+    (cond (sameOf (ended l) names) (over (n + 1) ls)
+    (lineThen (lineOf form (ended l)) n (linesTo names form ls (n + 1))))
+
+-- line n is this line of names: no line has the empty form
+unfoldable pub namesAt : List ℕ → List (List ℕ) → ℕ → Block
+namesAt names ls n = linesTo names [] ls n
+
+-- ---- the same with the slices that the values go to
+
+pub record Reading : Type 0 where
+  pub ok : Bool
+  pub line : ℕ
+  pub rows : ℕ
+  pub read : Table
+  pub rest : List (List ℕ)
+
+abbrev pub reading : Bool → ℕ → ℕ → Table → List (List ℕ) → Reading
+reading b n k t ls = record { ok = b; line = n; rows = k; read = t; rest = ls }
+
+-- b behind k lines
+unfoldable pub onto : ℕ → Table → Block → Reading
+onto k t b = reading (b .ok) (b .line) (k + b .rows) (put (b .read) t) (b .rest)
+
+-- the lines from place at of the text on, if all before are well formed
+unfoldable pub restAt : Bool → List ℕ → ℕ → List (List ℕ)
+restAt b s at = cond b (split 10 (drop at s)) []
+
+-- what a block comes to, from where its reading stands: whether it goes on, whether it is well formed if not, the place and number of the next line
+unfoldable pub comesTo : List ℕ → List ℕ → List ℕ → Bool → Bool → ℕ → ℕ → ℕ → Table → Reading
+comesTo s names form more ok at n k t = cond more (onto k t (linesTo names form (split 10 (drop at s)) n)) (reading ok n k t (restAt ok s at))

@@ -1,0 +1,101 @@
+-- The scene text, and what reading it answers and leaves in the lent slices.
+use Prim.Native.Nat.{ℕ}
+use mathlib.Core.List.{List, []}
+use mathlib.Core.Bool.{Bool, true, false, cond}
+use lib.Dec.{ltb}
+use lib.ListN.{length}
+use lib.Ieee.{Float}
+use Rattle.error.specs.Refusals.{Checked, passed, refusedAt}
+use Rattle.fields.specs.Split.{split}
+use Rattle.scene_text.specs.Names.{runNames, runForm, solidNames, solidForm, detectorNames, detectorForm, rayNames, rayForm}
+use Rattle.scene_text.specs.Cells.{Values}
+use Rattle.scene_text.specs.Tables.{Filled, putAll}
+use Rattle.scene_text.specs.Blocks.{Block, namesAt, oneLine, linesTo}
+
+-- The four blocks. The last one is well formed if all are; its line is the first bad or missing one else.
+pub record Contents : Type 0 where
+  pub run : Block
+  pub solids : Block
+  pub detectors : Block
+  pub rays : Block
+
+abbrev pub contents : Block → Block → Block → Block → Contents
+contents a b c d = record { run = a; solids = b; detectors = c; rays = d }
+
+-- the line of names and the one line of the run
+unfoldable pub runOf : List (List ℕ) → Block
+runOf ls = let a = namesAt runNames ls 1 in oneLine runForm (a .rest) (a .line)
+
+-- one block after the other: where one is not well formed there are no lines for the next, which stops at the same number
+unfoldable pub contentsOf : List ℕ → Contents
+contentsOf s =
+    let b = runOf (split 10 s) in
+    let c = namesAt solidNames (b .rest) (b .line) in
+    let d = linesTo detectorNames solidForm (c .rest) (c .line) in
+    let e = linesTo rayNames detectorForm (d .rest) (d .line) in
+    let f = linesTo [] rayForm (e .rest) (e .line) in
+    contents b d e f
+
+-- whether a text is well formed, its first bad or missing line, and how many lines each block has
+pub record Tally : Type 0 where
+  pub ok : Bool
+  pub line : ℕ
+  pub solids : ℕ
+  pub detectors : ℕ
+  pub rays : ℕ
+
+abbrev pub tally : Bool → ℕ → ℕ → ℕ → ℕ → Tally
+tally b n i j k = record { ok = b; line = n; solids = i; detectors = j; rays = k }
+
+unfoldable pub tallyOf : Contents → Tally
+tallyOf c = tally (c .rays .ok) (c .rays .line) (c .solids .rows) (c .detectors .rows) (c .rays .rows)
+
+-- the lent slices: doubles and whole numbers of the run, the solids, the detectors, the rays
+pub record Slices : Type 0 where
+  pub run : List Float
+  pub runs : List ℕ
+  pub solids : List Float
+  pub tags : List ℕ
+  pub detectors : List Float
+  pub sizes : List ℕ
+  pub rays : List Float
+  pub marks : List ℕ
+
+abbrev pub slices : List Float → List ℕ → List Float → List ℕ → List Float → List ℕ → List Float → List ℕ → Slices
+slices a b c d e f g h = record { run = a; runs = b; solids = c; tags = d; detectors = e; sizes = f; rays = g; marks = h }
+
+abbrev pub doublesIn : List Float → Block → List Float
+doublesIn l b = putAll l 0 (b .read .doubles) .list
+
+abbrev pub wholesIn : List ℕ → Block → List ℕ
+wholesIn l b = putAll l 0 (b .read .wholes) .list
+
+unfoldable pub filledWith : Contents → Slices → Slices
+filledWith c m =
+    slices (doublesIn (m .run) (c .run)) (wholesIn (m .runs) (c .run))
+    (doublesIn (m .solids) (c .solids)) (wholesIn (m .tags) (c .solids))
+    (doublesIn (m .detectors) (c .detectors)) (wholesIn (m .sizes) (c .detectors))
+    (doublesIn (m .rays) (c .rays)) (wholesIn (m .marks) (c .rays))
+
+pub record Answer : Type 0 where
+  pub check : Checked Unit
+  pub solids : ℕ
+  pub detectors : ℕ
+  pub rays : ℕ
+  pub left : Slices
+
+abbrev pub answer : Checked Unit → ℕ → ℕ → ℕ → Slices → Answer
+answer c i j k m = record { check = c; solids = i; detectors = j; rays = k; left = m }
+
+-- 17 with the line's number; the slices are as they were
+abbrev pub refused : ℕ → Slices → Answer
+refused n m = answer (refusedAt 17 n) 0 0 0 m
+
+unfoldable pub answerOf : Tally → Slices → Slices → Answer
+answerOf t new old = cond (t .ok) (answer (passed tt) (t .solids) (t .detectors) (t .rays) new) (refused (t .line) old)
+
+-- a text of at most 65,536 bytes
+unfoldable pub sceneOf : List ℕ → Slices → Answer
+sceneOf s m =
+    cond (ltb 65536 (length s)) (refused 0 m)
+    (let c = contentsOf s in answerOf (tallyOf c) (filledWith c m) m)

@@ -1,0 +1,193 @@
+// The scene: four blocks, read once to see that all is well formed and once more to fill the slices.
+use crate::blocks::Found;
+use crate::blocks::read_lines;
+use crate::blocks::read_names;
+use crate::blocks::read_one;
+use error::Check;
+use error::NonSeqError;
+ghost use mathlib.Core.Path.{_≡_};
+ghost use mathlib.Core.Bool.{true};
+ghost use Prim.Native.Nat.{_+_, _≤_};
+ghost use lib.ListN.{length};
+ghost use Rattle.error.specs.Refusals.{checkOf, refusedAt};
+ghost use Rattle.fields.specs.Split.{split};
+ghost use Rattle.scene_text.specs.Names.{solidNames, solidForm, detectorNames, detectorForm, rayNames};
+ghost use Rattle.scene_text.specs.Tables.{table};
+ghost use Rattle.scene_text.specs.Blocks.{namesAt, restAt, linesTo, onto, reading};
+ghost use Rattle.scene_text.specs.Scene.{runOf, contentsOf, tally, tallyOf, slices, doublesIn, wholesIn, filledWith, answer, sceneOf};
+
+// What reading a scene text answers: whether it was refused, and how many lines of values the blocks have.
+pub struct SceneText {
+    pub check: Check,
+    pub solids: u32,
+    pub detectors: u32,
+    pub rays: u32,
+}
+
+// Whether a text is well formed, else its first bad or missing line, and how many lines of values the blocks have.
+pub struct Tallied {
+    pub ok: bool,
+    pub line: u32,
+    pub solids: u32,
+    pub detectors: u32,
+    pub rays: u32,
+}
+
+// The run's block and the line of names behind it.
+fn read_run(s: &[u8], run: &mut [f64], runs: &mut [u32]) -> Found
+    requires { ⌜ length (now s) ≤ 65536 ⌝ }
+    ensures { λ r. ⌜ (let b = runOf (split 10 (now (s .entry))) in let c = namesAt solidNames (b .rest) (b .line) in
+        (now (run .exit) ≡ doublesIn (now (run .entry)) b) × (now (runs .exit) ≡ wholesIn (now (runs .entry)) b)
+        × (r .ok ≡ c .ok) × (r .line ≡ c .line) × (restAt (r .ok) (now (s .entry)) (r .at) ≡ c .rest)) ⌝ }
+    ensures { λ r. ⌜ (r .at ≤ length (now (s .entry))) × (r .line ≤ r .at + 1) ⌝ }
+{
+    let start = Found {
+        more: true,
+        ok: true,
+        at: 0,
+        line: 1,
+        rows: 0,
+        nd: 0,
+        nw: 0,
+    };
+    let a = read_names(s, start, b"threshold bounces filter ambient a b c d e f\n");
+    let b = read_one(s, a, b"d n f 4 d d d d d d\n", run, runs);
+    read_names(
+        s,
+        b,
+        b"shape p q r active finish rho medium a b c d e f m w\n",
+    )
+}
+
+fn read_solids(s: &[u8], from: Found, d: &mut [f64], w: &mut [u32]) -> Found
+    requires { ⌜ (length (now s) ≤ 65536) × (from .at ≤ length (now s)) × (from .line ≤ from .at + 1) ⌝ }
+    ensures { λ r. ⌜ reading (r .ok) (r .line) (r .rows) (table (r .ok) (now (d .exit)) (r .nd) (now (w .exit)) (r .nw)) (restAt (r .ok) (now (s .entry)) (r .at))
+        ≡ onto 0 (table true (now (d .entry)) 0 (now (w .entry)) 0) (linesTo detectorNames solidForm (restAt (from .ok) (now (s .entry)) (from .at)) (from .line)) ⌝ }
+    ensures { λ r. ⌜ (r .at ≤ length (now (s .entry))) × (r .line ≤ r .at + 1) ⌝ }
+{
+    read_lines(
+        s,
+        from,
+        b"cx cy cz nx ny nz ux uy uz width height resx resy\n",
+        b"5 d d d 2 3 d 4 d d d d d d d,d,d,d,d,d,d,d,d,d,d,d,d,d,d,d d,d,d,d,d,d,d,d,d,d,d,d,d,d,d,d\n",
+        d,
+        w,
+    )
+}
+
+fn read_detectors(s: &[u8], from: Found, d: &mut [f64], w: &mut [u32]) -> Found
+    requires { ⌜ (length (now s) ≤ 65536) × (from .at ≤ length (now s)) × (from .line ≤ from .at + 1) ⌝ }
+    ensures { λ r. ⌜ reading (r .ok) (r .line) (r .rows) (table (r .ok) (now (d .exit)) (r .nd) (now (w .exit)) (r .nw)) (restAt (r .ok) (now (s .entry)) (r .at))
+        ≡ onto 0 (table true (now (d .entry)) 0 (now (w .entry)) 0) (linesTo rayNames detectorForm (restAt (from .ok) (now (s .entry)) (from .at)) (from .line)) ⌝ }
+    ensures { λ r. ⌜ (r .at ≤ length (now (s .entry))) × (r .line ≤ r .at + 1) ⌝ }
+{
+    read_lines(
+        s,
+        from,
+        b"ox oy oz dx dy dz nm power bounce media\n",
+        b"d d d d d d d d d d d n n\n",
+        d,
+        w,
+    )
+}
+
+fn read_blocks(
+    s: &[u8],
+    run: &mut [f64],
+    runs: &mut [u32],
+    solids: &mut [f64],
+    tags: &mut [u32],
+    detectors: &mut [f64],
+    sizes: &mut [u32],
+    rays: &mut [f64],
+    marks: &mut [u32],
+) -> Tallied
+    requires { ⌜ length (now s) ≤ 65536 ⌝ }
+    ensures { λ r. ⌜ tally (r .ok) (r .line) (r .solids) (r .detectors) (r .rays) ≡ tallyOf (contentsOf (now (s .entry))) ⌝ }
+    ensures { λ r. ⌜ slices (now (run .exit)) (now (runs .exit)) (now (solids .exit)) (now (tags .exit)) (now (detectors .exit)) (now (sizes .exit)) (now (rays .exit)) (now (marks .exit))
+        ≡ filledWith (contentsOf (now (s .entry))) (slices (now (run .entry)) (now (runs .entry)) (now (solids .entry)) (now (tags .entry)) (now (detectors .entry)) (now (sizes .entry)) (now (rays .entry)) (now (marks .entry))) ⌝ }
+{
+    let c = read_run(s, run, runs);
+    let d = read_solids(s, c, solids, tags);
+    let e = read_detectors(s, d, detectors, sizes);
+    let f = read_lines(s, e, b"", b"d d d d d d d d n l\n", rays, marks);
+    Tallied {
+        ok: f.ok,
+        line: f.line,
+        solids: d.rows,
+        detectors: e.rows,
+        rays: f.rows,
+    }
+}
+
+// The same with no slice of the caller's: what does not fit into a slice is dropped, whatever its length.
+fn check_text(s: &[u8]) -> Tallied
+    requires { ⌜ length (now s) ≤ 65536 ⌝ }
+    ensures { λ r. ⌜ tally (r .ok) (r .line) (r .solids) (r .detectors) (r .rays) ≡ tallyOf (contentsOf (now (s .entry))) ⌝ }
+{
+    let mut a = [0.0f64; 1];
+    let mut b = [0u32; 1];
+    let mut c = [0.0f64; 1];
+    let mut d = [0u32; 1];
+    let mut e = [0.0f64; 1];
+    let mut f = [0u32; 1];
+    let mut g = [0.0f64; 1];
+    let mut h = [0u32; 1];
+    read_blocks(
+        s,
+        &mut a,
+        &mut b,
+        &mut c,
+        &mut d,
+        &mut e,
+        &mut f,
+        &mut g,
+        &mut h,
+    )
+}
+
+fn refused(place: u32) -> SceneText
+    ensures { λ r. ⌜ (checkOf (r .check) ≡ refusedAt 17 place) × (r .solids ≡ 0) × (r .detectors ≡ 0) × (r .rays ≡ 0) ⌝ }
+{
+    SceneText {
+        check: Check::Refused {
+            error: NonSeqError::InvalidSceneText,
+            place,
+        },
+        solids: 0,
+        detectors: 0,
+        rays: 0,
+    }
+}
+
+// The text of a scene. Where it is refused, the slices are as they were.
+pub fn read_scene(
+    text: &[u8],
+    run: &mut [f64],
+    runs: &mut [u32],
+    solids: &mut [f64],
+    tags: &mut [u32],
+    detectors: &mut [f64],
+    sizes: &mut [u32],
+    rays: &mut [f64],
+    marks: &mut [u32],
+) -> SceneText
+    ensures { λ r. ⌜ answer (checkOf (r .check)) (r .solids) (r .detectors) (r .rays)
+        (slices (now (run .exit)) (now (runs .exit)) (now (solids .exit)) (now (tags .exit)) (now (detectors .exit)) (now (sizes .exit)) (now (rays .exit)) (now (marks .exit)))
+        ≡ sceneOf (now (text .entry)) (slices (now (run .entry)) (now (runs .entry)) (now (solids .entry)) (now (tags .entry)) (now (detectors .entry)) (now (sizes .entry)) (now (rays .entry)) (now (marks .entry))) ⌝ }
+{
+    if 65536 < text.len() {
+        return refused(0);
+    }
+    let found = check_text(text);
+    if found.ok {
+        read_blocks(text, run, runs, solids, tags, detectors, sizes, rays, marks);
+        return SceneText {
+            check: Check::Passed,
+            solids: found.solids,
+            detectors: found.detectors,
+            rays: found.rays,
+        };
+    }
+    refused(found.line)
+}
