@@ -1,0 +1,32 @@
+// straymap: a scene text on standard input, its answer on standard output (document 01).
+
+// Whether there was more to read.
+fn more() -> bool {
+    let mut rest = [0u8; 65536];
+    0 < io::read_full(0, &mut rest)
+}
+
+// Reads what is left of the input, so that whoever writes it is not cut off.
+fn drain() {
+    let mut k: u64 = 0;
+    while k < 0xffff_ffff_ffff {
+        if more() {
+            k += 1;
+        } else {
+            return;
+        }
+    }
+}
+
+fn main() {
+    let mut text = [0u8; 65537];
+    let n = io::read_full(0, &mut text);
+    if n == 65537 {
+        drain();
+    }
+    let mut answer = [0u8; 131072];
+    let m = stray_map::put_stray_map(&mut answer, 0, &text[..n]);
+    if m <= 131072 {
+        io::write_all(1, &answer[..m]);
+    }
+}
