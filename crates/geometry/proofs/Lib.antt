@@ -1,2 +1,5 @@
 -- What holds of the definitions.
 pub mod Marks
+pub mod Signs
+pub mod Behind
+pub mod Local

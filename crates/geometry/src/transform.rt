@@ -7,6 +7,7 @@ ghost use mathlib.Core.Path.{_≡_};
 ghost use Rattle.rays.specs.Matrices.{transformPointOf};
 ghost use Rattle.rays.specs.Rays.{answerOf};
 ghost use Rattle.geometry.specs.Transforms.{unitVectorOf, localRayOf, unitOf, madeOf, inverseTransformRayOf, worldNormalOf};
+ghost use Rattle.geometry.specs.Meetings.{rayFromOf};
 
 pub struct Transform3D {
     pub matrix: Mat4,
@@ -46,19 +47,27 @@ fn made(r: NewRay) -> LocalRay
     }
 }
 
+// The ray from o along d, made a unit vector, with the wavelength and the power of another.
+pub(crate) fn ray_from(o: Vec3, d: Vec3, ray: Ray) -> LocalRay
+    ensures { λ r. ⌜ localRayOf r ≡ rayFromOf o d ray ⌝ }
+{
+    match unit(d) {
+        UnitVector::Made(u) => made(Ray::new(o, u, ray.wavelength_nm, ray.energy)),
+        UnitVector::Nothing => LocalRay::Nothing,
+    }
+}
+
 impl Transform3D {
     // The ray in the shape's coordinates, with a unit direction there.
     pub fn inverse_transform_ray(self, ray: Ray) -> LocalRay
         ensures { λ r. ⌜ localRayOf r ≡ inverseTransformRayOf self ray ⌝ }
     {
         let w = self.inverse;
-        match unit(w.transform_direction(ray.direction)) {
-            UnitVector::Made(d) => {
-                let o = w.transform_point(ray.origin);
-                made(Ray::new(o, d, ray.wavelength_nm, ray.energy))
-            }
-            UnitVector::Nothing => LocalRay::Nothing,
-        }
+        ray_from(
+            w.transform_point(ray.origin),
+            w.transform_direction(ray.direction),
+            ray,
+        )
     }
 
     // The unit normal in the world.

@@ -1,8 +1,8 @@
--- `scene::NonSeqObject::approach_at` meets its contract. Assumes nothing.
-use Rattle.scene.specs.Objects.{approachAtOf}
+-- `scene::object::reached` meets its contract. Assumes nothing.
+use Rattle.scene.specs.Objects.{reachedOf}
 use borrow.Author.Needs.{needs}
-use Rattle.scene.proofs.NonSeqObject.approach_at.Statement.{statement}
-use Rattle.scene.proofs.NonSeqObject.approach_at.Tie as tie
+use Rattle.scene.proofs.object.reached.Statement.{statement}
+use Rattle.scene.proofs.object.reached.Tie as tie
 
 transform-point-requires : tie.Need-transform-point-requires
 transform-point-requires c κs = search needs
@@ -14,13 +14,13 @@ dot-requires : tie.Need-dot-requires
 dot-requires c κs = search needs
 
 returns : tie.Need-returns
-unfolding approachAtOf
+unfolding reachedOf
 returns c = simp (← c .before .before .before .transform-point .ensures, ← c .before .before .minus .ensures, ← c .before .dot .ensures, c .if1 .taken)
 
 returns-2 : tie.Need-returns-2
-unfolding approachAtOf
+unfolding reachedOf
 returns-2 c = simp (← c .before .before .before .transform-point .ensures, ← c .before .before .minus .ensures, ← c .before .dot .ensures, c .if1 .left)
 
-pub approach-at-spec : {M : Type 1} → statement M
-approach-at-spec =
+pub reached-spec : {M : Type 1} → statement M
+reached-spec =
     tie.close (tie.spec transform-point-requires minus-requires dot-requires returns returns-2)
