@@ -115,10 +115,10 @@ fn approach_in(values: &[f64], tags: &[u32], i: u32, ray: Ray) -> Approached
 pub(crate) fn approach_at(values: &[f64], tags: &[u32], i: u32, ray: Ray) -> Approached
     ensures { λ r. ⌜ metOf r ≡ approachedOf (solidAt (now (values .entry)) (now (tags .entry)) i) ray ⌝ }
 {
-    let b = i as usize * 4;
+    let shape = i as usize * 4;
     if i as usize * 42 + 42 <= values.len() {
-        if b + 4 <= tags.len() {
-            if tags[b] <= PrimitiveGeometry::LAST {
+        if shape + 4 <= tags.len() {
+            if tags[shape] <= PrimitiveGeometry::LAST {
                 return approach_in(values, tags, i, ray);
             }
         }

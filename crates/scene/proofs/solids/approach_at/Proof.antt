@@ -6,8 +6,8 @@ use borrow.Author.Needs.{needs}
 use Rattle.scene.proofs.solids.approach_at.Statement.{statement}
 use Rattle.scene.proofs.solids.approach_at.Tie as tie
 
-mul-b : tie.Need-mul-b
-mul-b c = search needs
+mul-shape : tie.Need-mul-shape
+mul-shape c = search needs
 
 mul-if1 : tie.Need-mul-if1
 mul-if1 c = search needs
@@ -47,7 +47,7 @@ pub approach-at-spec : {M : Type 1} → statement M
 approach-at-spec =
     tie.close
     (tie.spec
-    mul-b
+    mul-shape
     mul-if1
     add-if1
     add-if2
