@@ -3,3 +3,4 @@ pub mod Marks
 pub mod Signs
 pub mod Behind
 pub mod Local
+pub mod Unit

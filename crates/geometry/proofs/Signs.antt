@@ -65,7 +65,7 @@ abs-units s q k = go (ltb (q * 2 ^ k) (2 ^ (1074 + 1024)))
     go true = abs-odd 54 s q k 1074
     go false = refl
 
-abs-round : (s : Bool) (a c : ℕ) → absOf (round binary64 s a c) ≡ round binary64 false a c
+pub abs-round : (s : Bool) (a c : ℕ) → absOf (round binary64 s a c) ≡ round binary64 false a c
 abs-round s a c = ap absOf (round-is binary64 s a c) ∙ abs-units s _ _ ∙ sym (round-is binary64 false a c)
 
 -- ---- at most 0
@@ -184,13 +184,13 @@ product-alike (fin false m k) (fin false n d) e = alike false (fin false m k) (f
 
 -- ---- a quotient by a value above 0 keeps the sign
 
-suc-not-zero : (n : ℕ) → eqb (suc n) 0 ≡ false
+pub suc-not-zero : (n : ℕ) → eqb (suc n) 0 ≡ false
 suc-not-zero n = ne-eqb (suc n) 0 (λ (e : suc n ≡ 0). none n e)
   where
     none : (n : ℕ) → suc n ≡ 0 → ⊥
     none n e = omega arith
 
-cond-no : {X : Type 0} (b : Bool) (x y : X) → b ≡ false → cond b x y ≡ y
+pub cond-no : {X : Type 0} (b : Bool) (x y : X) → b ≡ false → cond b x y ≡ y
 cond-no b x y e = rw e
 
 by-some : (s : Bool) (n : ℕ) (x y : Float) → Signed s y → Signed s (cond (eqb (suc n) 0) x y)

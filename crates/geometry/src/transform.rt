@@ -1,12 +1,10 @@
 // A shape's place in the world: its matrix and the inverse of it, both as given.
 use rays::Mat4;
-use rays::NewRay;
 use rays::Ray;
 use rays::Vec3;
 ghost use mathlib.Core.Path.{_≡_};
 ghost use Rattle.rays.specs.Matrices.{transformPointOf};
-ghost use Rattle.rays.specs.Rays.{answerOf};
-ghost use Rattle.geometry.specs.Transforms.{unitVectorOf, localRayOf, unitOf, madeOf, inverseTransformRayOf, worldNormalOf};
+ghost use Rattle.geometry.specs.Transforms.{unitVectorOf, localRayOf, unitOf, inverseTransformRayOf, worldNormalOf};
 ghost use Rattle.geometry.specs.Meetings.{rayFromOf};
 
 pub struct Transform3D {
@@ -38,21 +36,27 @@ fn unit(v: Vec3) -> UnitVector
     UnitVector::Nothing
 }
 
-fn made(r: NewRay) -> LocalRay
-    ensures { λ q. ⌜ localRayOf q ≡ madeOf (answerOf r) ⌝ }
-{
-    match r {
-        NewRay::Made(ray) => LocalRay::Made(ray),
-        NewRay::Refused(_) => LocalRay::Nothing,
-    }
-}
-
-// The ray from o along d, made a unit vector, with the wavelength and the power of another.
+// The ray from o along d, made a unit vector, with the wavelength and the power of another; nothing if a part
+// is not finite. A unit vector's parts are.
 pub(crate) fn ray_from(o: Vec3, d: Vec3, ray: Ray) -> LocalRay
     ensures { λ r. ⌜ localRayOf r ≡ rayFromOf o d ray ⌝ }
 {
     match unit(d) {
-        UnitVector::Made(u) => made(Ray::new(o, u, ray.wavelength_nm, ray.energy)),
+        UnitVector::Made(u) => {
+            if o.is_finite() {
+                if doubles::is_finite(ray.wavelength_nm) {
+                    if doubles::is_finite(ray.energy) {
+                        return LocalRay::Made(Ray {
+                            origin: o,
+                            direction: u,
+                            wavelength_nm: ray.wavelength_nm,
+                            energy: ray.energy,
+                        });
+                    }
+                }
+            }
+            LocalRay::Nothing
+        }
         UnitVector::Nothing => LocalRay::Nothing,
     }
 }
