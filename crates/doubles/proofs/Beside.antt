@@ -3,11 +3,9 @@ use mathlib.Core.Path.{_≡_, refl, sym, ap, _∙_, subst}
 use Prim.Native.Nat.{ℕ, zero, suc, _+_, _-_, _*_, _/_, _%_, _^_, _≤_, _<_}
 use native.Mathlib.Nat.{mul-add, mul-le-mul-left}
 use native.Mathlib.Omega.{arith}
-use mathlib.Core.Bool.{Bool, true, _&&_}
-use lib.Dec.{T, leb, ltb, leb→le, ltb→lt}
+use mathlib.Core.Bool.{Bool, true, false, not}
+use lib.Dec.{T, ltb, ltb→lt, nltb→le}
 use lib.Ieee.{Float, binary64, ofBits}
-use lib.Ieee.Fits.{and-l, and-r}
-use Rattle.doubles.specs.Guess.{isBesideOneOf}
 use Rattle.doubles.specs.Root.{sqrtOf, nearestRoot}
 use Rattle.doubles.proofs.Squares.{NearRoot, product-lt, square-of}
 use Rattle.doubles.proofs.Whole.{nearest-of}
@@ -75,7 +73,7 @@ near-below k h q e c p =
 abbrev one : ℕ
 one = 0x3ff0_0000_0000_0000
 
-pub root-above : (b : ℕ) → one ≤ b → b < one + 2 ^ 26 → ofBits binary64 (one + (b - one) / 2) ≡ sqrtOf (ofBits binary64 b)
+root-above : (b : ℕ) → one ≤ b → b < one + 2 ^ 26 → ofBits binary64 (one + (b - one) / 2) ≡ sqrtOf (ofBits binary64 b)
 root-above b lo hi =
     let k = b - one in
     let even : (b / 2 ^ 52 + 1) % 2 ≡ 0 = omega arith in
@@ -88,7 +86,7 @@ root-above b lo hi =
 whole-below : (k : ℕ) → k ≤ 2 ^ 26 → (2 ^ 53 - k) * 2 * 2 ^ 52 ≡ 2 ^ 106 - k * 2 ^ 53
 whole-below k h = omega arith
 
-pub root-below : (b : ℕ) → one ≤ b + 2 ^ 26 → b < one → ofBits binary64 (one - (one - b + 1) / 2) ≡ sqrtOf (ofBits binary64 b)
+root-below : (b : ℕ) → one ≤ b + 2 ^ 26 → b < one → ofBits binary64 (one - (one - b + 1) / 2) ≡ sqrtOf (ofBits binary64 b)
 root-below b lo hi =
     let k = one - b in
     let h = (k + 1) / 2 in
@@ -99,10 +97,16 @@ root-below b lo hi =
     ∙ normal-root b (omega arith) (omega arith) (2 ^ 53 - h)
     (nearest-of _ _ (subst (λ (w : ℕ). NearRoot w (2 ^ 53 - h)) (sym (ap (λ (m : ℕ). m * 2 ^ 52) digits ∙ whole-below k (omega arith))) (near-below k h (2 ^ 53 - h) refl (omega arith) (omega arith))))
 
-pub beside : (b : ℕ) (r : Bool) → r ≡ isBesideOneOf b → r ≡ true → (0x3fef_ffff_fc00_0000 ≤ b) × (b < 0x3ff0_0000_0400_0000)
-unfolding isBesideOneOf
-beside b r e k =
-    let t : T (leb 0x3fef_ffff_fc00_0000 b && ltb b 0x3ff0_0000_0400_0000) = subst T (sym k ∙ e) tt in
-    let x = leb 0x3fef_ffff_fc00_0000 b in
-    let y = ltb b 0x3ff0_0000_0400_0000 in
-    (leb→le 0x3fef_ffff_fc00_0000 b (and-l x y t), ltb→lt b 0x3ff0_0000_0400_0000 (and-r x y t))
+-- both at once
+middle-below : (b : ℕ) → b < one → (b + one) / 2 ≡ one - (one - b + 1) / 2
+middle-below b h = omega arith
+
+middle-above : (b : ℕ) → one ≤ b → (b + one) / 2 ≡ one + (b - one) / 2
+middle-above b h = omega arith
+
+pub root-beside : (b : ℕ) → one ≤ b + 2 ^ 26 → b < one + 2 ^ 26 → ofBits binary64 ((b + one) / 2) ≡ sqrtOf (ofBits binary64 b)
+root-beside b lo hi = go (ltb b one) (ltb→lt b one) (nltb→le b one)
+  where
+    go : (t : Bool) → (T t → b < one) → (T (not t) → one ≤ b) → ofBits binary64 ((b + one) / 2) ≡ sqrtOf (ofBits binary64 b)
+    go true p q = ap (ofBits binary64) (middle-below b (p tt)) ∙ root-below b lo (p tt)
+    go false p q = ap (ofBits binary64) (middle-above b (q tt)) ∙ root-above b (q tt) hi

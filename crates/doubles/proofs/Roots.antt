@@ -1,4 +1,4 @@
--- The root of a float by its bit pattern: the patterns that `root_normal`, `root_subnormal` and `sqrt` hand back stand for `sqrtOf`. Assumes nothing.
+-- The root of a float by its bit pattern: the patterns that `root_by`, `root_subnormal` and `sqrt` hand back stand for `sqrtOf`. Assumes nothing.
 use mathlib.Core.Path.{_≡_, refl, sym, ap, _∙_, subst}
 use mathlib.Core.Logic.{_⊎_, inl, inr}
 use Prim.Native.Nat.{ℕ, zero, suc, _+_, _-_, _*_, _/_, _%_, _^_, _≤_, _<_}

@@ -12,6 +12,7 @@ use lib.Ieee.Bits.{is-true, ofBits-toBits, nanBits-is, nanBits-above}
 use lib.Pow.{pow-pos}
 use lib.Ieee.Fits.{down-pos}
 use lib.Ieee.Exact.{HasValue, round-exact}
+use lib.Ieee.Scale.{round-same}
 use Rattle.doubles.specs.Doubles.{absOf, finiteOf}
 use Rattle.doubles.proofs.Floats.{clash}
 
@@ -136,14 +137,14 @@ zero-equals (fin s m e) c p v = go s (m * up e * 1) (0 * down e) (none (m * up e
     go true a b e h = rw (e, h)
     go false a b e h = rw (e, h)
 
+and-false : (s : Bool) → (s && false) ≡ false
+and-false true = refl
+and-false false = refl
+
 zero-rounded : (s : Bool) (a c : ℕ) → 0 < c → eq (round binary64 (s && ltb a a) (a - a) c) (fin false 0 (pos 0)) ≡ true
 zero-rounded s a c p =
     rw (sub-self a, le-ltb a a (le-refl a), and-false s)
     (zero-equals (round binary64 false 0 c) c p (round-exact binary64 false 0 c 0 0 p (pow-pos 53) (pow-pos (1074 + 1024)) (sym (zero-mul c))))
-  where
-    and-false : (s : Bool) → (s && false) ≡ false
-    and-false true = refl
-    and-false false = refl
 
 cond-false : (t : Bool) (x y : Float) → t ≡ false → cond t x y ≡ y
 cond-false t x y e = rw e
@@ -162,6 +163,21 @@ finite-is (fin s m e) =
     let a = m * up e * down e in
     let c = down e * down e in
     ap (λ (v : Float). eq v (fin false 0 (pos 0))) (same-sum s a c) ∙ zero-rounded s a c (mul-pos (down-pos e) (down-pos e))
+
+zero-is : round binary64 false 0 1 ≡ fin false 0 (pos 0)
+unfolding round
+zero-is = refl
+
+zero-round : (s : Bool) (a c : ℕ) → 0 < c → round binary64 (s && ltb a a) (a - a) c ≡ fin false 0 (pos 0)
+zero-round s a c p = rw (sub-self a, le-ltb a a (le-refl a), and-false s) (round-same binary64 false 0 c 0 1 p (pow-pos 0) (sym (zero-mul c)) ∙ zero-is)
+
+-- x - x is +0 for a finite x, and not a number for any other
+pub difference-of-itself : (x : Float) → sub binary64 x x ≡ cond (finiteOf x) (ofBits binary64 0) nan
+unfolding sub add neg finiteOf ofBits
+difference-of-itself nan = refl
+difference-of-itself (inf true) = refl
+difference-of-itself (inf false) = refl
+difference-of-itself (fin s m e) = same-sum s (m * up e * down e) (down e * down e) ∙ zero-round s (m * up e * down e) (down e * down e) (mul-pos (down-pos e) (down-pos e))
 
 -- ---- a whole number as a float
 

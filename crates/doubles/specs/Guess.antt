@@ -1,7 +1,5 @@
 -- The first guess of the root: a float whose digits are near those of the root. Nothing rests on its value: `root_by` tests it, and has another way where it fails.
 use Prim.Native.Nat.{ℕ, _+_, _-_, _/_, _%_, _^_}
-use mathlib.Core.Bool.{Bool, _&&_}
-use lib.Dec.{leb, ltb}
 use lib.Ieee.{Float, binary64, add, sub, mul, ofBits}
 
 -- b's digits with an exponent such that the number is from 1/2 up and below 2
@@ -27,7 +25,3 @@ guessOf b =
     let d = sub binary64 (sub binary64 x (mul binary64 t t)) (mul binary64 (sub binary64 g t) (add binary64 g t)) in
     let w = sub binary64 (ofBits binary64 0x3ffc000000000000) (mul binary64 g (mul binary64 h (ofBits binary64 0x3ff8000000000000))) in
     add binary64 g (mul binary64 d (mul binary64 h w))
-
--- within 2^-26 of 1
-unfoldable pub isBesideOneOf : ℕ → Bool
-isBesideOneOf b = leb 0x3feffffffc000000 b && ltb b 0x3ff0000004000000

@@ -4,7 +4,7 @@ ghost use mathlib.Core.Path.{_≡_};
 ghost use Prim.Native.Nat.{_+_, _*_, _^_, _≤_, _<_};
 ghost use lib.Ieee.{ofBits, binary64};
 ghost use Rattle.doubles.specs.Root.{sqrtOf, nearestRoot, isNearestRoot};
-ghost use Rattle.doubles.specs.Guess.{guessOf, isBesideOneOf};
+ghost use Rattle.doubles.specs.Guess.{guessOf};
 
 // Whether q is the whole number nearest to the root of m * 2^52.
 // With q = h * 2^27 + l, m * 2^52 - q * q is ((m - 4 * h * h) * 2^24 - h * l) * 2^28 - l * l,
@@ -134,27 +134,13 @@ fn root_by(b: u64, q: u64) -> f64
     root_slowly(b)
 }
 
-// Whether b is a double within 2^-26 of 1, as the squared length of a vector that was made a unit
-// vector is.
-fn is_beside_one(b: u64) -> bool
-    ensures { λ r. ⌜ r ≡ isBesideOneOf b ⌝ }
-{
-    if 0x3fef_ffff_fc00_0000 <= b {
-        return b < 0x3ff0_0000_0400_0000;
-    }
-    false
-}
-
-// The root of such a double is half as far from 1, by as many of the smallest steps; an odd number of
-// steps goes to the lower root.
+// The root of a double within 2^-26 of 1, as the squared length of a vector that was made a unit vector is:
+// half as far from 1, by as many of the smallest steps; an odd number of steps goes to the lower root.
 fn root_beside_one(b: u64) -> f64
     requires { ⌜ (0x3fef_ffff_fc00_0000 ≤ b) × (b < 0x3ff0_0000_0400_0000) ⌝ }
     ensures { λ r. ⌜ r ≡ sqrtOf (ofBits binary64 b) ⌝ }
 {
-    if b < 0x3ff0_0000_0000_0000 {
-        return f64::from_bits(0x3ff0_0000_0000_0000 - (0x3ff0_0000_0000_0000 - b + 1) / 2);
-    }
-    f64::from_bits(0x3ff0_0000_0000_0000 + (b - 0x3ff0_0000_0000_0000) / 2)
+    f64::from_bits((b + 0x3ff0_0000_0000_0000) / 2)
 }
 
 // By the guess.
@@ -172,19 +158,8 @@ fn root_guessed(b: u64) -> f64
     )
 }
 
-// The root of a double that is not subnormal.
-fn root_normal(b: u64) -> f64
-    requires { ⌜ (2 ^ 52 ≤ b) × (b < 0x7ff0_0000_0000_0000) ⌝ }
-    ensures { λ r. ⌜ r ≡ sqrtOf (ofBits binary64 b) ⌝ }
-{
-    if is_beside_one(b) {
-        return root_beside_one(b);
-    }
-    root_guessed(b)
-}
-
-// `x.sqrt()`: the double nearest to the root of x.
-pub fn sqrt(x: f64) -> f64
+// The root of any double, one that is not beside 1 as a rule.
+fn root_elsewhere(x: f64) -> f64
     ensures { λ r. ⌜ r ≡ sqrtOf x ⌝ }
 {
     if x != x {
@@ -193,7 +168,7 @@ pub fn sqrt(x: f64) -> f64
     let b = f64::to_bits(x);
     if 0x10_0000_0000_0000 <= b {
         if b < 0x7ff0_0000_0000_0000 {
-            return root_normal(b);
+            return root_guessed(b);
         }
         if b == 0x7ff0_0000_0000_0000 {
             return x;
@@ -207,4 +182,22 @@ pub fn sqrt(x: f64) -> f64
         return x;
     }
     root_slowly(b)
+}
+
+// `x.sqrt()`: the double nearest to the root of x. Roots beside 1 are short enough to be worked out where
+// they are asked for.
+pub fn sqrt(x: f64) -> f64
+    ensures { λ r. ⌜ r ≡ sqrtOf x ⌝ }
+{
+    if x != x {
+        return x;
+    }
+    let b = f64::to_bits(x);
+    if b < 0x3fef_ffff_fc00_0000 {
+        return root_elsewhere(x);
+    }
+    if b < 0x3ff0_0000_0400_0000 {
+        return root_beside_one(b);
+    }
+    root_elsewhere(x)
 }

@@ -1,2 +1,6 @@
 -- What holds of the definitions.
 pub mod Marks
+pub mod Signs
+pub mod Behind
+pub mod Local
+pub mod Unit

@@ -5,3 +5,5 @@ pub mod Round
 pub mod Slabs
 pub mod Shapes
 pub mod Transforms
+pub mod Behind
+pub mod Meetings

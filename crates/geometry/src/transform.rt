@@ -1,12 +1,11 @@
 // A shape's place in the world: its matrix and the inverse of it, both as given.
 use rays::Mat4;
-use rays::NewRay;
 use rays::Ray;
 use rays::Vec3;
 ghost use mathlib.Core.Path.{_≡_};
 ghost use Rattle.rays.specs.Matrices.{transformPointOf};
-ghost use Rattle.rays.specs.Rays.{answerOf};
-ghost use Rattle.geometry.specs.Transforms.{unitVectorOf, localRayOf, unitOf, madeOf, inverseTransformRayOf, worldNormalOf};
+ghost use Rattle.geometry.specs.Transforms.{unitVectorOf, localRayOf, unitOf, inverseTransformRayOf, worldNormalOf};
+ghost use Rattle.geometry.specs.Meetings.{rayFromOf};
 
 pub struct Transform3D {
     pub matrix: Mat4,
@@ -37,12 +36,28 @@ fn unit(v: Vec3) -> UnitVector
     UnitVector::Nothing
 }
 
-fn made(r: NewRay) -> LocalRay
-    ensures { λ q. ⌜ localRayOf q ≡ madeOf (answerOf r) ⌝ }
+// The ray from o along d, made a unit vector, with the wavelength and the power of another; nothing if a part
+// is not finite. A unit vector's parts are.
+pub(crate) fn ray_from(o: Vec3, d: Vec3, ray: Ray) -> LocalRay
+    ensures { λ r. ⌜ localRayOf r ≡ rayFromOf o d ray ⌝ }
 {
-    match r {
-        NewRay::Made(ray) => LocalRay::Made(ray),
-        NewRay::Refused(_) => LocalRay::Nothing,
+    match unit(d) {
+        UnitVector::Made(u) => {
+            if o.is_finite() {
+                if doubles::is_finite(ray.wavelength_nm) {
+                    if doubles::is_finite(ray.energy) {
+                        return LocalRay::Made(Ray {
+                            origin: o,
+                            direction: u,
+                            wavelength_nm: ray.wavelength_nm,
+                            energy: ray.energy,
+                        });
+                    }
+                }
+            }
+            LocalRay::Nothing
+        }
+        UnitVector::Nothing => LocalRay::Nothing,
     }
 }
 
@@ -52,13 +67,11 @@ impl Transform3D {
         ensures { λ r. ⌜ localRayOf r ≡ inverseTransformRayOf self ray ⌝ }
     {
         let w = self.inverse;
-        match unit(w.transform_direction(ray.direction)) {
-            UnitVector::Made(d) => {
-                let o = w.transform_point(ray.origin);
-                made(Ray::new(o, d, ray.wavelength_nm, ray.energy))
-            }
-            UnitVector::Nothing => LocalRay::Nothing,
-        }
+        ray_from(
+            w.transform_point(ray.origin),
+            w.transform_direction(ray.direction),
+            ray,
+        )
     }
 
     // The unit normal in the world.

@@ -91,15 +91,10 @@ impl Vec3 {
         self.divide(self.norm())
     }
 
-    // Whether all three parts are finite.
+    // Whether all three parts are finite. A part less itself is 0 if it is, and else not a number.
     pub fn is_finite(self) -> bool
         ensures { λ r. ⌜ r ≡ finiteVecOf self ⌝ }
     {
-        if doubles::is_finite(self.x) {
-            if doubles::is_finite(self.y) {
-                return doubles::is_finite(self.z);
-            }
-        }
-        false
+        (self.x - self.x) + (self.y - self.y) + (self.z - self.z) == 0.0
     }
 }

@@ -1,3 +1,4 @@
 -- What holds of the definitions.
+pub mod Quiet
 pub mod Places
 pub mod Turns

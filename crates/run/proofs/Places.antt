@@ -2,20 +2,20 @@
 use Prim.Native.Nat.{ℕ, zero, suc, _+_, _-_}
 use mathlib.Core.Path.{_≡_, refl, sym, ap, _∙_}
 use mathlib.Core.Bool.{Bool, true, false, cond, _&&_}
-use mathlib.Core.List.{List, [], _∷_}
 use lib.Dec.{leb, ltb}
-use lib.ListN.{getD, set}
+use lib.ListN.{getD}
 use Rattle.turn.specs.declared.ActiveRay.{ActiveRay}
-use Rattle.turn.specs.Rays.{Step}
+use Rattle.memory.specs.declared.hits.DetectorHit.{DetectorHit}
+use Rattle.turn.specs.Rays.{Scene, Step}
+use Rattle.turn.specs.Turn.{turnOf}
 use Rattle.run.specs.declared.stack.Stack.{Stack}
 use Rattle.run.specs.declared.stack.Taken.{Taken}
-use Rattle.run.specs.Stack.{noRay, maxRays, loadedOf, takenOf, pushed, pushedIf, popped, afterOf, topAt, takenBy, slotOf, lowerOf, upperOf, heightOf}
-
--- what stands in a place, written there again
-set-self : {A : Type 0} (l : List A) (i : ℕ) (d : A) → set l i (getD l i d) ≡ l
-set-self [] i d = refl
-set-self (x ∷ l) zero d = refl
-set-self (x ∷ l) (suc i) d = ap (λ k. x ∷ k) (set-self l i d)
+use Rattle.run.specs.declared.stack.Coming.{Coming}
+use Rattle.run.specs.declared.settling.Catch.{Catch}
+use Rattle.run.specs.declared.settling.Catch.the-variants.{Hit}
+use Rattle.run.specs.Run.{hitIn, catchOf}
+use Rattle.run.proofs.Quiet.{turn-quiet}
+use Rattle.run.specs.Stack.{noRay, maxRays, loadedOf, takenOf, pushed, pushedIf, popped, afterOf, topAt, takenBy, slotOf, comingOf, storedOf, heightOf}
 
 -- ---- the ray that is taken
 
@@ -30,18 +30,29 @@ taken-is given s left at ea top et t e = rw (e, et, ea) (taken-case (ltb 0 (s .l
 -- ---- the stack after a step
 
 module _ (s : Stack) (e : Step) where
-  abbrev written : ℕ → ℕ → Stack
-  written at i =
-      let l = set (s .rays) i (lowerOf e at (getD (s .rays) i noRay)) in
-      record { rays = set l (i + 1) (upperOf e at (getD l (i + 1) noRay)); len = heightOf (e .«first») (e .second) at }
+  abbrev stored : ℕ → ℕ → Coming → Stack
+  stored at i k = record { rays = storedOf k (s .rays) i (e .reflected) (e .transmitted); len = heightOf (e .«first») (e .second) at }
 
-  by : (room made also : Bool) → e .«first» ≡ made → e .second ≡ also → ltb (s .len - 1) 16 ≡ room → written (s .len - 1) (slotOf (s .len - 1)) ≡ afterOf s e
-  unfolding afterOf popped pushedIf pushed slotOf lowerOf upperOf heightOf
+  by : (room made also : Bool) → e .«first» ≡ made → e .second ≡ also → ltb (s .len - 1) 16 ≡ room → stored (s .len - 1) (slotOf (s .len - 1)) (comingOf (e .«first») (e .second) (s .len - 1)) ≡ afterOf s e
+  unfolding afterOf popped pushedIf pushed slotOf comingOf heightOf
   by true true true f g q = rw (f, g, q)
-  by true true false f g q = rw (f, g, q) (rw (set-self (set (s .rays) (s .len - 1) (e .reflected)) (s .len - 1 + 1) noRay))
-  by true false true f g q = rw (f, g, q) (rw (set-self (set (s .rays) (s .len - 1) (e .transmitted)) (s .len - 1 + 1) noRay))
-  by true false false f g q = rw (f, g, q) (rw (set-self (s .rays) (s .len - 1) noRay, set-self (s .rays) (s .len - 1 + 1) noRay))
-  by false made also f g q = rw q (rw (set-self (s .rays) 0 noRay, set-self (s .rays) 1 noRay))
+  by true true false f g q = rw (f, g, q)
+  by true false true f g q = rw (f, g, q)
+  by true false false f g q = rw (f, g, q)
+  by false made also f g q = rw q
 
-  pub after-is : (at i : ℕ) → at ≡ s .len - 1 → i ≡ slotOf at → (x y : ActiveRay) → x ≡ lowerOf e at (getD (s .rays) i noRay) → y ≡ upperOf e at (getD (set (s .rays) i x) (i + 1) noRay) → (h : ℕ) → h ≡ heightOf (e .«first») (e .second) at → record { rays = set (set (s .rays) i x) (i + 1) y; len = h } ≡ afterOf s e
-  after-is at i ea ei x y ex ey h eh = rw (eh, ey, ex, ei, ea) (by (ltb (s .len - 1) 16) (e .«first») (e .second) refl refl refl)
+  -- the rays that come are k
+  pub after-is : (at i : ℕ) → at ≡ s .len - 1 → i ≡ slotOf at → (c k : Coming) → c ≡ comingOf (e .«first») (e .second) at → c ≡ k → (h : ℕ) → h ≡ heightOf (e .«first») (e .second) at → record { rays = storedOf k (s .rays) i (e .reflected) (e .transmitted); len = h } ≡ afterOf s e
+  after-is at i ea ei c k ec ek h eh = rw (eh, ← ek, ec, ei, ea) (by (ltb (s .len - 1) 16) (e .«first») (e .second) refl refl refl)
+
+  quiet-by : (room : Bool) → ltb (s .len - 1) 16 ≡ room → e .«first» ≡ false → e .second ≡ false → record { rays = s .rays; len = heightOf (e .«first») (e .second) (s .len - 1) } ≡ afterOf s e
+  unfolding afterOf popped pushedIf pushed heightOf
+  quiet-by true q f g = rw (f, g, q)
+  quiet-by false q f g = rw q
+
+-- no ray comes of a ray that a detector catches
+pub after-hit : (s : Stack) (e : Step) (S : Scene) (a : ActiveRay) (at : ℕ) → at ≡ s .len - 1 → e ≡ turnOf S a → (k : Catch) → catchOf k ≡ hitIn (e .end) → (d : DetectorHit) → k ≡ Hit d → (h : ℕ) → h ≡ heightOf (e .«first») (e .second) at → record { rays = s .rays; len = h } ≡ afterOf s e
+after-hit s e S a at ea came k caught d ek h eh =
+    let none-comes = turn-quiet S a d (ap (λ (x : Step). hitIn (x .end)) (sym came) ∙ sym caught ∙ ap catchOf ek) in
+    rw (eh, ea)
+    (quiet-by s e (ltb (s .len - 1) 16) refl (ap (λ (x : Step). x .«first») came ∙ none-comes .0) (ap (λ (x : Step). x .second) came ∙ none-comes .1))

@@ -11,6 +11,8 @@ use Rattle.turn.specs.Rays.{Step}
 use Rattle.given.specs.Given.{blank}
 use Rattle.run.specs.declared.stack.Stack.{Stack}
 use Rattle.run.specs.declared.stack.Taken.{Taken}
+use Rattle.run.specs.declared.stack.Coming.{Coming}
+use Rattle.run.specs.declared.stack.Coming.the-variants.{Both, Reflected, Transmitted, Nothing}
 
 abbrev pub maxRays : ℕ
 maxRays = 17
@@ -53,7 +55,7 @@ unfoldable pub afterOf : Stack → Step → Stack
 afterOf s e =
     cond (ltb (popped s .len) 16) (pushedIf (e .second) (pushedIf (e .«first») (popped s) (e .reflected)) (e .transmitted)) (popped s)
 
--- ---- the same as the code does it: two places are written, with what stood there where no ray comes
+-- ---- the same as the code does it
 
 unfoldable pub topAt : ℕ → ℕ
 topAt len = cond (ltb 0 len && leb len maxRays) (len - 1) 0
@@ -64,11 +66,15 @@ takenBy given top len left = cond (ltb 0 len && leb len maxRays) (record { ray =
 unfoldable pub slotOf : ℕ → ℕ
 slotOf at = cond (ltb at 16) at 0
 
-unfoldable pub lowerOf : Step → ℕ → ActiveRay → ActiveRay
-lowerOf e at old = cond (ltb at 16) (cond (e .«first») (e .reflected) (cond (e .second) (e .transmitted) old)) old
+unfoldable pub comingOf : Bool → Bool → ℕ → Coming
+comingOf made also at = cond (ltb at 16) (cond made (cond also Both Reflected) (cond also Transmitted Nothing)) Nothing
 
-unfoldable pub upperOf : Step → ℕ → ActiveRay → ActiveRay
-upperOf e at old = cond (ltb at 16) (cond (e .«first») (cond (e .second) (e .transmitted) old) old) old
+-- the places with the rays that come, from place i on
+abbrev pub storedOf : Coming → List ActiveRay → ℕ → ActiveRay → ActiveRay → List ActiveRay
+storedOf Both l i r t = set (set l i r) (i + 1) t
+storedOf Reflected l i r t = set l i r
+storedOf Transmitted l i r t = set l i t
+storedOf Nothing l i r t = l
 
 unfoldable pub heightOf : Bool → Bool → ℕ → ℕ
 heightOf made also at = cond (ltb at 16) (cond made (cond also (at + 1 + 1) (at + 1)) (cond also (at + 1) at)) at

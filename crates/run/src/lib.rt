@@ -8,6 +8,7 @@ use error::Check;
 use faces::Faces;
 use report::NonSeqTraceReport;
 pub use settling::Catch;
+use stack::Coming;
 pub use stack::Stack;
 pub use stack::Taken;
 use turn::NonSeqTraceConfig;
@@ -72,8 +73,6 @@ pub fn advance(
         left = t.left;
         let at = stack::under(stack.len);
         let slot = stack::slot(at);
-        stack.rays[slot] = stack::lower(e, at, stack.rays[slot]);
-        stack.rays[slot + 1] = stack::upper(e, at, stack.rays[slot + 1]);
         stack.len = stack::height(e.first, e.second, at);
         let fate = e.fate;
         match settling::hit_in(fate) {
@@ -88,6 +87,17 @@ pub fn advance(
             Catch::Nothing => {
                 report = after;
                 check = settling::refusal_in(fate, left);
+                let reflected = e.reflected;
+                let transmitted = e.transmitted;
+                match stack::rays_coming(e.first, e.second, at) {
+                    Coming::Both => {
+                        stack.rays[slot] = reflected;
+                        stack.rays[slot + 1] = transmitted;
+                    }
+                    Coming::Reflected => stack.rays[slot] = reflected,
+                    Coming::Transmitted => stack.rays[slot] = transmitted,
+                    Coming::Nothing => {}
+                }
             }
         }
     }

@@ -1,11 +1,9 @@
 // The work stack: 17 rays by value, one place changed with each step, the newest ray last.
 use turn::ActiveRay;
-use turn::Event;
 ghost use mathlib.Core.Path.{_≡_};
 ghost use Prim.Native.Nat.{_-_, _<_};
-ghost use Rattle.turn.specs.Rays.{stepOf};
 ghost use Rattle.given.specs.Given.{givenOf};
-ghost use Rattle.run.specs.Stack.{emptyStack, loadedOf, topAt, takenBy, slotOf, lowerOf, upperOf, heightOf};
+ghost use Rattle.run.specs.Stack.{emptyStack, loadedOf, topAt, takenBy, slotOf, comingOf, heightOf};
 
 pub struct Stack {
     pub rays: [ActiveRay; 17],
@@ -16,6 +14,14 @@ pub struct Stack {
 pub struct Taken {
     pub ray: ActiveRay,
     pub left: u32,
+}
+
+// The rays that are pushed.
+pub enum Coming {
+    Both,
+    Reflected,
+    Transmitted,
+    Nothing,
 }
 
 // One given ray fewer; none stays none.
@@ -85,36 +91,23 @@ pub(crate) fn slot(at: usize) -> usize
     0
 }
 
-// What stands there after the step.
-pub(crate) fn lower(event: Event, at: usize, old: ActiveRay) -> ActiveRay
-    ensures { λ r. ⌜ r ≡ lowerOf (stepOf event) at old ⌝ }
+// Which rays come of a step; a stack without room for two takes none.
+pub(crate) fn rays_coming(first: bool, second: bool, at: usize) -> Coming
+    ensures { λ r. ⌜ r ≡ comingOf first second at ⌝ }
 {
     if at < 16 {
-        if event.first {
-            return event.reflected;
-        }
-        if event.second {
-            return event.transmitted;
-        }
-        return old;
-    }
-    old
-}
-
-// What stands in the next place.
-pub(crate) fn upper(event: Event, at: usize, old: ActiveRay) -> ActiveRay
-    ensures { λ r. ⌜ r ≡ upperOf (stepOf event) at old ⌝ }
-{
-    if at < 16 {
-        if event.first {
-            if event.second {
-                return event.transmitted;
+        if first {
+            if second {
+                return Coming::Both;
             }
-            return old;
+            return Coming::Reflected;
         }
-        return old;
+        if second {
+            return Coming::Transmitted;
+        }
+        return Coming::Nothing;
     }
-    old
+    Coming::Nothing
 }
 
 // How many rays there are then.

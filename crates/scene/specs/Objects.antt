@@ -3,12 +3,16 @@ use lib.Ieee.{binary64, lt, le, ofBits}
 use mathlib.Core.Bool.{Bool, cond}
 use mathlib.Core.Option.{Option, none, some}
 use Rattle.rays.specs.declared.vector.Vec3.{Vec3}
+use Rattle.rays.specs.declared.matrix.Mat4.{Mat4}
 use Rattle.rays.specs.declared.Ray.{Ray}
 use Rattle.rays.specs.Rays.{atOf, minWorldDistance}
 use Rattle.rays.specs.Vectors.{dotOf, minusOf, negateOf}
 use Rattle.rays.specs.Matrices.{transformPointOf}
 use Rattle.geometry.specs.declared.LocalHit.{LocalHit}
+use Rattle.geometry.specs.declared.PrimitiveGeometry.{PrimitiveGeometry}
+use Rattle.geometry.specs.declared.meeting.Meeting.{Meeting}
 use Rattle.geometry.specs.Shapes.{intersectLocalOf}
+use Rattle.geometry.specs.Meetings.{meetOf}
 use Rattle.geometry.specs.Transforms.{inverseTransformRayOf, worldNormalOf}
 use Rattle.scene.specs.declared.NonSeqObject.{NonSeqObject}
 use Rattle.scene.specs.declared.NonSeqHit.{NonSeqHit}
@@ -77,3 +81,18 @@ arriveFromOf o r none = none
 
 unfoldable pub intersectOf : NonSeqObject → Ray → Option NonSeqHit
 intersectOf o r = arriveFromOf o r (approachOf o r)
+
+-- ---- the same approach by a solid's parts: matrix m, inverse w, shape g
+
+unfoldable pub reachedOf : Mat4 → Ray → Vec3 → LocalHit → Option Approach
+reachedOf m r p h =
+    let q = transformPointOf m p in
+    let t = dotOf (minusOf q (r .origin)) (r .direction) in
+    cond (le t minWorldDistance) none (some (record { t = t; point = q; local = h }))
+
+unfoldable pub reachedByOf : Mat4 → Ray → Option Meeting → Option Approach
+reachedByOf m r (some k) = reachedOf m r (k .point) (k .hit)
+reachedByOf m r none = none
+
+unfoldable pub partsOf : Bool → PrimitiveGeometry → Mat4 → Mat4 → Ray → Option Approach
+partsOf active g m w r = cond active (reachedByOf m r (meetOf g w r)) none

@@ -1,6 +1,6 @@
 // The nearest solid of a list along a ray.
 use crate::Intersection;
-use crate::NonSeqObject;
+use crate::object::Approach;
 use crate::object::Approached;
 use crate::solids;
 use crate::solids::Listed;
@@ -8,11 +8,11 @@ use error::Check;
 use error::NonSeqError;
 use rays::Ray;
 ghost use mathlib.Core.Path.{_≡_};
-ghost use Rattle.nearest.specs.Nearest.{distanceOf, nearerOf};
-ghost use Rattle.scene.specs.declared.NonSeqHit.{NonSeqHit};
-ghost use Rattle.scene.specs.Objects.{hitOf, intersectOf};
+ghost use Rattle.nearest.specs.Nearest.{distanceOf, nearerOf, nearestOf};
+ghost use Rattle.scene.specs.Objects.{hitOf};
 ghost use Rattle.scene.specs.Solids.{solidAt};
-ghost use Rattle.scene.specs.Closest.{hitDistance, offerOf, closestOf, closestAnswerOf, intersectClosestOf};
+ghost use Rattle.scene.specs.declared.closest.Candidate.{Candidate};
+ghost use Rattle.scene.specs.Closest.{closestOf, closestAnswerOf, intersectClosestOf, arrivedOf, keptOf, candidateDistance, candidatesOf, nearestIn};
 
 // The nearest solid or none, or the refusal and its place.
 pub enum Closest {
@@ -20,28 +20,68 @@ pub enum Closest {
     Refused { error: NonSeqError, place: u32 },
 }
 
-// Infinite for a miss.
-fn distance(best: Intersection) -> f64
-    ensures { λ r. ⌜ r ≡ distanceOf NonSeqHit hitDistance (hitOf best) ⌝ }
+// An approach, and the place of the solid.
+pub struct Candidate {
+    pub place: u32,
+    pub approach: Approach,
+}
+
+pub enum Nearest {
+    At(Candidate),
+    Nothing,
+}
+
+// Infinite for nothing.
+fn distance(best: Nearest) -> f64
+    ensures { λ r. ⌜ r ≡ distanceOf Candidate candidateDistance (nearestIn best) ⌝ }
 {
     match best {
-        Intersection::Hit(h) => h.t,
-        Intersection::Miss => doubles::infinity(),
+        Nearest::At(c) => c.approach.t,
+        Nearest::Nothing => doubles::infinity(),
     }
 }
 
-// The best so far, or where the ray meets one more solid. The normal is worked out only where the
-// distance is nearer.
-fn nearer(object: NonSeqObject, ray: Ray, best: Intersection) -> Intersection
-    ensures { λ r. ⌜ hitOf r ≡ nearerOf NonSeqHit hitDistance (hitOf best) (intersectOf object ray) ⌝ }
+// The hit of an approach to the solid at a place, if its normal can be made.
+fn arrive_at(values: &[f64], tags: &[u32], place: u32, ray: Ray, approach: Approach) -> Intersection
+    ensures { λ r. ⌜ hitOf r ≡ arrivedOf (solidAt (now (values .entry)) (now (tags .entry)) place) ray approach ⌝ }
 {
-    match object.approach(ray) {
-        Approached::At(a) => {
-            if nearest::is_nearer(a.t, distance(best)) {
-                return match object.arrive(ray, a) {
-                    Intersection::Hit(h) => Intersection::Hit(h),
-                    Intersection::Miss => best,
-                };
+    match solids::object_at(values, tags, place) {
+        Listed::Object(object) => object.arrive(ray, approach),
+        Listed::Nothing => Intersection::Miss,
+    }
+}
+
+// Whether an approach to solid i is kept: in a strict search only if its normal can be made.
+fn is_kept(values: &[f64], tags: &[u32], i: u32, ray: Ray, strict: bool, approach: Approach) -> bool
+    ensures { λ r. ⌜ r ≡ keptOf strict (arrivedOf (solidAt (now (values .entry)) (now (tags .entry)) i) ray approach) ⌝ }
+{
+    if strict {
+        return match arrive_at(values, tags, i, ray, approach) {
+            Intersection::Hit(_) => true,
+            Intersection::Miss => false,
+        };
+    }
+    true
+}
+
+// The nearest approach so far, or that of solid i.
+fn nearer_candidate(
+    values: &[f64],
+    tags: &[u32],
+    i: u32,
+    ray: Ray,
+    strict: bool,
+    best: Nearest,
+) -> Nearest
+    ensures { λ r. ⌜ nearestIn r ≡ nearerOf Candidate candidateDistance (nearestIn best) (candidatesOf strict (solidAt (now (values .entry)) (now (tags .entry))) ray i) ⌝ }
+{
+    match solids::approach_at(values, tags, i, ray) {
+        Approached::At(approach) => {
+            if nearest::is_nearer(approach.t, distance(best)) {
+                if is_kept(values, tags, i, ray, strict, approach) {
+                    return Nearest::At(Candidate { place: i, approach });
+                }
+                return best;
             }
             best
         }
@@ -49,28 +89,48 @@ fn nearer(object: NonSeqObject, ray: Ray, best: Intersection) -> Intersection
     }
 }
 
-// The same with solid i of the lists, if they hold it.
-fn nearer_at(values: &[f64], tags: &[u32], i: u32, ray: Ray, best: Intersection) -> Intersection
-    ensures { λ r. ⌜ hitOf r ≡ nearerOf NonSeqHit hitDistance (hitOf best) (offerOf (solidAt (now (values .entry)) (now (tags .entry)) i) ray) ⌝ }
+// The nearest approach of the first `count` solids.
+fn nearest_candidate(values: &[f64], tags: &[u32], count: u32, ray: Ray, strict: bool) -> Nearest
+    ensures { λ r. ⌜ nearestIn r ≡ nearestOf Candidate candidateDistance (candidatesOf strict (solidAt (now (values .entry)) (now (tags .entry))) ray) count ⌝ }
 {
-    match solids::object_at(values, tags, i) {
-        Listed::Object(object) => nearer(object, ray, best),
-        Listed::Nothing => best,
+    let mut best = Nearest::Nothing;
+    let mut i: u32 = 0;
+    while i < count {
+        best = nearer_candidate(values, tags, i, ray, strict, best);
+        i += 1;
+    }
+    best
+}
+
+// With a normal for each approach that is nearer than those before it.
+fn closest_strictly(values: &[f64], tags: &[u32], count: u32, ray: Ray) -> Intersection
+    ensures { λ r. ⌜ hitOf r ≡ closestOf (solidAt (now (values .entry)) (now (tags .entry))) count ray ⌝ }
+{
+    match nearest_candidate(values, tags, count, ray, true) {
+        Nearest::At(c) => {
+            let approach = c.approach;
+            arrive_at(values, tags, c.place, ray, approach)
+        }
+        Nearest::Nothing => Intersection::Miss,
     }
 }
 
 // The nearest of the first `count` solids, passing over what is no solid of these lists: for callers
-// that have checked them.
+// that have checked them. Only the nearest approach gets a normal; where that can't be made, the search is
+// made again.
 pub fn closest_object(values: &[f64], tags: &[u32], count: u32, ray: Ray) -> Intersection
     ensures { λ r. ⌜ hitOf r ≡ closestOf (solidAt (now (values .entry)) (now (tags .entry))) count ray ⌝ }
 {
-    let mut best = Intersection::Miss;
-    let mut i: u32 = 0;
-    while i < count {
-        best = nearer_at(values, tags, i, ray, best);
-        i += 1;
+    match nearest_candidate(values, tags, count, ray, false) {
+        Nearest::At(c) => {
+            let approach = c.approach;
+            match arrive_at(values, tags, c.place, ray, approach) {
+                Intersection::Hit(h) => Intersection::Hit(h),
+                Intersection::Miss => closest_strictly(values, tags, count, ray),
+            }
+        }
+        Nearest::Nothing => Intersection::Miss,
     }
-    best
 }
 
 // The nearest solid. Lists that do not fit are refused (17), then more than 32 solids (3).

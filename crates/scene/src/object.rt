@@ -3,13 +3,13 @@ use crate::Intersection;
 use crate::NonSeqHit;
 use crate::NonSeqObject;
 use geometry::LocalHit;
-use geometry::LocalIntersection;
-use geometry::LocalRay;
+use geometry::Met;
 use geometry::UnitVector;
+use rays::Mat4;
 use rays::Ray;
 use rays::Vec3;
 ghost use mathlib.Core.Path.{_≡_};
-ghost use Rattle.scene.specs.Objects.{hitOf, metOf, facingOf, approachAtOf, approachAlongOf, approachOf, turnedOf, arriveOf, intersectOf};
+ghost use Rattle.scene.specs.Objects.{hitOf, metOf, facingOf, reachedOf, approachOf, turnedOf, arriveOf, intersectOf};
 
 // Where a ray meets a solid, with the hit in the solid's own coordinates.
 pub struct Approach {
@@ -33,44 +33,37 @@ fn facing(n: Vec3, entering: bool) -> Vec3
     n.negate()
 }
 
+// A point and a hit in a solid's coordinates, brought into the world by the solid's matrix. The distance is
+// along the world's ray, whatever the scale of the solid's coordinates.
+pub(crate) fn reached(matrix: Mat4, ray: Ray, point: Vec3, local: LocalHit) -> Approached
+    ensures { λ a. ⌜ metOf a ≡ reachedOf matrix ray point local ⌝ }
+{
+    let met = matrix.transform_point(point);
+    let t = met.minus(ray.origin).dot(ray.direction);
+    if t <= Ray::MIN_WORLD_DISTANCE {
+        return Approached::Miss;
+    }
+    Approached::At(Approach {
+        t,
+        point: met,
+        local,
+    })
+}
+
 impl NonSeqObject {
-    // The distance is along the world's ray, whatever the scale of the solid's coordinates.
-    fn approach_at(self, ray: Ray, point: Vec3, local: LocalHit) -> Approached
-        ensures { λ a. ⌜ metOf a ≡ approachAtOf self ray point local ⌝ }
-    {
-        let transform = self.transform;
-        let met = transform.transform_point(point);
-        let t = met.minus(ray.origin).dot(ray.direction);
-        if t <= Ray::MIN_WORLD_DISTANCE {
-            return Approached::Miss;
-        }
-        Approached::At(Approach {
-            t,
-            point: met,
-            local,
-        })
-    }
-
-    // By the ray in the solid's coordinates.
-    fn approach_along(self, ray: Ray, along: Ray) -> Approached
-        ensures { λ a. ⌜ metOf a ≡ approachAlongOf self ray along ⌝ }
-    {
-        let geometry = self.geometry;
-        match geometry.intersect_local(along) {
-            LocalIntersection::Hit(h) => self.approach_at(ray, along.at(h.t), h),
-            LocalIntersection::Miss => Approached::Miss,
-        }
-    }
-
     // Where the ray meets the solid, its normal not yet looked at.
     pub fn approach(self, ray: Ray) -> Approached
         ensures { λ a. ⌜ metOf a ≡ approachOf self ray ⌝ }
     {
+        let geometry = self.geometry;
+        let transform = self.transform;
         if self.is_active {
-            let transform = self.transform;
-            return match transform.inverse_transform_ray(ray) {
-                LocalRay::Made(along) => self.approach_along(ray, along),
-                LocalRay::Nothing => Approached::Miss,
+            return match geometry.meet(transform.inverse, ray) {
+                Met::At(m) => {
+                    let hit = m.hit;
+                    reached(transform.matrix, ray, m.point, hit)
+                }
+                Met::Miss => Approached::Miss,
             };
         }
         Approached::Miss

@@ -3,18 +3,24 @@
 // solid 4 whole numbers: shape, active, finish, medium.
 use crate::NonSeqObject;
 use crate::SolidNo;
+use crate::object;
+use crate::object::Approached;
 use error::Check;
 use error::NonSeqError;
+use geometry::Met;
 use geometry::PrimitiveGeometry;
 use geometry::Transform3D;
 use material::OpticalMedium;
 use material::SurfaceFinish;
 use rays::Mat4;
+use rays::Ray;
 use rays::Row;
 ghost use mathlib.Core.Path.{_≡_};
 ghost use Prim.Native.Nat.{_+_, _*_, _≤_};
 ghost use lib.ListN.{length};
 ghost use Rattle.error.specs.Refusals.{checkOf};
+ghost use Rattle.scene.specs.Objects.{metOf, approachOf};
+ghost use Rattle.scene.specs.Closest.{approachedOf};
 ghost use Rattle.scene.specs.Solids.{rowAt, matAt, readObjectOf, listedOf, solidAt, finishAt, mediumAt, tagsFitOf, checkTagsOf, checkSolidsOf};
 
 pub enum Listed {
@@ -77,6 +83,47 @@ pub fn object_at(values: &[f64], tags: &[u32], i: u32) -> Listed
         }
     }
     Listed::Nothing
+}
+
+// Where a ray meets solid i of lists that hold it. The solid's matrix is read only where its shape is met.
+fn approach_in(values: &[f64], tags: &[u32], i: u32, ray: Ray) -> Approached
+    requires { ⌜ (i * 42 + 42 ≤ length (now values)) × (i * 4 + 4 ≤ length (now tags)) ⌝ }
+    ensures { λ r. ⌜ metOf r ≡ approachOf (readObjectOf (now (values .entry)) (now (tags .entry)) i) ray ⌝ }
+{
+    let a = i as usize * 42;
+    let b = i as usize * 4;
+    if tags[b + 1] == 1 {
+        let inverse = mat_at(values, a + 26);
+        let geometry = PrimitiveGeometry::numbered(
+            tags[b],
+            values[a],
+            values[a + 1],
+            values[a + 2],
+        );
+        return match geometry.meet(inverse, ray) {
+            Met::At(m) => {
+                let hit = m.hit;
+                object::reached(mat_at(values, a + 10), ray, m.point, hit)
+            }
+            Met::Miss => Approached::Miss,
+        };
+    }
+    Approached::Miss
+}
+
+// Where a ray meets solid i, if the lists hold it.
+pub(crate) fn approach_at(values: &[f64], tags: &[u32], i: u32, ray: Ray) -> Approached
+    ensures { λ r. ⌜ metOf r ≡ approachedOf (solidAt (now (values .entry)) (now (tags .entry)) i) ray ⌝ }
+{
+    let shape = i as usize * 4;
+    if i as usize * 42 + 42 <= values.len() {
+        if shape + 4 <= tags.len() {
+            if tags[shape] <= PrimitiveGeometry::LAST {
+                return approach_in(values, tags, i, ray);
+            }
+        }
+    }
+    Approached::Miss
 }
 
 // The finish of a solid; clear for one that the lists do not hold.

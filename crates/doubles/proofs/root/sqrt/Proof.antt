@@ -1,12 +1,10 @@
 -- `doubles::root::sqrt` meets its contract. Assumes nothing.
 use borrow.Author.Needs.{needs}
-use mathlib.Core.Path.{_≡_, sym, subst, ap, _∙_}
-use Prim.Native.Nat.{_*_, _^_, _<_}
+use mathlib.Core.Path.{sym, subst}
 use lib.Dec.{T}
-use lib.Ieee.{binary64, fits, toBits}
-use lib.Ieee.Bits.{toBits-lt}
-use Rattle.doubles.proofs.Floats.{same-no-nan, differs-is-nan, zero-by-zero}
-use Rattle.doubles.proofs.Roots.{own-nan, own-inf, own-zero, own-minus-zero, by-bits, rest-root}
+use lib.Ieee.{binary64, fits}
+use Rattle.doubles.proofs.Floats.{same-no-nan, differs-is-nan}
+use Rattle.doubles.proofs.Roots.{own-nan, by-bits}
 use Rattle.doubles.proofs.root.sqrt.Statement.{statement}
 use Rattle.doubles.proofs.root.sqrt.Tie as tie
 
@@ -20,32 +18,23 @@ returns c = own-nan (c .before .args .x) (differs-is-nan (c .before .args .x) (c
 float-to-bits-b : tie.Need-float-to-bits-b
 float-to-bits-b c = same-no-nan (c .before .args .x) (c .if1 .left)
 
-root-normal-requires : tie.Need-root-normal-requires
-root-normal-requires c κs = search needs
+root-elsewhere-requires : tie.Need-root-elsewhere-requires
+root-elsewhere-requires c κs = search needs
 
 returns-2 : tie.Need-returns-2
-returns-2 c = by-bits _ _ (held (c .before .before .before .before)) (c .root-normal .ensures)
+returns-2 c = search needs
+
+root-beside-one-requires : tie.Need-root-beside-one-requires
+root-beside-one-requires c κs = search needs
 
 returns-3 : tie.Need-returns-3
-returns-3 c = own-inf _ (held (c .before .before .before .before)) (c .if4 .taken)
+returns-3 c = by-bits _ _ (held (c .before .before .before .before)) (c .root-beside-one .ensures)
+
+root-elsewhere-requires-2 : tie.Need-root-elsewhere-requires-2
+root-elsewhere-requires-2 c κs = search needs
 
 returns-4 : tie.Need-returns-4
-returns-4 c = own-minus-zero _ (held (c .before .before .before .before .before)) (c .if5 .taken)
-
-returns-5 : tie.Need-returns-5
-returns-5 c =
-    let start = c .before .before .before .before .before in
-    let x = start .args .x in
-    by-bits x _ (held start) (zero-by-zero ∙ sym (rest-root (toBits binary64 x) (c .before .before .if3 .left) (c .before .if4 .left) (c .if5 .left) (toBits-lt binary64 x (held start))))
-
-returns-6 : tie.Need-returns-6
-returns-6 c = own-zero _ (held (c .before .before .before)) (c .if6 .taken)
-
-root-slowly-requires : tie.Need-root-slowly-requires
-root-slowly-requires c κs = search needs
-
-returns-7 : tie.Need-returns-7
-returns-7 c = by-bits _ _ (held (c .before .before .before .before)) (c .root-slowly .ensures)
+returns-4 c = search needs
 
 pub sqrt-spec : {M : Type 1} → statement M
 sqrt-spec =
@@ -53,11 +42,9 @@ sqrt-spec =
     (tie.spec
     returns
     float-to-bits-b
-    root-normal-requires
+    root-elsewhere-requires
     returns-2
+    root-beside-one-requires
     returns-3
-    returns-4
-    returns-5
-    returns-6
-    root-slowly-requires
-    returns-7)
+    root-elsewhere-requires-2
+    returns-4)

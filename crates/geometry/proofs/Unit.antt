@@ -1,0 +1,233 @@
+-- A direction that is made a unit vector is finite. Assumes nothing.
+use Prim.Native.Nat.{ℕ, zero, suc, _+_, _*_, _^_, _≤_, _<_}
+use native.Mathlib.Nat.{mul-one, one-mul, mul-pos, mul-comm, mul-assoc, mul-left-comm, zero-lt-suc, le-trans, le-of-eq, le-of-lt, mul-le-mul, mul-le-mul-right}
+use native.Mathlib.Omega.{arith}
+use mathlib.Core.Path.{_≡_, refl, sym, ap, _∙_, subst}
+use mathlib.Core.Bool.{Bool, true, false, not, cond, _&&_, _||_, Bool·beq}
+use mathlib.Core.Option.{Option, none, some, Option·some-injective, Option·none-ne-some}
+use lib.Dec.{T, ltb, ltb→lt, nltb→le}
+use lib.IntN.{ℤ, pos, negsuc}
+use lib.Pow.{pow-pos}
+use lib.Ieee.{Float, nan, inf, fin, binary64, up, down, round, add, mul, div, lt, le, eq, ofBits}
+use lib.Ieee.Fits.{up-pos, down-pos}
+use lib.Ieee.Order.{round-mono}
+use lib.Ieee.Positive.{positive}
+use Rattle.doubles.proofs.Floats.{clash}
+use Rattle.doubles.specs.Doubles.{absOf, finiteOf}
+use Rattle.doubles.specs.Root.{sqrtOf, sqrtIn}
+use Rattle.error.specs.Refusals.{value, refusal}
+use Rattle.rays.specs.declared.vector.Vec3.{Vec3}
+use Rattle.rays.specs.declared.Ray.{Ray}
+use Rattle.rays.specs.Vectors.{dotOf, normOf, divideOf, finiteVecOf}
+use Rattle.rays.specs.Rays.{finiteRayOf, newRayOf}
+use Rattle.geometry.specs.declared.transform.UnitVector as unit
+use Rattle.geometry.specs.Transforms.{unitVectorOf, unitOf, madeOf}
+use Rattle.geometry.specs.Meetings.{rayByOf, rayFromOf}
+use Rattle.geometry.proofs.Signs.{Signed, round-signed, abs-round, length-positive, suc-not-zero, cond-no}
+
+abbrev Finite : Float → Type 0
+Finite x = finiteOf x ≡ true
+
+-- ---- what a finite root, sum or product is made of
+
+root-of-finite : (x : Float) → Finite (sqrtOf x) → Finite x
+unfolding sqrtOf sqrtIn finiteOf
+root-of-finite nan h = h
+root-of-finite (inf true) h = h
+root-of-finite (inf false) h = h
+root-of-finite (fin s m e) h = refl
+
+sum-of-finite : (x y : Float) → Finite (add binary64 x y) → Finite x × Finite y
+unfolding add finiteOf
+sum-of-finite nan y h = absurd (clash (sym h))
+sum-of-finite (inf s) nan h = absurd (clash (sym h))
+sum-of-finite (inf true) (inf true) h = absurd (clash (sym h))
+sum-of-finite (inf true) (inf false) h = absurd (clash (sym h))
+sum-of-finite (inf false) (inf true) h = absurd (clash (sym h))
+sum-of-finite (inf false) (inf false) h = absurd (clash (sym h))
+sum-of-finite (inf s) (fin t n d) h = absurd (clash (sym h))
+sum-of-finite (fin s m e) nan h = absurd (clash (sym h))
+sum-of-finite (fin s m e) (inf t) h = absurd (clash (sym h))
+sum-of-finite (fin s m e) (fin t n d) h = (refl, refl)
+
+-- below 2 ^ 512 in size
+abbrev Modest : Float → Type 0
+Modest nan = ⊥
+Modest (inf s) = ⊥
+Modest (fin s m e) = m * up e < 2 ^ 512 * down e
+
+too-large : round binary64 false (2 ^ 1024) 1 ≡ inf false
+unfolding round
+too-large = refl
+
+-- what is at least infinity is not finite
+not-finite : (x : Float) → T (le (inf false) x) → finiteOf x ≡ true → ⊥
+unfolding le lt eq finiteOf
+not-finite nan t h = t
+not-finite (inf s) t h = clash (sym h)
+not-finite (fin s m e) t h = t
+
+square : (a d : ℕ) → 2 ^ 512 * d ≤ a → 2 ^ 1024 * (d * d) ≤ a * a * 1
+square a d h = le-trans (le-of-eq (split (2 ^ 512) d)) (le-trans (mul-le-mul h h) (le-of-eq (sym (mul-one (a * a)))))
+  where
+    split : (k d : ℕ) → k * k * (d * d) ≡ k * d * (k * d)
+    split k d = simp (mul-assoc, mul-comm, mul-left-comm) refl
+
+modest : (a d : ℕ) → 0 < d → finiteOf (round binary64 false (a * a) (d * d)) ≡ true → a < 2 ^ 512 * d
+modest a d p h = go (ltb a (2 ^ 512 * d)) (ltb→lt a (2 ^ 512 * d)) (nltb→le a (2 ^ 512 * d))
+  where
+    go : (t : Bool) → (T t → a < 2 ^ 512 * d) → (T (not t) → 2 ^ 512 * d ≤ a) → a < 2 ^ 512 * d
+    go true f g = f tt
+    go false f g =
+        absurd
+        (not-finite (round binary64 false (a * a) (d * d))
+        (subst (λ (x : Float). T (le x (round binary64 false (a * a) (d * d)))) too-large
+        (round-mono binary64 (2 ^ 1024) 1 (a * a) (d * d) (pow-pos 0) (mul-pos p p) (square a d (g tt))))
+        h)
+
+square-finite : (x : Float) → Finite (mul binary64 x x) → Modest x
+unfolding mul finiteOf
+square-finite nan h = absurd (clash (sym h))
+square-finite (inf true) h = absurd (clash (sym h))
+square-finite (inf false) h = absurd (clash (sym h))
+square-finite (fin true m e) h = modest (m * up e) (down e) (down-pos e) h
+square-finite (fin false m e) h = modest (m * up e) (down e) (down-pos e) h
+
+-- ---- the quotient of such a value by a length above 1e-15
+
+-- 1e-15
+abbrev short : ℕ
+short = 0x901d7cf73ab0b
+
+abs-finite : (x : Float) → finiteOf (absOf x) ≡ finiteOf x
+unfolding absOf finiteOf
+abs-finite nan = refl
+abs-finite (inf s) = refl
+abs-finite (fin s m e) = refl
+
+most-is : round binary64 false (2 ^ 613) 1 ≡ fin false 1 (pos 613)
+unfolding round
+most-is = refl
+
+below-finite : (x : Float) (m : ℕ) (e : ℤ) → Signed false x → T (le x (fin false m e)) → Finite x
+unfolding le lt eq finiteOf
+below-finite nan m e s t = absurd s
+below-finite (inf true) m e s t = absurd (clash s)
+below-finite (inf false) m e s t = absurd t
+below-finite (fin u n d) m e s t = refl
+
+or-false : (a b : Bool) → (a || b) ≡ false → a ≡ false
+or-false true b e = absurd (clash e)
+or-false false b e = refl
+
+not-le-lt : (x y : Float) → le x y ≡ false → lt x y ≡ false
+unfolding le
+not-le-lt x y e = or-false (lt x y) (eq x y) e
+
+bound : (a de dd n S : ℕ) → 0 < S → a ≤ 2 ^ 512 * de → S * dd ≤ n * 2 ^ 101 → a * dd * 1 ≤ 2 ^ 613 * (n * de)
+bound a de dd n S p h g =
+    le-trans (le-of-eq (mul-one (a * dd)))
+    (le-trans (mul-le-mul h (le-trans (grow dd S p) g)) (le-of-eq (regroup (2 ^ 512) de n (2 ^ 101))))
+  where
+    grow : (d S : ℕ) → 0 < S → d ≤ S * d
+    grow d S p = let q : 1 ≤ S = omega arith in le-trans (le-of-eq (sym (one-mul d))) (mul-le-mul-right d q)
+
+    regroup : (k d n j : ℕ) → k * d * (n * j) ≡ k * j * (n * d)
+    regroup k d n j = simp (mul-assoc, mul-comm, mul-left-comm) refl
+
+quotient-is : (s : Bool) (m : ℕ) (e : ℤ) (n : ℕ) (d : ℤ) → div binary64 (fin s m e) (fin false (suc n) d) ≡ round binary64 (not (Bool·beq s false)) (m * up e * down d) (suc n * up d * down e)
+unfolding div
+quotient-is s m e n d = cond-no _ _ _ (suc-not-zero n)
+
+rounded-finite : (s : Bool) (a c : ℕ) → 0 < c → a * 1 ≤ 2 ^ 613 * c → Finite (round binary64 s a c)
+rounded-finite s a c p h =
+    sym (abs-finite (round binary64 s a c))
+    ∙ ap finiteOf (abs-round s a c)
+    ∙ below-finite (round binary64 false a c) 1 (pos 613) (round-signed false a c)
+    (subst (λ (x : Float). T (le (round binary64 false a c) x)) most-is (round-mono binary64 a c (2 ^ 613) 1 p (pow-pos 0) h))
+
+quotient-finite : (x l : Float) → Modest x → T (positive l) → le l (fin false short (negsuc 100)) ≡ false → Finite (div binary64 x l)
+unfolding le lt
+quotient-finite x nan h p k = absurd p
+quotient-finite x (inf s) h p k = absurd p
+quotient-finite x (fin true n d) h p k = absurd p
+quotient-finite x (fin false zero d) h p k = absurd p
+quotient-finite nan (fin false (suc n) d) h p k = absurd h
+quotient-finite (inf s) (fin false (suc n) d) h p k = absurd h
+quotient-finite (fin s m e) (fin false (suc n) d) h p k =
+    ap finiteOf (quotient-is s m e n d)
+    ∙ rounded-finite (not (Bool·beq s false)) (m * up e * down d) (suc n * up d * down e) (mul-pos (mul-pos (zero-lt-suc n) (up-pos d)) (down-pos e))
+    (bound (m * up e) (down e) (down d) (suc n * up d) (short * 1) (omega arith) (le-of-lt h)
+    (nltb→le (suc n * up d * 2 ^ 101) (short * 1 * down d) (subst (λ (t : Bool). T (not t)) (sym (not-le-lt (fin false (suc n) d) (fin false short (negsuc 100)) k)) tt)))
+
+-- ---- the vector
+
+three : (a b c : Bool) → a ≡ true → b ≡ true → c ≡ true → (a && b && c) ≡ true
+three a b c p q r = rw (p, q, r)
+
+short-is : ofBits binary64 0x3cd203af9ee75616 ≡ fin false short (negsuc 100)
+unfolding ofBits
+short-is = refl
+
+divided-finite : (v : Vec3) → le (normOf v) (fin false short (negsuc 100)) ≡ false → Finite (normOf v) → finiteVecOf (divideOf v (normOf v)) ≡ true
+unfolding normOf dotOf divideOf finiteVecOf
+divided-finite v k f =
+    let xx = mul binary64 (v .x) (v .x) in
+    let yy = mul binary64 (v .y) (v .y) in
+    let zz = mul binary64 (v .z) (v .z) in
+    let l = sqrtOf (add binary64 (add binary64 xx yy) zz) in
+    let p = length-positive l short (negsuc 100) (omega arith) k f in
+    let outer = sum-of-finite (add binary64 xx yy) zz (root-of-finite (add binary64 (add binary64 xx yy) zz) f) in
+    let inner = sum-of-finite xx yy (outer .0) in
+    three (finiteOf (div binary64 (v .x) l)) (finiteOf (div binary64 (v .y) l)) (finiteOf (div binary64 (v .z) l))
+    (quotient-finite (v .x) l (square-finite (v .x) (inner .0)) p k)
+    (quotient-finite (v .y) l (square-finite (v .y) (inner .1)) p k)
+    (quotient-finite (v .z) l (square-finite (v .z) (outer .1)) p k)
+
+pub unit-finite : (v u : Vec3) → unitOf v ≡ some u → finiteVecOf u ≡ true
+unfolding unitOf
+unit-finite v u e = go (le l (ofBits binary64 0x3cd203af9ee75616)) (finiteOf l) refl refl e
+  where
+    l : Float
+    l = normOf v
+
+    go : (a b : Bool) → le l (ofBits binary64 0x3cd203af9ee75616) ≡ a → finiteOf l ≡ b → cond a none (cond b (some (divideOf v l)) none) ≡ some u → finiteVecOf u ≡ true
+    go true b p q h = absurd (Option·none-ne-some u h)
+    go false false p q h = absurd (Option·none-ne-some u h)
+    go false true p q h =
+        subst (λ (w : Vec3). finiteVecOf w ≡ true) (Option·some-injective (divideOf v l) u h)
+        (divided-finite v (subst (λ (x : Float). le l x ≡ false) short-is p) q)
+
+-- ---- the ray from o along v: only its origin, wavelength and power have to be looked at
+
+abbrev ray-of : Vec3 → Vec3 → Ray → Ray
+ray-of o u r = record { origin = o; direction = u; «wavelength_nm» = r .«wavelength_nm»; energy = r .energy }
+
+abbrev made-if : Bool → Bool → Bool → Ray → Option Ray
+made-if a b c q = cond a (cond b (cond c (some q) none) none) none
+
+choose : (a t b c : Bool) (q : Ray) → t ≡ true → madeOf (cond (a && t && b && c) (value q) (refusal 16)) ≡ made-if a b c q
+unfolding madeOf
+choose true t true true q e = rw e
+choose true t true false q e = rw e
+choose true t false c q e = rw e
+choose false t b c q e = refl
+
+from-made : (o v : Vec3) (r : Ray) (k : unit.UnitVector) (u : Vec3) → unitVectorOf k ≡ unitOf v → k ≡ unit.the-variants.Made u → rayFromOf o v r ≡ made-if (finiteVecOf o) (finiteOf (r .«wavelength_nm»)) (finiteOf (r .energy)) (ray-of o u r)
+unfolding rayFromOf rayByOf newRayOf finiteRayOf
+from-made o v r k u p e =
+    let is : unitOf v ≡ some u = sym p ∙ ap unitVectorOf e in
+    ap (rayByOf o r) is
+    ∙ choose (finiteVecOf o) (finiteVecOf u) (finiteOf (r .«wavelength_nm»)) (finiteOf (r .energy)) (ray-of o u r) (unit-finite v u is)
+
+pub ray-made : (o v : Vec3) (r : Ray) (k : unit.UnitVector) (u : Vec3) (a b c : Bool) → unitVectorOf k ≡ unitOf v → k ≡ unit.the-variants.Made u → a ≡ finiteVecOf o → a ≡ true → b ≡ finiteOf (r .«wavelength_nm») → b ≡ true → c ≡ finiteOf (r .energy) → c ≡ true → some (ray-of o u r) ≡ rayFromOf o v r
+ray-made o v r k u a b c p e fa ta fb tb fc tc = sym (from-made o v r k u p e ∙ rw (← fa, ← fb, ← fc, ta, tb, tc))
+
+pub no-origin : (o v : Vec3) (r : Ray) (k : unit.UnitVector) (u : Vec3) (a : Bool) → unitVectorOf k ≡ unitOf v → k ≡ unit.the-variants.Made u → a ≡ finiteVecOf o → a ≡ false → none ≡ rayFromOf o v r
+no-origin o v r k u a p e fa ta = sym (from-made o v r k u p e ∙ rw (← fa, ta))
+
+pub no-wavelength : (o v : Vec3) (r : Ray) (k : unit.UnitVector) (u : Vec3) (a b : Bool) → unitVectorOf k ≡ unitOf v → k ≡ unit.the-variants.Made u → a ≡ finiteVecOf o → a ≡ true → b ≡ finiteOf (r .«wavelength_nm») → b ≡ false → none ≡ rayFromOf o v r
+no-wavelength o v r k u a b p e fa ta fb tb = sym (from-made o v r k u p e ∙ rw (← fa, ← fb, ta, tb))
+
+pub no-power : (o v : Vec3) (r : Ray) (k : unit.UnitVector) (u : Vec3) (a b c : Bool) → unitVectorOf k ≡ unitOf v → k ≡ unit.the-variants.Made u → a ≡ finiteVecOf o → a ≡ true → b ≡ finiteOf (r .«wavelength_nm») → b ≡ true → c ≡ finiteOf (r .energy) → c ≡ false → none ≡ rayFromOf o v r
+no-power o v r k u a b c p e fa ta fb tb fc tc = sym (from-made o v r k u p e ∙ rw (← fa, ← fb, ← fc, ta, tb, tc))

@@ -1,0 +1,24 @@
+-- Rays that surely miss a shape by the signs of their coordinates. d is a direction of any length.
+use lib.Ieee.{Float, binary64, mul, lt}
+use mathlib.Core.Bool.{Bool, false, _&&_, _||_}
+use Rattle.doubles.specs.Doubles.{absOf}
+use Rattle.rays.specs.declared.vector.Vec3.{Vec3}
+use Rattle.geometry.specs.declared.PrimitiveGeometry.{PrimitiveGeometry}
+use Rattle.geometry.specs.declared.PrimitiveGeometry.the-variants.{Plane, Disk, Sphere, Cylinder, Box}
+use Rattle.geometry.specs.Hits.{#0}
+
+-- along one axis: away from 0
+unfoldable pub recedesOf : Float → Float → Bool
+recedesOf o d = lt #0 (mul binary64 o d)
+
+-- along one axis: away from 0, and from beyond the half size h
+unfoldable pub leavesOf : Float → Float → Float → Bool
+leavesOf o d h = recedesOf o d && lt h (absOf o)
+
+-- the shape lies behind the ray; false says nothing
+unfoldable pub behindOf : PrimitiveGeometry → Vec3 → Vec3 → Bool
+behindOf (Plane w h) o d = recedesOf (o .z) (d .z)
+behindOf (Disk outer inner) o d = recedesOf (o .z) (d .z)
+behindOf (Sphere radius) o d = false
+behindOf (Cylinder radius half) o d = false
+behindOf (Box hx hy hz) o d = leavesOf (o .x) (d .x) hx || (leavesOf (o .y) (d .y) hy || leavesOf (o .z) (d .z) hz)

@@ -1,0 +1,60 @@
+-- `scene::solids::approach_at` meets its contract. Assumes nothing.
+use borrow.Author.Tests.{le-leb, lt-leb}
+use Rattle.scene.specs.Closest.{approachedOf}
+use Rattle.scene.specs.Solids.{holds, solidAt}
+use borrow.Author.Needs.{needs}
+use Rattle.scene.proofs.solids.approach_at.Statement.{statement}
+use Rattle.scene.proofs.solids.approach_at.Tie as tie
+
+mul-shape : tie.Need-mul-shape
+mul-shape c = search needs
+
+mul-if1 : tie.Need-mul-if1
+mul-if1 c = search needs
+
+add-if1 : tie.Need-add-if1
+add-if1 c = search needs
+
+add-if2 : tie.Need-add-if2
+add-if2 c = search needs
+
+mul-if3 : tie.Need-mul-if3
+mul-if3 c = search needs
+
+shared-slice-read-if3 : tie.Need-shared-slice-read-if3
+shared-slice-read-if3 c = search needs
+
+approach-in-requires : tie.Need-approach-in-requires
+approach-in-requires c κs = search needs
+
+returns : tie.Need-returns
+unfolding approachedOf holds solidAt
+returns c = simp (le-leb _ _ (c .before .before .before .before .if1 .taken), le-leb _ _ (c .before .before .before .if2 .taken), le-leb _ _ (c .before .if3 .taken), ← c .approach-in .ensures)
+
+returns-2 : tie.Need-returns-2
+unfolding approachedOf holds solidAt
+returns-2 c = simp (le-leb _ _ (c .before .before .before .if1 .taken), le-leb _ _ (c .before .before .if2 .taken), lt-leb _ _ (c .if3 .left))
+
+returns-3 : tie.Need-returns-3
+unfolding approachedOf holds solidAt
+returns-3 c = simp (le-leb _ _ (c .before .if1 .taken), lt-leb _ _ (c .if2 .left))
+
+returns-4 : tie.Need-returns-4
+unfolding approachedOf holds solidAt
+returns-4 c = simp (lt-leb _ _ (c .if1 .left))
+
+pub approach-at-spec : {M : Type 1} → statement M
+approach-at-spec =
+    tie.close
+    (tie.spec
+    mul-shape
+    mul-if1
+    add-if1
+    add-if2
+    mul-if3
+    shared-slice-read-if3
+    approach-in-requires
+    returns
+    returns-2
+    returns-3
+    returns-4)
