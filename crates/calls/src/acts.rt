@@ -83,6 +83,7 @@ fn halved(
 // One hit.
 fn recorded(
     u: &[f64],
+    w: &[u32],
     flux: &mut [f64],
     hits: &mut [u32],
     places: &mut [f64],
@@ -97,7 +98,7 @@ fn recorded(
         places,
         tags,
         used,
-        kinds::hit(u),
+        kinds::hit(u, w),
     );
     let check = r.check;
     let back = r.detectors;
@@ -137,8 +138,76 @@ fn parted(
     a
 }
 
-// The tracings and the recording.
-fn written(
+// A filter into a work map; an answer of 9 where the part that it hands out has another length.
+fn filtered_in(
+    u: &[f64],
+    asked: u32,
+    map: &mut [f64],
+    flux: &[f64],
+    places: &[f64],
+    tags: &[u32],
+    ds: &[u64],
+    used: usize,
+) -> Answer {
+    let detectors = records::detectors(ds);
+    let asked = DetectorNo(asked);
+    let filter = RayPathFilter::numbered(drawn::up_to(u, 4, 4));
+    let n = map.len();
+    let r = filtering::refilter(detectors, asked, filter, flux, map, places, tags, used);
+    let part = filtering::filtered_part(detectors, asked, filter, flux, map, places, tags, used);
+    let check = r.check;
+    if part.len() == n {
+        return answers::of_check(check, 0, used);
+    }
+    answers::refused(9, used)
+}
+
+// The same into a map of the asked detector's pixels.
+fn filtered(
+    u: &[f64],
+    w: &[u32],
+    flux: &[f64],
+    places: &[f64],
+    tags: &[u32],
+    ds: &[u64],
+    used: usize,
+) -> Answer {
+    let mut map = [7.0f64; 9];
+    let asked = kinds::asked(u, w);
+    let n = laid::pixels_of(w, asked) as usize;
+    filtered_in(u, asked, &mut map[0..n], flux, places, tags, ds, used)
+}
+
+// The irradiance of a pixel.
+fn read(u: &[f64], w: &[u32], flux: &[f64], ds: &[u64], used: usize) -> Answer {
+    let asked = DetectorNo(kinds::asked(u, w));
+    let px = drawn::up_to(u, 4, 3);
+    let py = drawn::up_to(u, 5, 3);
+    match detectors::irradiance_at(records::detectors(ds), asked, flux, px, py) {
+        Reading::Value(_) => answers::passed(used),
+        Reading::Refused { error, place: _ } => answers::refused(error.number(), used),
+    }
+}
+
+// A filter or a reading.
+fn looked_up(
+    kind: u32,
+    u: &[f64],
+    w: &[u32],
+    flux: &[f64],
+    places: &[f64],
+    tags: &[u32],
+    ds: &[u64],
+    used: usize,
+) -> Answer {
+    if kind == 5 {
+        return filtered(u, w, flux, places, tags, ds, used);
+    }
+    read(u, w, flux, ds, used)
+}
+
+// A tracing: in two parts by one call, or in parts one by one, of which a whole batch is one.
+fn traced_as(
     kind: u32,
     u: &[f64],
     w: &[u32],
@@ -150,9 +219,6 @@ fn written(
     ds: &mut [u64],
     used: usize,
 ) -> Answer {
-    if kind == 3 {
-        return recorded(u, flux, hits, places, tags, ds, used);
-    }
     if kinds::is_halved(kind, u) {
         return halved(w, d, kinds::cut(u), flux, hits, places, tags, ds, used);
     }
@@ -171,56 +237,6 @@ fn written(
     )
 }
 
-// A filter into a work map; an answer of 9 where the part that it hands out has another length.
-fn filtered_in(
-    u: &[f64],
-    map: &mut [f64],
-    flux: &[f64],
-    places: &[f64],
-    tags: &[u32],
-    ds: &[u64],
-    used: usize,
-) -> Answer {
-    let detectors = records::detectors(ds);
-    let asked = DetectorNo(kinds::asked(u));
-    let filter = RayPathFilter::numbered(drawn::up_to(u, 4, 4));
-    let n = map.len();
-    let r = filtering::refilter(detectors, asked, filter, flux, map, places, tags, used);
-    let part = filtering::filtered_part(detectors, asked, filter, flux, map, places, tags, used);
-    let check = r.check;
-    if part.len() == n {
-        return answers::of_check(check, 0, used);
-    }
-    answers::refused(9, used)
-}
-
-// The same into a map of the asked detector's pixels.
-fn filtered(
-    u: &[f64],
-    w: &[u32],
-    d: &[f64],
-    flux: &[f64],
-    places: &[f64],
-    tags: &[u32],
-    ds: &[u64],
-    used: usize,
-) -> Answer {
-    let mut map = [7.0f64; 9];
-    let n = laid::pixels_of(w, d, kinds::asked(u));
-    filtered_in(u, &mut map[0..n], flux, places, tags, ds, used)
-}
-
-// The irradiance of a pixel.
-fn read(u: &[f64], flux: &[f64], ds: &[u64], used: usize) -> Answer {
-    let asked = DetectorNo(kinds::asked(u));
-    let px = drawn::up_to(u, 4, 3);
-    let py = drawn::up_to(u, 5, 3);
-    match detectors::irradiance_at(records::detectors(ds), asked, flux, px, py) {
-        Reading::Value(_) => answers::passed(used),
-        Reading::Refused { error, place: _ } => answers::refused(error.number(), used),
-    }
-}
-
 // One call of a kind, with the numbers u and the scene as its arguments.
 pub(crate) fn act(
     kind: u32,
@@ -234,11 +250,11 @@ pub(crate) fn act(
     ds: &mut [u64],
     used: usize,
 ) -> Answer {
-    if kind == 5 {
-        return filtered(u, w, d, flux, places, tags, ds, used);
+    if kind >= 5 {
+        return looked_up(kind, u, w, flux, places, tags, ds, used);
     }
-    if kind == 6 {
-        return read(u, flux, ds, used);
+    if kind == 3 {
+        return recorded(u, w, flux, hits, places, tags, ds, used);
     }
-    written(kind, u, w, d, flux, hits, places, tags, ds, used)
+    traced_as(kind, u, w, d, flux, hits, places, tags, ds, used)
 }

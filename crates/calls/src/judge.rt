@@ -1,6 +1,5 @@
 // Whether the answer of a call and the memory after it are what the book says, bit for bit.
 use crate::answers::Answer;
-use crate::laid;
 use crate::lists;
 use crate::pattern;
 use crate::records;
@@ -15,7 +14,7 @@ fn told(ok: bool, list: u32, call: u32, words: &[u8]) -> bool {
     io::write_all(1, b"list ");
     io::print_decimal(1, list as u64);
     io::write_all(1, b", call ");
-    io::print_decimal(1, call as u64);
+    io::print_decimal(1, call as u64 + 1);
     io::write_all(1, b": ");
     io::write_all(1, words);
     io::write_all(1, b"\n");
@@ -105,7 +104,7 @@ fn are_views(
     let mut sums = [0.0f64; 27];
     let mut counts = [0u32; 27];
     let mut totals = [0u64; 121];
-    records::put(&mut totals, laid::detectors(w, d));
+    records::fresh(&mut totals, w, d);
     sums::add_all(book, most(len), &mut sums, &mut counts, &mut totals);
     let a = told(are_doubles(flux, &sums), list, call, b"flux map");
     let b = told(are_wholes(hits, &counts), list, call, b"hits map");

@@ -7,6 +7,11 @@ use detector::DetectorNo;
 use memory::DetectorHit;
 ghost use Prim.Native.Nat.{_≤_};
 
+// How many calls a list has, by its own numbers u.
+pub(crate) fn how_many(u: &[f64]) -> u32 {
+    4 + drawn::up_to(u, 7, 6)
+}
+
 // The numbers of call k, among those of a list.
 pub(crate) fn numbers(u: &[f64], k: u32) -> &[f64] {
     lists::doubles_from(u, 200 + 16 * k as usize, 16)
@@ -38,9 +43,9 @@ pub(crate) fn is_tracing(kind: u32) -> bool {
     kind == 4
 }
 
-// The detector that a recording, a filter or a reading asks for; there are at most three.
-pub(crate) fn asked(u: &[f64]) -> u32 {
-    drawn::up_to(u, 3, 3)
+// The detector that a recording, a filter or a reading asks for: also one that is not there.
+pub(crate) fn asked(u: &[f64], w: &[u32]) -> u32 {
+    drawn::up_to(u, 3, lists::whole_at(w, 1))
 }
 
 // A flux that seldom is NaN.
@@ -52,13 +57,13 @@ fn flux(u: &[f64]) -> f64 {
 }
 
 // The hit of a recording.
-pub(crate) fn hit(u: &[f64]) -> DetectorHit {
+pub(crate) fn hit(u: &[f64], w: &[u32]) -> DetectorHit {
     DetectorHit {
         local_x: drawn::between(u, 6, -9.0, 9.0),
         local_y: drawn::between(u, 7, -9.0, 9.0),
         flux_watts: flux(u),
         wavelength_nm: drawn::between(u, 8, 400.0, 700.0),
-        detector: DetectorNo(asked(u)),
+        detector: DetectorNo(asked(u, w)),
         bounce_count: drawn::up_to(u, 9, 5),
         reflection_count: drawn::up_to(u, 10, 2),
         tir_count: drawn::up_to(u, 11, 2),

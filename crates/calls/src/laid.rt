@@ -5,7 +5,6 @@
 //      on 8 of each ray.
 use crate::lists;
 use detector::Detector2D;
-use detectors::Detectors;
 use material::OpticalMedium;
 use rays::Vec3;
 use turn::NonSeqTraceConfig;
@@ -79,12 +78,19 @@ fn vec_at(d: &[f64], i: usize) -> Vec3
     }
 }
 
-// Detector k, which has caught nothing.
-fn detector(w: &[u32], d: &[f64], k: usize) -> Detector2D
-    requires { ⌜ k ≤ 8 ⌝ }
+fn at_most_two(k: usize) -> usize
+    ensures { λ r. ⌜ r ≤ 2 ⌝ }
 {
-    let a = 176 + 11 * k;
-    let b = 24 + 2 * k;
+    if k <= 2 {
+        return k;
+    }
+    2
+}
+
+// Detector k of three, which has caught nothing; the third for a larger number.
+pub(crate) fn detector(w: &[u32], d: &[f64], k: usize) -> Detector2D {
+    let a = 176 + 11 * at_most_two(k);
+    let b = 24 + 2 * at_most_two(k);
     Detector2D {
         center: vec_at(d, a),
         normal: vec_at(d, a + 3),
@@ -98,29 +104,26 @@ fn detector(w: &[u32], d: &[f64], k: usize) -> Detector2D
     }
 }
 
-// The detectors before the first call. The places behind them hold the third.
-pub(crate) fn detectors(w: &[u32], d: &[f64]) -> Detectors {
-    let a = detector(w, d, 0);
-    let b = detector(w, d, 1);
-    let c = detector(w, d, 2);
-    Detectors {
-        list: [a, b, c, c, c, c, c, c],
-        count: lists::whole_at(w, 1),
+fn product(a: usize, b: usize) -> u32
+    requires { ⌜ b ≤ 3 ⌝ }
+    ensures { λ r. ⌜ r ≤ 9 ⌝ }
+{
+    if a == 1 {
+        return b as u32;
     }
+    if a == 2 {
+        return (b + b) as u32;
+    }
+    (b + b + b) as u32
 }
 
 // How many pixels detector k has; none for one that is not there.
-pub(crate) fn pixels_of(w: &[u32], d: &[f64], k: u32) -> usize
+pub(crate) fn pixels_of(w: &[u32], k: u32) -> u32
     ensures { λ r. ⌜ r ≤ 9 ⌝ }
 {
-    if k < 3 {
-        if k < lists::whole_at(w, 1) {
-            let e = detector(w, d, k as usize);
-            let n = e.pixels();
-            if n <= 9 {
-                return n;
-            }
-        }
+    if k < lists::whole_at(w, 1) {
+        let i = 24 + 2 * k as usize;
+        return product(lists::few(w, i, 3), lists::few(w, i + 1, 3));
     }
     0
 }

@@ -148,7 +148,7 @@ fn medium(u: &[f64]) -> u32 {
 }
 
 fn index(u: &[f64]) -> f64 {
-    if drawn::once_in(u, 10, 16) {
+    if drawn::once_in(u, 10, 8) {
         return 0.5;
     }
     drawn::between(u, 11, 1.1, 2.0)
@@ -291,13 +291,6 @@ pub(crate) fn scene(u: &[f64], w: &mut [u32], d: &mut [f64]) {
     four_solids(u, w, d);
     three_detectors(u, w, d);
     eight_rays(u, w, d);
-    let ds = laid::detectors(w, d);
-    lists::put_whole(w, 6, small(ds.all_pixels()));
-}
-
-fn small(n: usize) -> u32 {
-    if n <= 27 {
-        return n as u32;
-    }
-    27
+    let n = laid::pixels_of(w, 0) + laid::pixels_of(w, 1) + laid::pixels_of(w, 2);
+    lists::put_whole(w, 6, n);
 }

@@ -119,7 +119,7 @@ fn calls(
     t: &mut [u32],
 ) {
     let mut book = [0u64; 768];
-    let n = 4 + drawn::up_to(u, 7, 6);
+    let n = kinds::how_many(u);
     let mut c = tally::start();
     let mut all = true;
     let mut k: u32 = 0;
@@ -158,7 +158,7 @@ fn run_in(list: u32, u: &[f64], w: &[u32], d: &[f64], t: &mut [u32]) {
     let k = 4 * laid::room(w);
     pattern::fill_doubles(&mut places);
     pattern::fill_wholes(&mut tags);
-    records::put(&mut ds, laid::detectors(w, d));
+    records::fresh(&mut ds, w, d);
     calls(
         list,
         u,

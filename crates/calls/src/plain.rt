@@ -75,7 +75,7 @@ fn traced_in(
 ) -> Answer {
     let mut ds = [0u64; 121];
     let n = lists::whole_at(w, 2);
-    records::put(&mut ds, laid::detectors(w, d));
+    records::fresh(&mut ds, w, d);
     let a = acts::traced(w, d, 0, n, flux, hits, places, tags, &mut ds, 0);
     append_hits(book, len, most(a.used), places, tags);
     Answer {
@@ -108,7 +108,7 @@ fn traced(w: &[u32], d: &[f64], book: &mut [u64], len: usize) -> Answer {
 
 // A hit on a detector that is there (else 4), if there is room for it (else 12).
 fn recorded(u: &[f64], w: &[u32], book: &mut [u64], len: usize) -> Answer {
-    let h = kinds::hit(u);
+    let h = kinds::hit(u, w);
     if lists::whole_at(w, 1) <= h.detector.0 {
         return answers::refused(4, len);
     }
@@ -128,7 +128,7 @@ fn recorded(u: &[f64], w: &[u32], book: &mut [u64], len: usize) -> Answer {
 
 // A filter or a reading leaves the book; it is refused if its detector is not there.
 fn asked(u: &[f64], w: &[u32], len: usize) -> Answer {
-    if lists::whole_at(w, 1) <= kinds::asked(u) {
+    if lists::whole_at(w, 1) <= kinds::asked(u, w) {
         return answers::refused(4, len);
     }
     answers::passed(len)

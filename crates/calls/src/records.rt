@@ -1,4 +1,5 @@
 // The detectors' records as numbers: 15 of each of 8, doubles by their bits, and how many count.
+use crate::laid;
 use crate::lists;
 use detector::Detector2D;
 use detectors::Detectors;
@@ -42,16 +43,16 @@ pub(crate) fn record(s: &[u64], k: usize) -> Detector2D
 }
 
 pub(crate) fn detectors(s: &[u64]) -> Detectors {
-    let a = record(s, 0);
-    let b = record(s, 1);
-    let c = record(s, 2);
-    let d = record(s, 3);
-    let e = record(s, 4);
-    let f = record(s, 5);
-    let g = record(s, 6);
-    let h = record(s, 7);
+    let first = record(s, 0);
+    let mut list = [first; 8];
+    let mut i: usize = 1;
+    while i < 8 {
+        let d = record(s, i);
+        list[i] = d;
+        i += 1;
+    }
     Detectors {
-        list: [a, b, c, d, e, f, g, h],
+        list,
         count: low(lists::bits_at(s, 120)),
     }
 }
@@ -94,6 +95,16 @@ pub(crate) fn put(s: &mut [u64], ds: Detectors) {
     while i < 8 {
         let d = list[i];
         put_record(s, i, d);
+        i += 1;
+    }
+}
+
+// The records before the first call: the third detector also in the places behind it.
+pub(crate) fn fresh(s: &mut [u64], w: &[u32], d: &[f64]) {
+    lists::put_bits(s, 120, lists::whole_at(w, 1) as u64);
+    let mut i: usize = 0;
+    while i < 8 {
+        put_record(s, i, laid::detector(w, d, i));
         i += 1;
     }
 }

@@ -1,7 +1,7 @@
 // How many calls of each kind there are and how many of them agree, what they are refused by, and what else
 // came up.
-//   0 lists, 1 those that agree; from 2 on the calls by kind, from 9 on those that agree; from 16 on the calls
-//   by refusal, 0 for none; from 34 on see `tell_more`.
+//   0 lists, from 1 on calls by their kind; from 8 on those of them that agree; from 16 on calls by their
+//   refusal, 0 for none; from 34 on what `tell_all` names.
 use crate::kinds;
 use crate::laid;
 use crate::lists;
@@ -63,15 +63,22 @@ fn is_kept(c: Course, used: usize) -> bool {
 
 // A recording that passed, between two tracings; u are the numbers of the list.
 fn is_between(c: Course, u: &[f64], k: u32) -> bool {
-    let before = kinds::kind(kinds::numbers(u, std::num::wrapping_sub_u32(k, 1)));
-    let after = kinds::kind(kinds::numbers(u, std::num::wrapping_add_u32(k, 1)));
+    let next = std::num::wrapping_add_u32(k, 1);
+    if k == 0 {
+        return false;
+    }
+    if kinds::how_many(u) <= next {
+        return false;
+    }
+    let before = kinds::kind(kinds::numbers(u, k - 1));
+    let after = kinds::kind(kinds::numbers(u, next));
     let tracings = both(before <= 2, after <= 2);
     both(tracings, both(c.kind == 3, c.number == 0))
 }
 
 fn count_kind(t: &mut [u32], c: Course) {
     let kind = (c.kind % 7) as usize;
-    add(t, 2 + kind, 1);
+    add(t, 1 + kind, 1);
     add(t, 9 + kind, one_if(c.ok));
     add(t, 16 + (c.number % 18) as usize, 1);
 }
@@ -95,7 +102,7 @@ pub(crate) fn count_call(
 // One list more, with so many hits at its end.
 pub(crate) fn count_list(t: &mut [u32], w: &[u32], used: usize, ok: bool) {
     add(t, 0, 1);
-    add(t, 1, one_if(ok));
+    add(t, 8, one_if(ok));
     add(t, 37, one_if(used == laid::room(w)));
     if used <= 96 {
         add(t, 38, used as u32);
@@ -109,25 +116,22 @@ fn tell(words: &[u8], t: &[u32], k: usize) {
     io::write_all(1, b"\n");
 }
 
-// So many of so many.
-fn tell_of(words: &[u8], t: &[u32], agree: usize, seen: usize) {
-    io::write_all(1, words);
-    io::write_all(1, b": ");
-    io::print_decimal(1, lists::whole_at(t, agree) as u64);
-    io::write_all(1, b" of ");
-    io::print_decimal(1, lists::whole_at(t, seen) as u64);
-    io::write_all(1, b"\n");
+// So many of so many of each kind, by the names in a list with commas.
+fn tell_kinds(names: &[u8], t: &[u32]) {
+    let mut k: usize = 0;
+    while k < 8 {
+        io::write_all(1, fields::part(names, b',', k));
+        io::write_all(1, b": ");
+        io::print_decimal(1, lists::whole_at(t, 8 + k) as u64);
+        tell_seen(t, k);
+        k += 1;
+    }
 }
 
-fn tell_kinds(t: &[u32]) {
-    tell_of(b"lists", t, 1, 0);
-    tell_of(b"batches whole", t, 9, 2);
-    tell_of(b"batches in parts", t, 10, 3);
-    tell_of(b"batches in two by one call", t, 11, 4);
-    tell_of(b"recordings", t, 12, 5);
-    tell_of(b"tracings refused before their run", t, 13, 6);
-    tell_of(b"filters", t, 14, 7);
-    tell_of(b"readings", t, 15, 8);
+fn tell_seen(t: &[u32], k: usize) {
+    io::write_all(1, b" of ");
+    io::print_decimal(1, lists::whole_at(t, k) as u64);
+    io::write_all(1, b"\n");
 }
 
 // Of each refusal that came up.
@@ -143,17 +147,24 @@ fn tell_refusals(t: &[u32]) {
     }
 }
 
-fn tell_more(t: &[u32]) {
-    tell(b"batches in parts, refused after a part that passed", t, 34);
-    tell(b"tracings refused in their run that kept hits", t, 35);
-    tell(b"recordings between two tracings", t, 36);
-    tell(b"lists that ended with a full hit list", t, 37);
-    tell(b"hits", t, 38);
+// What else came up, by the names in a list with commas.
+fn tell_more(names: &[u8], t: &[u32]) {
+    let mut k: usize = 0;
+    while k < 5 {
+        tell(fields::part(names, b',', k), t, 34 + k);
+        k += 1;
+    }
 }
 
 pub(crate) fn tell_all(t: &[u32]) {
-    tell_kinds(t);
+    tell_kinds(
+        b"lists,batches whole,batches in parts,batches in two by one call,recordings,tracings refused before their run,filters,readings",
+        t,
+    );
     tell(b"calls not refused", t, 16);
     tell_refusals(t);
-    tell_more(t);
+    tell_more(
+        b"batches in parts refused after a part that passed,tracings refused in their run that kept hits,recordings between two tracings,lists that ended with a full hit list,hits",
+        t,
+    );
 }

@@ -12,11 +12,8 @@ Inv-loop list u w d flux₀ hits₀ places₀ tags₀ ds₀ t₀ book₀ n c₀ 
 abbrev μ-loop : tie.MeasureT-loop
 μ-loop list u w d flux₀ hits₀ places₀ tags₀ ds₀ t₀ book₀ n c₀ all₀ k₀ flux hits places tags ds t book c all k = n - k
 
-up-to-requires : tie.Need-up-to-requires Inv-loop μ-loop
-up-to-requires c κs = search needs
-
-add-n : tie.Need-add-n Inv-loop μ-loop
-add-n c = search needs
+how-many-requires : tie.Need-how-many-requires Inv-loop μ-loop
+how-many-requires c κs = search needs
 
 start-requires : tie.Need-start-requires Inv-loop μ-loop
 start-requires c κs = search needs
@@ -72,8 +69,7 @@ calls-spec =
     (tie.spec
     Inv-loop
     μ-loop
-    up-to-requires
-    add-n
+    how-many-requires
     start-requires
     loop-holds
     slice-aggregate-call
