@@ -9,7 +9,8 @@ use lib.Ieee.{Float, binary64, ofBits}
 use borrow.Author.Tests.{lt-ltb, le-ltb}
 use Rattle.fields.specs.Number.{Read, number, malformed}
 use Rattle.scene_text.specs.Cells.{Values, values, noValues, badValues, joined, doubleCell, wholeCell}
-use Rattle.scene_text.specs.Tables.{Filled, filled, nextAt, putAll, Table, table, put}
+use Rattle.scene_text.specs.Tables.{Filled, filled, nextAt, putAll}
+use Rattle.scene_text.specs.Steps.{Table, table, put}
 
 pub put-in : {A : Type 0} (l : List A) (p : ℕ) (x : A) → p < length l → filled (set l p x) (p + 1) ≡ putAll l p (x ∷ [])
 unfolding putAll nextAt

@@ -12,7 +12,8 @@ use Rattle.fields.specs.declared.number.ReadWhole.{ReadWhole}
 use Rattle.fields.specs.declared.number.ReadWhole.the-variants as ReadWhole'
 use Rattle.fields.proofs.Parts.{parts-past, parts-in, later-after, end-part}
 use Rattle.scene_text.specs.Cells.{mediaParts, oneMore, isNumber, countFrom, numberOr0, mediaFrom, mediaCell, mediaOf}
-use Rattle.scene_text.specs.Tables.{Filled, filled, putAll, Table, table, put}
+use Rattle.scene_text.specs.Tables.{Filled, filled, putAll}
+use Rattle.scene_text.specs.Steps.{Table, table, put}
 use Rattle.scene_text.proofs.Filling.{put-turn, put-bad}
 
 pub start-dash : (f : List ℕ) → isByteOf f 45 ≡ true → partsAt 44 f (length f + 1) ≡ mediaParts f

@@ -14,8 +14,9 @@ use Rattle.fields.proofs.Parts.{parts-past, parts-in, later-after}
 use Rattle.scene_text.specs.Names.{ended}
 use Rattle.scene_text.specs.Cells.{Values, noValues, badValues, joined}
 use Rattle.scene_text.specs.Lines.{isNil, lineOf}
-use Rattle.scene_text.specs.Tables.{Table, table, putAll, put}
-use Rattle.scene_text.specs.Blocks.{sameOf, Block, block, over, stopped, lineThen, oneLine, endsWell, linesTo, Reading, reading, onto, restAt, comesTo}
+use Rattle.scene_text.specs.Tables.{putAll}
+use Rattle.scene_text.specs.Blocks.{sameOf, Block, block, over, stopped, lineThen, oneLine, endsWell, linesTo}
+use Rattle.scene_text.specs.Steps.{Table, table, put, Reading, reading, onto, restAt, comesTo}
 use Rattle.scene_text.proofs.Filling.{put-ok, put-any, put-then}
 
 -- ---- the first line of a text

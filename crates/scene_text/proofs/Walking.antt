@@ -15,7 +15,8 @@ use Rattle.fields.specs.Split.{before, endOf}
 use Rattle.fields.proofs.Parts.{end-part}
 use Rattle.scene_text.specs.Cells.{Values, noValues, badValues, joined, cellOf}
 use Rattle.scene_text.specs.Lines.{isNil, has, behind, lineOf}
-use Rattle.scene_text.specs.Tables.{Table, table, putAll, put, lineFrom}
+use Rattle.scene_text.specs.Tables.{putAll}
+use Rattle.scene_text.specs.Steps.{Table, table, put, lineFrom}
 use Rattle.scene_text.proofs.Filling.{put-ok, put-any, put-then, put-stop}
 
 pick : (o : Bool) (x y z : Table) → (o ≡ true → x ≡ z) → (o ≡ false → y ≡ z) → cond o x y ≡ z

@@ -50,7 +50,11 @@ tally b n i j k = record { ok = b; line = n; solids = i; detectors = j; rays = k
 unfoldable pub tallyOf : Contents → Tally
 tallyOf c = tally (c .rays .ok) (c .rays .line) (c .solids .rows) (c .detectors .rows) (c .rays .rows)
 
--- the lent slices: doubles and whole numbers of the run, the solids, the detectors, the rays
+-- The lent slices, doubles and whole numbers of each block in the text's order:
+-- of the run 7 (threshold, a to f) and 3 (bounces, filter, ambient);
+-- of a solid 42 (p, q, r, rho, a to f, m, w) and 4 (shape, active, finish, medium);
+-- of a detector 11 (cx to height) and 2 (resx, resy);
+-- of a ray 8 (ox to power) and 10 (bounce, number of media, eight media)
 pub record Slices : Type 0 where
   pub run : List Float
   pub runs : List ℕ
