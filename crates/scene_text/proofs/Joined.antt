@@ -6,6 +6,7 @@ use Prim.Native.Nat.{ℕ, zero, suc, _+_, _-_, _≤_, _<_}
 use native.Mathlib.Omega.{arith}
 use lib.ListN.{length, take, drop}
 use lib.Ieee.{Float}
+use borrow.Author.Tests.{lt-ltb, le-ltb}
 use Rattle.fields.specs.Split.{before, later, split, endOf, partsAt, isByteOf}
 use Rattle.fields.specs.Number.{Read, number, malformed, wholeOf, readWholeOf}
 use Rattle.fields.specs.declared.number.ReadWhole.{ReadWhole}
@@ -15,6 +16,14 @@ use Rattle.scene_text.specs.Cells.{mediaParts, oneMore, isNumber, countF
 use Rattle.scene_text.specs.Tables.{Filled, filled, putAll}
 use Rattle.scene_text.specs.Steps.{Table, table, put}
 use Rattle.scene_text.proofs.Filling.{put-turn, put-bad}
+
+pub more-is : (n : ℕ) → n < 9 → n + 1 ≡ oneMore n
+unfolding oneMore
+more-is n h = simp (lt-ltb _ _ h)
+
+pub most-is : (n : ℕ) → 9 ≤ n → n ≡ oneMore n
+unfolding oneMore
+most-is n h = simp (le-ltb _ _ h)
 
 pub start-dash : (f : List ℕ) → isByteOf f 45 ≡ true → partsAt 44 f (length f + 1) ≡ mediaParts f
 unfolding mediaParts

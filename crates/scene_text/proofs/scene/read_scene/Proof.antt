@@ -1,4 +1,5 @@
 -- `scene_text::scene::read_scene` meets its contract. Assumes nothing.
+use native.Mathlib.Omega.{arith}
 use Rattle.scene_text.specs.Scene.{slices}
 use Rattle.scene_text.proofs.Gathering.{scene-long, scene-refused, scene-filled}
 use borrow.Author.Tests.{lt-ltb, le-ltb}
@@ -12,7 +13,7 @@ refused-requires c κs = search needs
 returns : tie.Need-returns
 returns c =
     let a = c .before .before .before .before .before .before .before .before .before .before .before .args in
-    scene-long _ (slices (a .run .now) (a .runs .now) (a .solids .now) (a .tags .now) (a .detectors .now) (a .sizes .now) (a .rays .now) (a .marks .now)) _ _ _ _ (c .before .if1 .taken) (c .refused .ensures)
+    scene-long _ (slices (a .run .now) (a .runs .now) (a .solids .now) (a .tags .now) (a .detectors .now) (a .sizes .now) (a .rays .now) (a .marks .now)) _ _ _ _ (omega (arith, c .before .if1 .taken)) (c .refused .ensures)
 
 check-text-requires : tie.Need-check-text-requires
 check-text-requires c κs = search needs
@@ -47,7 +48,7 @@ same-length-8 c = search needs
 returns-2 : tie.Need-returns-2
 returns-2 c =
     let a = c .before .before .before .before .before .before .before .before .before .before .before .before .before .before .before .before .before .before .before .before .before .before .before .before .before .before .before .before .before .before .before .before .before .before .before .before .before .args in
-    scene-filled _ (slices (a .run .now) (a .runs .now) (a .solids .now) (a .tags .now) (a .detectors .now) (a .sizes .now) (a .rays .now) (a .marks .now)) _ _ _ _ _ _ (c .before .before .before .before .before .before .before .before .before .before .before .before .before .before .before .before .before .before .before .before .before .before .before .before .before .before .before .if1 .left) (c .before .before .before .before .before .before .before .before .before .before .before .before .before .before .before .before .before .before .before .before .before .before .before .before .before .before .check-text .ensures) (search needs) (c .before .before .before .before .before .before .before .before .before .before .before .before .before .before .before .before .read-blocks .ensures .1)
+    scene-filled _ (slices (a .run .now) (a .runs .now) (a .solids .now) (a .tags .now) (a .detectors .now) (a .sizes .now) (a .rays .now) (a .marks .now)) _ _ _ _ _ _ (omega (arith, c .before .before .before .before .before .before .before .before .before .before .before .before .before .before .before .before .before .before .before .before .before .before .before .before .before .before .before .if1 .left)) (c .before .before .before .before .before .before .before .before .before .before .before .before .before .before .before .before .before .before .before .before .before .before .before .before .before .before .check-text .ensures) (search needs) (c .before .before .before .before .before .before .before .before .before .before .before .before .before .before .before .before .read-blocks .ensures .1)
 
 refused-requires-2 : tie.Need-refused-requires-2
 refused-requires-2 c κs = search needs
@@ -55,7 +56,7 @@ refused-requires-2 c κs = search needs
 returns-3 : tie.Need-returns-3
 returns-3 c =
     let a = c .before .before .before .before .before .before .before .before .before .before .before .before .before .args in
-    scene-refused _ (slices (a .run .now) (a .runs .now) (a .solids .now) (a .tags .now) (a .detectors .now) (a .sizes .now) (a .rays .now) (a .marks .now)) _ _ _ _ _ _ _ _ _ (c .before .before .before .if1 .left) (c .before .before .check-text .ensures) (search needs) (c .refused2 .ensures)
+    scene-refused _ (slices (a .run .now) (a .runs .now) (a .solids .now) (a .tags .now) (a .detectors .now) (a .sizes .now) (a .rays .now) (a .marks .now)) _ _ _ _ _ _ _ _ _ (omega (arith, c .before .before .before .if1 .left)) (c .before .before .check-text .ensures) (search needs) (c .refused2 .ensures)
 
 pub read-scene-spec : {M : Type 1} → statement M
 read-scene-spec =
