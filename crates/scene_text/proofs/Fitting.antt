@@ -1,13 +1,12 @@
 -- Values that a slice has room for stand at its start, and behind them what stood there before. Assumes nothing.
-use mathlib.Core.Path.{_≡_, refl, sym, ap, _∙_}
+use mathlib.Core.Path.{_≡_, refl, ap, _∙_}
 use mathlib.Core.List.{List, [], _∷_, _++_}
-use mathlib.Core.Bool.{Bool, true, false, cond}
-use Prim.Native.Nat.{ℕ, zero, suc, _+_, _≤_, _<_}
+use Prim.Native.Nat.{ℕ, _+_, _≤_, _<_}
 use native.Mathlib.Nat.{lt-irrefl}
 use native.Mathlib.Omega.{arith}
 use lib.ListN.{length, drop, set}
 use borrow.Author.Tests.{lt-ltb}
-use Rattle.scene_text.specs.Tables.{Filled, filled, nextAt, putAll}
+use Rattle.scene_text.specs.Tables.{nextAt, putAll}
 
 set-at : {A : Type 0} (a : List A) (y x : A) (l : List A) → set (a ++ (y ∷ l)) (length a) x ≡ (a ++ (x ∷ [])) ++ l
 set-at [] y x l = refl

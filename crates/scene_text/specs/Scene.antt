@@ -1,15 +1,14 @@
 -- The scene text, and what reading it answers and leaves in the lent slices.
 use Prim.Native.Nat.{ℕ}
 use mathlib.Core.List.{List, []}
-use mathlib.Core.Bool.{Bool, true, false, cond}
+use mathlib.Core.Bool.{Bool, cond}
 use lib.Dec.{ltb}
 use lib.ListN.{length}
 use lib.Ieee.{Float}
 use Rattle.error.specs.Refusals.{Checked, passed, refusedAt}
 use Rattle.fields.specs.Split.{split}
 use Rattle.scene_text.specs.Names.{runNames, runForm, solidNames, solidForm, detectorNames, detectorForm, rayNames, rayForm}
-use Rattle.scene_text.specs.Cells.{Values}
-use Rattle.scene_text.specs.Tables.{Filled, putAll}
+use Rattle.scene_text.specs.Tables.{putAll}
 use Rattle.scene_text.specs.Blocks.{Block, namesAt, oneLine, linesTo}
 
 -- The four blocks. The last one is well formed if all are; its line is the first bad or missing one else.

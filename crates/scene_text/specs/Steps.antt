@@ -7,7 +7,7 @@ use lib.Ieee.{Float}
 use Rattle.fields.specs.Split.{split}
 use Rattle.scene_text.specs.Cells.{Values}
 use Rattle.scene_text.specs.Lines.{lineOf}
-use Rattle.scene_text.specs.Tables.{Filled, putAll}
+use Rattle.scene_text.specs.Tables.{putAll}
 use Rattle.scene_text.specs.Blocks.{Block, linesTo}
 
 -- a slice of doubles and one of whole numbers, and whether all was well formed so far

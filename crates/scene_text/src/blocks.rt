@@ -2,8 +2,7 @@
 use crate::rows::read_row;
 ghost use mathlib.Core.Path.{_≡_};
 ghost use mathlib.Core.Bool.{true};
-ghost use mathlib.Core.List.{List, [], _∷_};
-ghost use Prim.Native.Nat.{ℕ, _+_, _≤_, _<_};
+ghost use Prim.Native.Nat.{_+_, _≤_, _<_};
 ghost use lib.ListN.{length};
 ghost use Rattle.fields.specs.Split.{endOf};
 ghost use Rattle.scene_text.specs.Blocks.{sameOf, namesAt, oneLine, endsWell, linesTo};

@@ -4,7 +4,7 @@ use fields::ReadBits;
 use fields::ReadWhole;
 ghost use mathlib.Core.Path.{_≡_};
 ghost use mathlib.Core.Bool.{true};
-ghost use mathlib.Core.List.{List, [], _∷_};
+ghost use mathlib.Core.List.{[], _∷_};
 ghost use Prim.Native.Nat.{_-_};
 ghost use Rattle.fields.specs.Number.{bitsOf, wholeOf, readWholeOf};
 ghost use Rattle.scene_text.specs.Cells.{doubleCell, wholeCell, below, filterOf, numberAs, cellOf};
