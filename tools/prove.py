@@ -64,7 +64,7 @@ def as_test(kind, x, q):
 
 
 def facts(path):
-    """For each need the facts on the way there, in the code's order: (thing, kind, term)."""
+    """For each need the facts on the way there, in the code's order, and first what is required: (thing, kind, term)."""
     recs, text, needs = records(path)
     out = {}
     for n, r in needs.items():
@@ -84,6 +84,8 @@ def facts(path):
                     fs.append((f, 'ensures', '%s .%s .ensures' % (p, f)))
             r = recs[r]['before']
             p += ' .before'
+        if 'pre' in recs.get(r, {}):
+            fs.append(('pre', 'pre', p + ' .pre'))
         out[n] = list(reversed(fs))
     return out
 

@@ -3,14 +3,14 @@ use Prim.Native.Nat.{ℕ, _≤_}
 use Prim.Native.String.{String}
 use mathlib.Core.Path.{_≡_, refl, ap, _∙_}
 use mathlib.Core.List.{List, [], _∷_, _++_}
-use mathlib.Core.Bool.{Bool, true, false}
+use mathlib.Core.Bool.{true, false}
 use lib.Ieee.{Float, binary64, ofBits}
 use lib.ListN.{length, replicate}
 use borrow.Author.Tests.{ltb-false}
 use Rattle.fields.specs.Split.{before, later, split, isByteOf}
 use Rattle.fields.specs.Number.{digitOf, isHex, hexPad, bitsOf, isDecimal, decimalFrom, ledBy, wholeOf}
 use Rattle.scene_text.specs.Names.{bytesOf, ended, runNames, runForm, solidNames, solidForm, detectorNames, detectorForm, rayNames, rayForm}
-use Rattle.scene_text.specs.Cells.{values, joined, doubleCell, wholeCell, below, filterOf, numberAs, mediaParts, oneMore, isNumber, countFrom, numberOr0, mediaFrom, mediaCell, mediaOf, cellOf}
+use Rattle.scene_text.specs.Cells.{values, joined, doubleCell, wholeCell, below, filterOf, numberAs, mediaParts, countFrom, mediaFrom, mediaCell, mediaOf, cellOf}
 use Rattle.scene_text.specs.Lines.{isNil, has, behind, lineOf}
 use Rattle.scene_text.specs.Blocks.{sameOf, lineThen, oneLine, endsWell, linesTo, namesAt}
 use Rattle.scene_text.specs.Scene.{runOf, contentsOf, Tally, tally, tallyOf, Slices, filledWith, refused, answerOf, sceneOf}

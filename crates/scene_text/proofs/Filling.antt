@@ -1,15 +1,16 @@
 -- Laws of values that are put into slices. Assumes nothing.
-use mathlib.Core.Path.{_≡_, refl, sym, ap, _∙_}
+use mathlib.Core.Path.{_≡_, refl, ap, _∙_}
 use mathlib.Core.List.{List, [], _∷_, _++_}
-use mathlib.Core.Bool.{Bool, true, false, cond}
-use Prim.Native.Nat.{ℕ, zero, suc, _+_, _-_, _≤_, _<_}
+use mathlib.Core.Bool.{Bool, true, false}
+use Prim.Native.Nat.{ℕ, _+_, _-_, _≤_, _<_}
 use lib.ListN.{length, set}
 use lib.Seq.{set-out}
 use lib.Ieee.{Float, binary64, ofBits}
 use borrow.Author.Tests.{lt-ltb, le-ltb}
 use Rattle.fields.specs.Number.{Read, number, malformed}
 use Rattle.scene_text.specs.Cells.{Values, values, noValues, badValues, joined, doubleCell, wholeCell}
-use Rattle.scene_text.specs.Tables.{Filled, filled, nextAt, putAll, Table, table, put}
+use Rattle.scene_text.specs.Tables.{Filled, filled, nextAt, putAll}
+use Rattle.scene_text.specs.Steps.{Table, table, put}
 
 pub put-in : {A : Type 0} (l : List A) (p : ℕ) (x : A) → p < length l → filled (set l p x) (p + 1) ≡ putAll l p (x ∷ [])
 unfolding putAll nextAt
@@ -34,14 +35,6 @@ put-turn {A = A} l l2 p p2 x t z e f = ap (λ (o : Filled A). putAll (o .list) (
 pub put-ok : (a : Values) (t : Table) → put a t .ok ≡ a .ok
 unfolding put
 put-ok a t = refl
-
-pub put-none : (t : Table) → put noValues t ≡ table true (t .doubles) (t .nd) (t .wholes) (t .nw)
-unfolding put putAll
-put-none t = refl
-
-pub put-bad : (t : Table) → put badValues t ≡ table false (t .doubles) (t .nd) (t .wholes) (t .nw)
-unfolding put putAll
-put-bad t = refl
 
 -- whether all was well formed before does not matter
 pub put-any : (v : Values) (o : Bool) (d : List Float) (nd : ℕ) (w : List ℕ) (nw : ℕ) → put v (table true d nd w nw) ≡ put v (table o d nd w nw)

@@ -1,8 +1,8 @@
 -- Laws of the four blocks together. Assumes nothing.
-use mathlib.Core.Path.{_≡_, refl, sym, ap, _∙_}
-use mathlib.Core.List.{List, [], _∷_}
-use mathlib.Core.Bool.{Bool, true, false, cond}
-use Prim.Native.Nat.{ℕ, _+_, _≤_, _<_}
+use mathlib.Core.Path.{_≡_, sym, ap, _∙_}
+use mathlib.Core.List.{List, []}
+use mathlib.Core.Bool.{Bool, true, false}
+use Prim.Native.Nat.{ℕ, _≤_, _<_}
 use native.Mathlib.Nat.{zero-add}
 use lib.ListN.{length}
 use lib.Ieee.{Float}
@@ -10,9 +10,9 @@ use borrow.Author.Tests.{lt-ltb, le-ltb}
 use Rattle.error.specs.Refusals.{Checked, passed, refusedAt}
 use Rattle.fields.specs.Split.{split}
 use Rattle.scene_text.specs.Names.{runNames, runForm, solidNames, solidForm, detectorNames, detectorForm, rayNames, rayForm}
-use Rattle.scene_text.specs.Tables.{Filled, putAll, Table, table, put}
-use Rattle.scene_text.specs.Blocks.{Block, namesAt, oneLine, linesTo, Reading, reading, onto}
-use Rattle.scene_text.specs.Scene.{runOf, Contents, contentsOf, Tally, tally, tallyOf, Slices, slices, doublesIn, wholesIn, filledWith, Answer, answer, refused, answerOf, sceneOf}
+use Rattle.scene_text.specs.Blocks.{Block, namesAt, oneLine, linesTo}
+use Rattle.scene_text.specs.Steps.{Table, table, put, Reading, reading, onto}
+use Rattle.scene_text.specs.Scene.{runOf, Contents, contentsOf, Tally, tally, tallyOf, Slices, slices, doublesIn, wholesIn, filledWith, answer, answerOf, sceneOf}
 
 pub names-are : (names : List ℕ) (ls : List (List ℕ)) (n : ℕ) (t t2 : Table) (o : Bool) (m k : ℕ) (rs : List (List ℕ)) → reading o m k t2 rs ≡ onto 0 t (linesTo names [] ls n) → (o ≡ namesAt names ls n .ok) × (m ≡ namesAt names ls n .line) × (rs ≡ namesAt names ls n .rest)
 unfolding namesAt onto

@@ -1,19 +1,29 @@
 -- Laws of media, which are joined by commas. Assumes nothing.
-use mathlib.Core.Path.{_≡_, refl, sym, ap, _∙_}
+use mathlib.Core.Path.{_≡_, sym, ap, _∙_}
 use mathlib.Core.List.{List, [], _∷_}
-use mathlib.Core.Bool.{Bool, true, false, cond}
-use Prim.Native.Nat.{ℕ, zero, suc, _+_, _-_, _≤_, _<_}
+use mathlib.Core.Bool.{true, false}
+use Prim.Native.Nat.{ℕ, suc, _+_, _-_, _≤_, _<_}
 use native.Mathlib.Omega.{arith}
 use lib.ListN.{length, take, drop}
 use lib.Ieee.{Float}
+use borrow.Author.Tests.{lt-ltb, le-ltb}
 use Rattle.fields.specs.Split.{before, later, split, endOf, partsAt, isByteOf}
 use Rattle.fields.specs.Number.{Read, number, malformed, wholeOf, readWholeOf}
 use Rattle.fields.specs.declared.number.ReadWhole.{ReadWhole}
 use Rattle.fields.specs.declared.number.ReadWhole.the-variants as ReadWhole'
 use Rattle.fields.proofs.Parts.{parts-past, parts-in, later-after, end-part}
 use Rattle.scene_text.specs.Cells.{mediaParts, oneMore, isNumber, countFrom, numberOr0, mediaFrom, mediaCell, mediaOf}
-use Rattle.scene_text.specs.Tables.{Filled, filled, putAll, Table, table, put}
-use Rattle.scene_text.proofs.Filling.{put-turn, put-bad}
+use Rattle.scene_text.specs.Tables.{Filled, filled, putAll}
+use Rattle.scene_text.specs.Steps.{table, put}
+use Rattle.scene_text.proofs.Filling.{put-turn}
+
+pub more-is : (n : ℕ) → n < 9 → n + 1 ≡ oneMore n
+unfolding oneMore
+more-is n h = simp (lt-ltb _ _ h)
+
+pub most-is : (n : ℕ) → 9 ≤ n → n ≡ oneMore n
+unfolding oneMore
+most-is n h = simp (le-ltb _ _ h)
 
 pub start-dash : (f : List ℕ) → isByteOf f 45 ≡ true → partsAt 44 f (length f + 1) ≡ mediaParts f
 unfolding mediaParts

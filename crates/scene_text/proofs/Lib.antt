@@ -5,3 +5,4 @@ pub mod Walking
 pub mod Standing
 pub mod Gathering
 pub mod Example
+pub mod Fitting

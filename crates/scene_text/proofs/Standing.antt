@@ -2,20 +2,21 @@
 use mathlib.Core.Path.{_≡_, refl, sym, ap, _∙_}
 use mathlib.Core.List.{List, [], _∷_, _++_}
 use mathlib.Core.Bool.{Bool, true, false, cond}
-use Prim.Native.Nat.{ℕ, zero, suc, _+_, _-_, _≤_, _<_}
+use Prim.Native.Nat.{ℕ, suc, _+_, _-_, _≤_, _<_}
 use native.Mathlib.Nat.{add-zero, lt-irrefl}
 use native.Mathlib.Omega.{arith}
-use lib.Dec.{eqb, ltb}
+use lib.Dec.{eqb}
 use lib.ListN.{length, take, drop, length-drop}
 use lib.Ieee.{Float}
 use borrow.Author.Tests.{eqb-true}
-use Rattle.fields.specs.Split.{before, later, split, endOf, partsAt}
+use Rattle.fields.specs.Split.{before, split, endOf, partsAt}
 use Rattle.fields.proofs.Parts.{parts-past, parts-in, later-after}
 use Rattle.scene_text.specs.Names.{ended}
-use Rattle.scene_text.specs.Cells.{Values, noValues, badValues, joined}
+use Rattle.scene_text.specs.Cells.{Values, joined}
 use Rattle.scene_text.specs.Lines.{isNil, lineOf}
-use Rattle.scene_text.specs.Tables.{Table, table, putAll, put}
-use Rattle.scene_text.specs.Blocks.{sameOf, Block, block, over, stopped, lineThen, oneLine, endsWell, linesTo, Reading, reading, onto, restAt, comesTo}
+use Rattle.scene_text.specs.Tables.{putAll}
+use Rattle.scene_text.specs.Blocks.{sameOf, Block, block, over, stopped, lineThen, oneLine, endsWell, linesTo}
+use Rattle.scene_text.specs.Steps.{Table, table, put, Reading, reading, onto, restAt, comesTo}
 use Rattle.scene_text.proofs.Filling.{put-ok, put-any, put-then}
 
 -- ---- the first line of a text

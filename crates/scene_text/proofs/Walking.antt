@@ -1,21 +1,22 @@
 -- Laws of a line that is read cell by cell. Assumes nothing.
-use mathlib.Core.Path.{_≡_, refl, sym, ap, _∙_, subst}
+use mathlib.Core.Path.{_≡_, refl, sym, ap, _∙_}
 use mathlib.Core.List.{List, [], _∷_}
 use mathlib.Core.Bool.{Bool, true, false, cond}
-use Prim.Native.Nat.{ℕ, zero, suc, _+_, _-_, _≤_, _<_}
+use Prim.Native.Nat.{ℕ, suc, _+_, _-_, _≤_, _<_}
 use native.Mathlib.Nat.{lt-irrefl, lt-of-lt-of-le}
 use native.Mathlib.Numerals.{add-one}
 use native.Mathlib.Omega.{arith}
-use lib.Dec.{eqb, ltb}
+use lib.Dec.{eqb}
 use lib.ListN.{length, take, drop, getD, length-drop, drop-of-length-le}
 use lib.Seq.{drop-cons, drop-drop}
 use lib.Ieee.{Float}
-use borrow.Author.Tests.{lt-ltb, le-ltb, ltb-true, ltb-false, eqb-true, eqb-false}
+use borrow.Author.Tests.{lt-ltb, le-ltb, eqb-true, eqb-false}
 use Rattle.fields.specs.Split.{before, endOf}
 use Rattle.fields.proofs.Parts.{end-part}
 use Rattle.scene_text.specs.Cells.{Values, noValues, badValues, joined, cellOf}
 use Rattle.scene_text.specs.Lines.{isNil, has, behind, lineOf}
-use Rattle.scene_text.specs.Tables.{Table, table, putAll, put, lineFrom}
+use Rattle.scene_text.specs.Tables.{putAll}
+use Rattle.scene_text.specs.Steps.{Table, table, put, lineFrom}
 use Rattle.scene_text.proofs.Filling.{put-ok, put-any, put-then, put-stop}
 
 pick : (o : Bool) (x y z : Table) → (o ≡ true → x ≡ z) → (o ≡ false → y ≡ z) → cond o x y ≡ z

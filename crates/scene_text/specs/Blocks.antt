@@ -3,12 +3,10 @@ use Prim.Native.Nat.{ℕ, suc, _+_}
 use mathlib.Core.List.{List, [], _∷_}
 use mathlib.Core.Bool.{Bool, true, false, cond}
 use lib.Dec.{eqb}
-use lib.ListN.{length, drop}
-use Rattle.fields.specs.Split.{split}
+use lib.ListN.{length}
 use Rattle.scene_text.specs.Names.{ended}
 use Rattle.scene_text.specs.Cells.{Values, noValues, badValues, joined}
 use Rattle.scene_text.specs.Lines.{isNil, lineOf}
-use Rattle.scene_text.specs.Tables.{Table, put}
 
 unfoldable pub sameOf : List ℕ → List ℕ → Bool
 sameOf [] [] = true
@@ -62,27 +60,3 @@ linesTo names form (l ∷ ls) n =
 -- line n is this line of names: no line has the empty form
 unfoldable pub namesAt : List ℕ → List (List ℕ) → ℕ → Block
 namesAt names ls n = linesTo names [] ls n
-
--- ---- the same with the slices that the values go to
-
-pub record Reading : Type 0 where
-  pub ok : Bool
-  pub line : ℕ
-  pub rows : ℕ
-  pub read : Table
-  pub rest : List (List ℕ)
-
-abbrev pub reading : Bool → ℕ → ℕ → Table → List (List ℕ) → Reading
-reading b n k t ls = record { ok = b; line = n; rows = k; read = t; rest = ls }
-
--- b behind k lines
-unfoldable pub onto : ℕ → Table → Block → Reading
-onto k t b = reading (b .ok) (b .line) (k + b .rows) (put (b .read) t) (b .rest)
-
--- the lines from place at of the text on, if all before are well formed
-unfoldable pub restAt : Bool → List ℕ → ℕ → List (List ℕ)
-restAt b s at = cond b (split 10 (drop at s)) []
-
--- what a block comes to, from where its reading stands: whether it goes on, whether it is well formed if not, the place and number of the next line
-unfoldable pub comesTo : List ℕ → List ℕ → List ℕ → Bool → Bool → ℕ → ℕ → ℕ → Table → Reading
-comesTo s names form more ok at n k t = cond more (onto k t (linesTo names form (split 10 (drop at s)) n)) (reading ok n k t (restAt ok s at))

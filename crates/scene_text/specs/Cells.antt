@@ -45,17 +45,17 @@ below m malformed = malformed
 abbrev pub noFilter : ℕ
 noFilter = 5
 
--- a filter: its number, or -
+-- a filter: its number, or - (45)
 unfoldable pub filterOf : List ℕ → Read
 filterOf f = cond (isByteOf f 45) (number noFilter) (below 5 (wholeOf f))
 
--- a whole number of the kind k
+-- a whole number of the kind k: f is 102, n 110, the digits are from 48 on
 unfoldable pub numberAs : ℕ → List ℕ → Read
 numberAs k f = cond (eqb k 102) (filterOf f) (cond (eqb k 110) (wholeOf f) (below (k - 48) (wholeOf f)))
 
 -- ---- media
 
--- media are joined by commas, and - stands for none
+-- media are joined by commas (44), and - stands for none
 unfoldable pub mediaParts : List ℕ → List (List ℕ)
 mediaParts f = cond (isByteOf f 45) [] (split 44 f)
 
@@ -90,7 +90,7 @@ mediaCell malformed fs = badValues
 unfoldable pub mediaOf : List ℕ → Values
 mediaOf f = mediaCell (countFrom (mediaParts f) 0) (mediaParts f)
 
--- ---- any cell, by its kind
+-- ---- any cell, by its kind: d is 100, l 108
 
 unfoldable pub cellOf : ℕ → List ℕ → Values
 cellOf k f = cond (eqb k 100) (doubleCell (bitsOf f)) (cond (eqb k 108) (mediaOf f) (wholeCell (numberAs k f)))

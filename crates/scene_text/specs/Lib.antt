@@ -5,3 +5,4 @@ pub mod Lines
 pub mod Tables
 pub mod Blocks
 pub mod Scene
+pub mod Steps

@@ -19,7 +19,7 @@ has b l = ltb (length (before b l)) (length l)
 unfoldable pub behind : ℕ → List ℕ → List ℕ
 behind b l = drop (suc (length (before b l))) l
 
--- the cells of a form, each up to the first byte that ends it, and nothing behind the last
+-- the cells of a form, each up to the first byte that ends it, and nothing behind the last; a form has two bytes a cell
 unfoldable pub lineOf : List ℕ → List ℕ → Values
 lineOf [] l = cond (isNil l) noValues badValues
 lineOf (k ∷ []) l = cond (isNil l) noValues badValues

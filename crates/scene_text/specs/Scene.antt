@@ -1,15 +1,14 @@
 -- The scene text, and what reading it answers and leaves in the lent slices.
 use Prim.Native.Nat.{ℕ}
 use mathlib.Core.List.{List, []}
-use mathlib.Core.Bool.{Bool, true, false, cond}
+use mathlib.Core.Bool.{Bool, cond}
 use lib.Dec.{ltb}
 use lib.ListN.{length}
 use lib.Ieee.{Float}
 use Rattle.error.specs.Refusals.{Checked, passed, refusedAt}
 use Rattle.fields.specs.Split.{split}
 use Rattle.scene_text.specs.Names.{runNames, runForm, solidNames, solidForm, detectorNames, detectorForm, rayNames, rayForm}
-use Rattle.scene_text.specs.Cells.{Values}
-use Rattle.scene_text.specs.Tables.{Filled, putAll}
+use Rattle.scene_text.specs.Tables.{putAll}
 use Rattle.scene_text.specs.Blocks.{Block, namesAt, oneLine, linesTo}
 
 -- The four blocks. The last one is well formed if all are; its line is the first bad or missing one else.
@@ -50,7 +49,11 @@ tally b n i j k = record { ok = b; line = n; solids = i; detectors = j; rays = k
 unfoldable pub tallyOf : Contents → Tally
 tallyOf c = tally (c .rays .ok) (c .rays .line) (c .solids .rows) (c .detectors .rows) (c .rays .rows)
 
--- the lent slices: doubles and whole numbers of the run, the solids, the detectors, the rays
+-- The lent slices, doubles and whole numbers of each block in the text's order:
+-- of the run 7 (threshold, a to f) and 3 (bounces, filter, ambient);
+-- of a solid 42 (p, q, r, rho, a to f, m, w) and 4 (shape, active, finish, medium);
+-- of a detector 11 (cx to height) and 2 (resx, resy);
+-- of a ray 8 (ox to power) and 10 (bounce, number of media, eight media)
 pub record Slices : Type 0 where
   pub run : List Float
   pub runs : List ℕ

@@ -2,12 +2,11 @@
 use crate::rows::read_row;
 ghost use mathlib.Core.Path.{_≡_};
 ghost use mathlib.Core.Bool.{true};
-ghost use mathlib.Core.List.{List, [], _∷_};
-ghost use Prim.Native.Nat.{ℕ, _+_, _≤_, _<_};
+ghost use Prim.Native.Nat.{_+_, _≤_, _<_};
 ghost use lib.ListN.{length};
 ghost use Rattle.fields.specs.Split.{endOf};
-ghost use Rattle.scene_text.specs.Tables.{table};
-ghost use Rattle.scene_text.specs.Blocks.{sameOf, namesAt, oneLine, endsWell, linesTo, reading, onto, restAt, comesTo};
+ghost use Rattle.scene_text.specs.Blocks.{sameOf, namesAt, oneLine, endsWell, linesTo};
+ghost use Rattle.scene_text.specs.Steps.{table, reading, onto, restAt, comesTo};
 
 // Where the reading of a block stands: whether it goes on, whether all was well formed so far, where the next line starts and its number
 // (the first bad or missing one's where not ok), how many lines of values there were, and the places that come next.

@@ -4,11 +4,12 @@ use fields::ReadBits;
 use fields::ReadWhole;
 ghost use mathlib.Core.Path.{_≡_};
 ghost use mathlib.Core.Bool.{true};
-ghost use mathlib.Core.List.{List, [], _∷_};
+ghost use mathlib.Core.List.{[], _∷_};
 ghost use Prim.Native.Nat.{_-_};
 ghost use Rattle.fields.specs.Number.{bitsOf, wholeOf, readWholeOf};
 ghost use Rattle.scene_text.specs.Cells.{doubleCell, wholeCell, below, filterOf, numberAs, cellOf};
-ghost use Rattle.scene_text.specs.Tables.{filled, putAll, table, put};
+ghost use Rattle.scene_text.specs.Tables.{filled, putAll};
+ghost use Rattle.scene_text.specs.Steps.{table, put};
 
 // The number of the filter `-`, which is kept apart from 0.
 const NO_FILTER: u32 = 5;

@@ -4,13 +4,14 @@ use crate::cells::put_u32;
 use fields::ReadWhole;
 ghost use mathlib.Core.Path.{_≡_};
 ghost use mathlib.Core.Bool.{true};
-ghost use mathlib.Core.List.{List, [], _∷_};
+ghost use mathlib.Core.List.{List, _∷_};
 ghost use Prim.Native.Nat.{ℕ, suc, _+_, _≤_};
 ghost use lib.ListN.{length};
 ghost use Rattle.fields.specs.Split.{partsAt};
 ghost use Rattle.fields.specs.Number.{wholeOf, readWholeOf};
 ghost use Rattle.scene_text.specs.Cells.{oneMore, mediaParts, countFrom, numberOr0, mediaFrom, mediaOf};
-ghost use Rattle.scene_text.specs.Tables.{filled, putAll, table, put};
+ghost use Rattle.scene_text.specs.Tables.{filled, putAll};
+ghost use Rattle.scene_text.specs.Steps.{table, put};
 
 // One more, but no more than 9.
 fn one_more(n: u32) -> u32

@@ -7,7 +7,7 @@ ghost use Prim.Native.Nat.{ℕ, _≤_};
 ghost use lib.ListN.{length};
 ghost use lib.Ieee.{Float};
 ghost use Rattle.scene_text.specs.Lines.{lineOf};
-ghost use Rattle.scene_text.specs.Tables.{table, put, lineFrom};
+ghost use Rattle.scene_text.specs.Steps.{table, put, lineFrom};
 
 // Whether a line is well formed so far, where its next cell starts, and the places that come next.
 pub struct Row {

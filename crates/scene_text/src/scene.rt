@@ -12,8 +12,8 @@ ghost use lib.ListN.{length};
 ghost use Rattle.error.specs.Refusals.{checkOf, refusedAt};
 ghost use Rattle.fields.specs.Split.{split};
 ghost use Rattle.scene_text.specs.Names.{solidNames, solidForm, detectorNames, detectorForm, rayNames};
-ghost use Rattle.scene_text.specs.Tables.{table};
-ghost use Rattle.scene_text.specs.Blocks.{namesAt, restAt, linesTo, onto, reading};
+ghost use Rattle.scene_text.specs.Blocks.{namesAt, linesTo};
+ghost use Rattle.scene_text.specs.Steps.{table, restAt, onto, reading};
 ghost use Rattle.scene_text.specs.Scene.{runOf, contentsOf, tally, tallyOf, slices, doublesIn, wholesIn, filledWith, answer, sceneOf};
 
 // What reading a scene text answers: whether it was refused, and how many lines of values the blocks have.

@@ -1,11 +1,9 @@
 -- `scene_text::blocks::same` meets its contract. Assumes nothing.
-use Prim.Native.Nat.{ℕ, _≤_, _<_, _-_, _+_, _*_, _^_, _/_, _%_}
-use mathlib.Core.Path.{_≡_, refl, sym, ap, _∙_}
-use mathlib.Core.List.{List, [], _∷_, _++_}
-use mathlib.Core.Bool.{true, false}
+use Prim.Native.Nat.{_≤_, _-_}
+use mathlib.Core.Path.{_≡_, refl}
 use native.Mathlib.Omega.{arith}
 use borrow.Author.Needs.{needs}
-use lib.ListN.{length, drop, getD, take, set}
+use lib.ListN.{drop}
 use Rattle.scene_text.specs.Blocks.{sameOf}
 use Rattle.scene_text.proofs.Alike.{same-no, same-turn, same-stop, same-end}
 use Rattle.scene_text.proofs.blocks.same.Statement.{statement}

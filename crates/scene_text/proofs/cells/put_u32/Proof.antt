@@ -1,7 +1,5 @@
 -- `scene_text::cells::put_u32` meets its contract. Assumes nothing.
 use Rattle.scene_text.proofs.Filling.{put-in, put-out}
-use borrow.Author.Tests.{lt-ltb, le-ltb}
-use Rattle.scene_text.specs.Tables.{nextAt, putAll}
 use borrow.Author.Needs.{needs}
 use Rattle.scene_text.proofs.cells.put_u32.Statement.{statement}
 use Rattle.scene_text.proofs.cells.put_u32.Tie as tie

@@ -8,7 +8,6 @@ use Rattle.fields.specs.Split.{partsAt}
 use Rattle.fields.proofs.Parts.{end-in}
 use Rattle.scene_text.specs.Cells.{countFrom}
 use Rattle.scene_text.proofs.Joined.{count-turn, count-bad, count-done}
-use Rattle.scene_text.specs.Cells.{countFrom, isNumber}
 use Rattle.scene_text.proofs.media.count_media.Statement.{statement}
 use Rattle.scene_text.proofs.media.count_media.Tie as tie
 

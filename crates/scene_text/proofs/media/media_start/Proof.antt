@@ -2,7 +2,6 @@
 use native.Mathlib.Omega.{arith}
 use mathlib.Core.Path.{sym, _∙_}
 use Rattle.scene_text.proofs.Joined.{start-dash, start-list}
-use Rattle.scene_text.specs.Cells.{joined, mediaParts}
 use borrow.Author.Needs.{needs}
 use Rattle.scene_text.proofs.media.media_start.Statement.{statement}
 use Rattle.scene_text.proofs.media.media_start.Tie as tie

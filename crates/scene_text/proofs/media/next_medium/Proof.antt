@@ -2,8 +2,6 @@
 use native.Mathlib.Omega.{arith}
 use Rattle.fields.proofs.Parts.{end-in}
 use Rattle.scene_text.proofs.Joined.{medium-past, medium-here}
-use borrow.Author.Tests.{lt-ltb, le-ltb}
-use Rattle.scene_text.specs.Cells.{mediaFrom}
 use borrow.Author.Needs.{needs}
 use Rattle.scene_text.proofs.media.next_medium.Statement.{statement}
 use Rattle.scene_text.proofs.media.next_medium.Tie as tie

@@ -1,6 +1,6 @@
 -- `scene_text::media::one_more` meets its contract. Assumes nothing.
-use borrow.Author.Tests.{lt-ltb, le-ltb}
-use Rattle.scene_text.specs.Cells.{oneMore}
+use native.Mathlib.Omega.{arith}
+use Rattle.scene_text.proofs.Joined.{more-is, most-is}
 use borrow.Author.Needs.{needs}
 use Rattle.scene_text.proofs.media.one_more.Statement.{statement}
 use Rattle.scene_text.proofs.media.one_more.Tie as tie
@@ -9,12 +9,10 @@ add-result : tie.Need-add-result
 add-result c = search needs
 
 returns : tie.Need-returns
-unfolding oneMore
-returns c = simp (lt-ltb _ _ (c .if1 .taken))
+returns c = more-is _ (omega (arith, c .if1 .taken))
 
 returns-2 : tie.Need-returns-2
-unfolding oneMore
-returns-2 c = simp (le-ltb _ _ (c .if1 .left))
+returns-2 c = most-is _ (omega (arith, c .if1 .left))
 
 pub one-more-spec : {M : Type 1} → statement M
 one-more-spec = tie.close (tie.spec add-result returns returns-2)

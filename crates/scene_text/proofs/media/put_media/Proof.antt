@@ -8,7 +8,6 @@ use Rattle.fields.specs.Split.{partsAt}
 use Rattle.scene_text.specs.Tables.{putAll}
 use Rattle.scene_text.proofs.Joined.{media-turn, media-end}
 use Rattle.scene_text.specs.Cells.{mediaFrom}
-use Rattle.scene_text.specs.Tables.{nextAt, putAll}
 use Rattle.scene_text.proofs.media.put_media.Statement.{statement}
 use Rattle.scene_text.proofs.media.put_media.Tie as tie
 

@@ -1,8 +1,6 @@
 -- `scene_text::rows::next_cell` meets its contract. Assumes nothing.
-use native.Mathlib.Omega.{arith}
 use Rattle.fields.proofs.Parts.{end-in}
 use Rattle.scene_text.proofs.Walking.{cell-turn, cell-none, cell-past}
-use borrow.Author.Tests.{lt-ltb, le-ltb}
 use borrow.Author.Needs.{needs}
 use Rattle.scene_text.proofs.rows.next_cell.Statement.{statement}
 use Rattle.scene_text.proofs.rows.next_cell.Tie as tie

@@ -3,10 +3,10 @@ use borrow.Author.Needs.{needs}
 use native.Mathlib.Omega.{arith}
 use mathlib.Core.Path.{_≡_, refl, _∙_}
 use mathlib.Core.Bool.{true}
-use Prim.Native.Nat.{_+_, _-_, _≤_}
+use Prim.Native.Nat.{_-_, _≤_}
 use lib.ListN.{length, drop}
 use Rattle.scene_text.specs.Lines.{lineOf}
-use Rattle.scene_text.specs.Tables.{table, put, lineFrom}
+use Rattle.scene_text.specs.Steps.{table, put, lineFrom}
 use Rattle.scene_text.proofs.Walking.{line-start, line-turn, line-end}
 use Rattle.scene_text.proofs.rows.read_row.Statement.{statement}
 use Rattle.scene_text.proofs.rows.read_row.Tie as tie
