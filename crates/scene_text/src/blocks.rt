@@ -122,7 +122,7 @@ fn ends_well(bytes: usize, names: &[u8]) -> bool
 }
 
 // Lines of this form up to the line of these names.
-pub fn read_lines(
+pub(crate) fn read_lines(
     s: &[u8],
     from: Found,
     names: &[u8],
@@ -151,7 +151,7 @@ pub fn read_lines(
 }
 
 // The next line is this line of names: a block without lines of values, since no line has the empty form.
-pub fn read_names(s: &[u8], from: Found, names: &[u8]) -> Found
+pub(crate) fn read_names(s: &[u8], from: Found, names: &[u8]) -> Found
     requires { ⌜ (length (now s) ≤ 65536) × (from .at ≤ length (now s)) × (from .line ≤ from .at + 1) ⌝ }
     ensures { λ r. ⌜ (let b = namesAt (now (names .entry)) (restAt (from .ok) (now (s .entry)) (from .at)) (from .line) in
         (r .ok ≡ b .ok) × (r .line ≡ b .line) × (restAt (r .ok) (now (s .entry)) (r .at) ≡ b .rest)) ⌝ }
@@ -163,7 +163,7 @@ pub fn read_names(s: &[u8], from: Found, names: &[u8]) -> Found
 }
 
 // The next line has this form.
-pub fn read_one(s: &[u8], from: Found, form: &[u8], d: &mut [f64], w: &mut [u32]) -> Found
+pub(crate) fn read_one(s: &[u8], from: Found, form: &[u8], d: &mut [f64], w: &mut [u32]) -> Found
     requires { ⌜ (length (now s) ≤ 65536) × (from .at ≤ length (now s)) × (from .line ≤ from .at + 1) ⌝ }
     ensures { λ r. ⌜ reading (r .ok) (r .line) (r .rows) (table (r .ok) (now (d .exit)) (r .nd) (now (w .exit)) (r .nw)) (restAt (r .ok) (now (s .entry)) (r .at))
         ≡ onto 0 (table true (now (d .entry)) 0 (now (w .entry)) 0) (oneLine (now (form .entry)) (restAt (from .ok) (now (s .entry)) (from .at)) (from .line)) ⌝ }
