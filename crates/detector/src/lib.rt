@@ -14,10 +14,12 @@ pub use pixels::index_along;
 use rays::Vec3;
 
 // A detector's number, its place in the list of detectors. Never a solid's.
+#[repr(C)]
 pub struct DetectorNo(pub u32);
 
 // A detector as it was given, with what it has caught so far: the sum of its hits' fluxes in list order
 // and their number. Its normal and up are as given; each call works the axes out.
+#[repr(C)]
 pub struct Detector2D {
     pub center: Vec3,
     pub normal: Vec3,

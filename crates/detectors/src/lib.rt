@@ -12,6 +12,7 @@ ghost use Prim.Native.Nat.{_≤_, _<_};
 ghost use Rattle.error.specs.Refusals.{checkOf};
 ghost use Rattle.detectors.specs.Detectors.{firstPixelOf, allPixelsOf, placedOf, checkFromOf, checkDetectorsOf, findOf, foundOf, atOf, spotOf};
 
+#[repr(C)]
 pub struct Detectors {
     pub list: [Detector2D; 8],
     pub count: u32,

@@ -8,6 +8,7 @@ ghost use Rattle.memory.specs.Memory.{readHit, noHit, hitAt, four};
 
 // Where on which detector light arrived, how much of which wavelength, after how many bounces,
 // reflections and total reflections.
+#[repr(C)]
 pub struct DetectorHit {
     pub local_x: f64,
     pub local_y: f64,

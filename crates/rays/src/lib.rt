@@ -11,6 +11,7 @@ ghost use mathlib.Core.Path.{_≡_};
 ghost use Rattle.rays.specs.Rays.{atOf, finiteRayOf, validRayOf, newRayOf, answerOf};
 
 // A ray: where it starts, where it goes, its wavelength in nanometres and its power in watts.
+#[repr(C)]
 pub struct Ray {
     pub origin: Vec3,
     pub direction: Vec3,

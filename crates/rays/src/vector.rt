@@ -2,6 +2,7 @@
 ghost use mathlib.Core.Path.{_≡_};
 ghost use Rattle.rays.specs.Vectors.{dotOf, crossOf, plusOf, minusOf, scaleOf, divideOf, negateOf, normOf, normalizeOf, finiteVecOf};
 
+#[repr(C)]
 pub struct Vec3 {
     pub x: f64,
     pub y: f64,

@@ -4,6 +4,7 @@ ghost use mathlib.Core.Path.{_≡_};
 ghost use Rattle.turn.specs.Rays.{endOf};
 ghost use Rattle.report.specs.Report.{detecting, absorbing, escaping, unmade, ledgerAfter, energyRatioOf};
 
+#[repr(C)]
 pub struct Ledger {
     pub launched_flux_watts: f64,
     pub detected_flux_watts: f64,

@@ -13,6 +13,7 @@ ghost use Rattle.turn.specs.Rays.{endOf, stepOf};
 ghost use Rattle.report.specs.Report.{interacts, reportAfter, countedOf, startReportOf};
 
 // What a tracing adds up to.
+#[repr(C)]
 pub struct NonSeqTraceReport {
     pub ledger: Ledger,
     pub total_rays_traced: u32,

@@ -6,6 +6,7 @@ ghost use mathlib.Core.Bool.{true, false, cond};
 ghost use Rattle.turn.specs.Rays.{endOf};
 ghost use Rattle.report.specs.Report.{moreIf, dimmer, spending, catching, going, surfacing, faintOf, talliesAfter};
 
+#[repr(C)]
 pub struct Tallies {
     pub made: u32,
     pub dim: u32,

@@ -17,6 +17,7 @@ pub use solids::medium_at;
 pub use solids::object_at;
 
 // The number of a solid: its place in the list, from 0.
+#[repr(C)]
 pub struct SolidNo(pub u32);
 
 // What a ray can meet of a solid.
