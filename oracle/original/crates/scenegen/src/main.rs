@@ -8,6 +8,7 @@
 //!   scenegen vectors DIR         tables of single functions of the original (hex bits, printed style)
 //!   scenegen scenes DIR          DIR/scenes_1.txt and _2.txt, small scenes with the original's answers, and DIR/stdout,
 //!                                what crates/scenes prints of them
+//!   scenegen worked DIR          the worked scenes and texts that are refused, with their answers (head of worked.rs)
 //! A SEED of the form tN is the "typical" bench scene number N (8 solids, 2 detectors).
 use nalgebra::{Matrix4, Vector4};
 use optics_core::{Ray, Vec3};
@@ -21,6 +22,7 @@ use optics_nonseq::trace::{NonSeqTraceConfig, NonSeqTraceReport, NonSeqTracer};
 use std::fmt::Write as _;
 
 mod scenes;
+mod worked;
 
 struct Sm(u64);
 impl Sm {
@@ -798,6 +800,7 @@ fn main() {
         "answer" => print!("{}", answer(&solve(&case_of(&a[2])), a[3].parse().unwrap())),
         "vectors" => vectors(&a[2]),
         "scenes" => scenes::write(&a[2]),
+        "worked" => worked::write(&a[2]),
         "batch" => {
             let from: u64 = a[2].parse().unwrap();
             let count: u64 = a[3].parse().unwrap();

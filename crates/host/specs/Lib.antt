@@ -1,0 +1,5 @@
+-- What a host's calls answer, in numbers.
+pub mod Numbers
+pub mod Detecting
+pub mod Maps
+pub mod Texts

@@ -1,0 +1,66 @@
+/* Document 01's scene through the C calls: one ray on one pixel of four. Prints the answer, then tries some
+ * refusals and the layout of the structs. */
+#include "nonseq.h"
+#include <stdio.h>
+#include <string.h>
+
+static int wrong;
+
+static void expect(const char *what, int holds)
+{
+    if (!holds) {
+        printf("not so: %s\n", what);
+        wrong = 1;
+    }
+}
+
+static void layout(void)
+{
+    expect("a vector has 24 bytes", sizeof(nonseq_vec3) == 24);
+    expect("a ray has 64 bytes", sizeof(nonseq_ray) == 64);
+    expect("a detector has 112 bytes", sizeof(nonseq_detector) == 112);
+    expect("its total stands at 96", offsetof(nonseq_detector, total_flux_watts) == 96);
+    expect("the detectors have 904 bytes", sizeof(nonseq_detectors) == 904);
+    expect("a hit has 48 bytes", sizeof(nonseq_hit) == 48);
+    expect("a report has 72 bytes", sizeof(nonseq_report) == 72);
+    expect("the rules have 64 bytes", sizeof(nonseq_config) == 64);
+    expect("a given ray has 104 bytes", sizeof(nonseq_given_ray) == 104);
+    expect("a tracing's answer has 992 bytes", sizeof(nonseq_traced) == 992);
+}
+
+int main(void)
+{
+    nonseq_vec3 center = {0, 0, 10}, normal = {0, 0, 1}, up = {0, 1, 0};
+    nonseq_made made = nonseq_new_detector(center, normal, up, 4, 4, 2, 2);
+    nonseq_detectors detectors;
+    nonseq_given_ray ray = {{1, 1, 0}, {0, 0, 1}, 550, 1, 0, 0, {0}};
+    nonseq_config config = {0, 4, NONSEQ_AIR, 0, 0, 0, 0, 0, 0};
+    double values[1] = {0}, flux[4] = {0}, places[8] = {0}, work[4];
+    uint32_t tags[1] = {0}, hits[4] = {0}, kinds[8] = {0};
+    uint8_t text[1024];
+    nonseq_traced t;
+    nonseq_filtered f;
+    size_t n;
+
+    layout();
+    expect("the detector is made", made.refusal == NONSEQ_DONE);
+    expect("no columns are refused by 6", nonseq_new_detector(center, normal, up, 4, 4, 0, 2).refusal == NONSEQ_ZERO_RESOLUTION);
+    memset(&detectors, 0, sizeof detectors);
+    detectors.list[0] = made.detector;
+    detectors.count = 1;
+
+    t = nonseq_trace_given_rays(config, values, 0, tags, 0, 0, &ray, 1, detectors, flux, 4, hits, 4, places, 8, kinds, 8, 0);
+    expect("the ray is traced", t.refusal == NONSEQ_DONE && t.used == 1);
+    expect("nothing is lost", nonseq_energy_conservation_ratio(t.report.ledger) == 1);
+    n = nonseq_put_answer(text, sizeof text, 0, t.report, t.detectors, NONSEQ_ALL, flux, 4, places, 8, kinds, 8, t.used);
+    fwrite(text, 1, n, stdout);
+
+    f = nonseq_refilter(t.detectors, 0, NONSEQ_GHOSTS_ONLY, flux, 4, work, 4, places, 8, kinds, 8, t.used);
+    expect("it is no ghost", f.refusal == NONSEQ_DONE && f.hit_count == 0 && work[3] == 0);
+    f = nonseq_refilter(t.detectors, 1, NONSEQ_ALL, flux, 4, work, 4, places, 8, kinds, 8, t.used);
+    expect("there is no detector 1", f.refusal == NONSEQ_NO_SUCH_DETECTOR);
+    config.ambient = 4;
+    t = nonseq_trace_given_rays(config, values, 0, tags, 0, 0, &ray, 1, t.detectors, flux, 4, hits, 4, places, 8, kinds, 8, t.used);
+    expect("there is no medium 4", t.refusal == NONSEQ_INVALID_SCENE_TEXT && t.used == 1);
+    return wrong;
+}

@@ -1,0 +1,92 @@
+//! Scene texts and answers.
+use crate::{ffi, Error, Filter, Memory, Report};
+
+/// As many bytes hold the answer to any scene text.
+pub const MAX_ANSWER: usize = 131_072;
+
+/// The numbers of a scene text, each block's in the text's order.
+#[derive(Clone, Debug, PartialEq)]
+pub struct SceneText {
+    /// Threshold and the ambient medium's coefficients.
+    pub run: Vec<f64>,
+    /// Bounces, filter (5 for `-`), ambient medium.
+    pub runs: Vec<u32>,
+    /// 42 doubles a solid.
+    pub values: Vec<f64>,
+    /// Shape, active, finish and medium of each solid.
+    pub tags: Vec<u32>,
+    /// 11 doubles a detector.
+    pub faces: Vec<f64>,
+    /// Columns and rows of each detector.
+    pub sizes: Vec<u32>,
+    /// 8 doubles a ray.
+    pub rays: Vec<f64>,
+    /// Bounce, number of media and 8 media of each ray.
+    pub marks: Vec<u32>,
+    /// How many solids.
+    pub solids: u32,
+    /// How many detectors.
+    pub detectors: u32,
+    /// How many rays were given.
+    pub given: u32,
+}
+
+/// The answer to a scene text, or its refusal, as the program straymap prints it.
+pub fn stray_map(text: &[u8]) -> Vec<u8> {
+    let mut buf = vec![0; MAX_ANSWER];
+    let n = unsafe { ffi::nonseq_stray_map(buf.as_mut_ptr(), buf.len(), 0, text.as_ptr(), text.len()) };
+    buf.truncate(n);
+    buf
+}
+
+/// A scene text read into numbers. Refused by 17; the place is the first bad line's number, 0 for a text too long.
+pub fn read_scene(text: &[u8]) -> Result<SceneText, Error> {
+    let lines = text.iter().filter(|&&b| b == b'\n').count();
+    let mut s = SceneText {
+        run: vec![0.0; 7],
+        runs: vec![0; 3],
+        values: vec![0.0; 42 * lines],
+        tags: vec![0; 4 * lines],
+        faces: vec![0.0; 11 * lines],
+        sizes: vec![0; 2 * lines],
+        rays: vec![0.0; 8 * lines],
+        marks: vec![0; 10 * lines],
+        solids: 0,
+        detectors: 0,
+        given: 0,
+    };
+    let r = unsafe {
+        ffi::nonseq_read_scene(
+            text.as_ptr(), text.len(), s.run.as_mut_ptr(), s.run.len(), s.runs.as_mut_ptr(), s.runs.len(),
+            s.values.as_mut_ptr(), s.values.len(), s.tags.as_mut_ptr(), s.tags.len(),
+            s.faces.as_mut_ptr(), s.faces.len(), s.sizes.as_mut_ptr(), s.sizes.len(),
+            s.rays.as_mut_ptr(), s.rays.len(), s.marks.as_mut_ptr(), s.marks.len(),
+        )
+    };
+    Error::check(r.refusal, r.place)?;
+    (s.solids, s.detectors, s.given) = (r.solids, r.detectors, r.rays);
+    let (solids, detectors, rays) = (r.solids as usize, r.detectors as usize, r.rays as usize);
+    s.values.truncate(42 * solids);
+    s.tags.truncate(4 * solids);
+    s.faces.truncate(11 * detectors);
+    s.sizes.truncate(2 * detectors);
+    s.rays.truncate(8 * rays);
+    s.marks.truncate(10 * rays);
+    Ok(s)
+}
+
+/// The answer of a tracing as text; for a memory of more than 4,096 pixels the text of refusal 9.
+pub fn write_answer(memory: &Memory, report: &Report, filter: Filter) -> Vec<u8> {
+    let mut buf = vec![0; MAX_ANSWER];
+    let n = memory.write(&mut buf, report, filter);
+    buf.truncate(n);
+    buf
+}
+
+/// A refusal as text.
+pub fn write_refusal(error: &Error) -> Vec<u8> {
+    let mut buf = vec![0; 64];
+    let n = unsafe { ffi::nonseq_put_refusal(buf.as_mut_ptr(), buf.len(), 0, error.number, error.place) };
+    buf.truncate(n);
+    buf
+}
