@@ -2,3 +2,4 @@
 pub mod Writing
 pub mod Back
 pub mod Lines
+pub mod Lengths
