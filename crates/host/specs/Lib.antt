@@ -1,0 +1,2 @@
+-- What the entries for hosts answer and leave.
+pub mod Tracing
