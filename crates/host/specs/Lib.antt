@@ -1,2 +1,3 @@
 -- What the entries for hosts answer and leave.
 pub mod Tracing
+pub mod Flat
