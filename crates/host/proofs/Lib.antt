@@ -1,2 +1,7 @@
--- The code's answers and the definitions' say the same in numbers.
+-- What holds of the definitions, and what walks by hand cite.
+pub mod Again
+pub mod Arrays
+pub mod Given
+pub mod Laying
+pub mod Told
 pub mod Answers

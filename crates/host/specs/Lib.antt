@@ -2,4 +2,6 @@
 pub mod Numbers
 pub mod Detecting
 pub mod Maps
+pub mod Tracing
+pub mod Flat
 pub mod Texts

@@ -1,0 +1,19 @@
+-- `host::answers::place_in` meets its contract. Assumes nothing.
+use borrow.Author.Needs.{needs}
+use Rattle.host.proofs.answers.place_in.Statement.{statement}
+use Rattle.host.proofs.answers.place_in.Tie as tie
+
+enum-told : tie.Need-enum-told
+enum-told c = search needs
+
+enum-known-check : tie.Need-enum-known-check
+enum-known-check c = search needs
+
+returns : tie.Need-returns
+returns c = search needs
+
+returns-2 : tie.Need-returns-2
+returns-2 c = simp (c .before .check .given .1)
+
+pub place-in-spec : {M : Type 1} → statement M
+place-in-spec = tie.close (tie.spec enum-told enum-known-check returns returns-2)
