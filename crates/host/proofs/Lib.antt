@@ -4,4 +4,4 @@ pub mod Arrays
 pub mod Given
 pub mod Laying
 pub mod Told
-pub mod Answers
+pub mod Alike

@@ -1,5 +1,5 @@
 -- `host::maps::nonseq_record_hit_classified` meets its contract. Assumes nothing.
-use Rattle.host.proofs.Answers.{recorded-same}
+use Rattle.host.proofs.Alike.{recorded-same}
 use borrow.Author.Needs.{needs}
 use Rattle.host.proofs.maps.nonseq_record_hit_classified.Statement.{statement}
 use Rattle.host.proofs.maps.nonseq_record_hit_classified.Tie as tie

@@ -1,6 +1,6 @@
 -- `host::maps::nonseq_refilter` meets its contract. Assumes nothing.
 use borrow.Author.Tests.{le-leb, lt-leb}
-use Rattle.host.proofs.Answers.{filtered-same}
+use Rattle.host.proofs.Alike.{filtered-same}
 use Rattle.host.specs.Maps.{hostRefilterOf}
 use borrow.Author.Needs.{needs}
 use Rattle.host.proofs.maps.nonseq_refilter.Statement.{statement}

@@ -1,5 +1,5 @@
 -- `host::texts::nonseq_read_scene` meets its contract. Assumes nothing.
-use Rattle.host.proofs.Answers.{scene-same}
+use Rattle.host.proofs.Alike.{scene-same}
 use borrow.Author.Needs.{needs}
 use Rattle.host.proofs.texts.nonseq_read_scene.Statement.{statement}
 use Rattle.host.proofs.texts.nonseq_read_scene.Tie as tie
