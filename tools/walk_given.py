@@ -36,7 +36,7 @@ def l(x):
 
 
 def J(fmt, js=range(K), sep=' '):
-    """fmt for each slice: # is its number as a subscript, R its row, D what an element denotes"""
+    """fmt for each slice: # is its number as a subscript, ROW its row, DEN what an element denotes"""
     return sep.join(fmt.replace('#', sub(j)).replace('ROW', S[j]['row']).replace('DEN', S[j]['denot']) for j in js)
 
 
@@ -109,8 +109,8 @@ use Rattle.{CRATE}.specs.declared.answers.HostConfig.{{HostConfig}}
 use Rattle.{CRATE}.specs.declared.answers.HostTraced.{{HostTraced}}
 use Rattle.{CRATE}.specs.declared.{MOD}.GivenRay.{{GivenRay}}
 use Rattle.memory.specs.Memory.{{memoryOf}}
-use Rattle.{CRATE}.specs.Tracing.{{Left, left, hostTraceOf}}
-use Rattle.{CRATE}.specs.Flat.{{Laid, laid, putRays, flatValues, flatMarks, frontOf}}
+use Rattle.{CRATE}.specs.Tracing.{{left, hostTraceOf}}
+use Rattle.{CRATE}.specs.Flat.{{laid, putRays, flatValues, flatMarks, frontOf}}
 use Rattle.{CRATE}.proofs.Laying.{{zero-f, zeros, nones, long-f, long-h}}
 use Rattle.{CRATE}.proofs.Given.{{given-is}}
 use Rattle.{CRATE}.proofs.Arrays.{{big-lit, Elems, apart, whole, lend-mut, back-mut, lend-shr, back-shr}}

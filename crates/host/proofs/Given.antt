@@ -1,8 +1,8 @@
 -- Rays that were laid out flat are traced as they were given: the first 4,097 of them have the answer of all. Assumes nothing.
 use mathlib.Core.Path.{_≡_, refl, sym, ap, _∙_, subst}
 use mathlib.Core.Bool.{Bool, true, false, _&&_}
-use mathlib.Core.List.{List, [], _∷_, _++_}
-use Prim.Native.Nat.{ℕ, _+_, _*_, _≤_, _<_}
+use mathlib.Core.List.{List, [], _∷_}
+use Prim.Native.Nat.{ℕ, _*_, _≤_, _<_}
 use native.Mathlib.Omega.{arith}
 use lib.Dec.{leb}
 use lib.Ieee.{Float}
@@ -19,7 +19,7 @@ use Rattle.trace.specs.Trace.{Batch, batchOf, checkFlatOf, checkConfigOf, check
 use Rattle.host.specs.declared.answers.HostConfig.{HostConfig}
 use Rattle.host.specs.declared.slices.GivenRay.{GivenRay}
 use Rattle.host.specs.Tracing.{Left, hostTraceOf}
-use Rattle.host.specs.Flat.{valuesOf, marksOf, flatValues, flatMarks, frontOf, Laid, laid, putRays}
+use Rattle.host.specs.Flat.{valuesOf, marksOf, flatValues, flatMarks, frontOf, laid, putRays}
 use Rattle.host.proofs.Laying.{zeros, nones, long-f, long-h, LaidOut, out}
 
 -- ---- the lists of the rays are as long as 17 asks

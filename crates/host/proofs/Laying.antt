@@ -1,6 +1,6 @@
 -- Rays laid out flat: what a loop over them keeps, and what it makes. Assumes nothing.
-use mathlib.Core.Path.{_≡_, refl, sym, ap, _∙_}
-use mathlib.Core.Bool.{Bool, true, false, _&&_}
+use mathlib.Core.Path.{_≡_, sym, ap, _∙_}
+use mathlib.Core.Bool.{Bool, true, false}
 use mathlib.Core.List.{List, [], _∷_, _++_, append-assoc, append-nil}
 use Prim.Native.Nat.{ℕ, zero, suc, _+_, _*_, _≤_, _<_}
 use native.Mathlib.Numerals.{add-one}
@@ -8,7 +8,7 @@ use native.Mathlib.Nat.{add-zero}
 use native.Mathlib.Omega.{arith}
 use lib.Dec.{leb, ltb}
 use lib.Ieee.{Float, nan, binary64, ofBits}
-use borrow.Author.Tests.{lt-ltb, le-ltb, ltb-true, leb-true}
+use borrow.Author.Tests.{lt-ltb, le-ltb, le-leb, lt-leb, ltb-true, leb-true}
 use lib.ListN.{length, getD, take, drop, replicate, length-append, length-replicate, drop-of-length-le}
 use lib.Seq.{sets, sets-eq, length-sets, drop-cons, take-at, length-take-le}
 use Rattle.nearest.proofs.Order.{and-left, and-right}
@@ -53,6 +53,18 @@ room-in r n a b e h =
     let k = sym e ∙ h in
     let t = and-right (ltb n 4097) _ k in
     (ltb-true _ _ (and-left (ltb n 4097) _ k), (leb-true _ _ (and-left (leb 32776 a) _ t), leb-true _ _ (and-right (leb 32776 a) _ t)))
+
+pub room-yes : (n a b : ℕ) → n < 4097 → 32776 ≤ a → leb 40970 b ≡ roomOf n a b
+unfolding roomOf
+room-yes n a b h k = simp (lt-ltb n 4097 h, le-leb 32776 a k)
+
+pub room-short : (n a b : ℕ) → n < 4097 → a < 32776 → false ≡ roomOf n a b
+unfolding roomOf
+room-short n a b h k = simp (lt-ltb n 4097 h, lt-leb 32776 a k)
+
+pub room-past : (n a b : ℕ) → 4097 ≤ n → false ≡ roomOf n a b
+unfolding roomOf
+room-past n a b h = simp (le-ltb n 4097 h)
 
 -- ---- the loop
 

@@ -11,10 +11,10 @@ use Rattle.memory.specs.Memory.{Memory, memoryOf, outcomeOf}
 use Rattle.report.specs.declared.NonSeqTraceReport.{NonSeqTraceReport}
 use Rattle.turn.specs.declared.NonSeqTraceConfig.{NonSeqTraceConfig}
 use Rattle.trace.specs.declared.Traced.{Traced}
-use Rattle.trace.specs.Trace.{Trace, tracedOf, batchOf, traceRaysOf}
+use Rattle.trace.specs.Trace.{tracedOf, batchOf, traceRaysOf}
 use Rattle.host.specs.declared.answers.HostConfig.{HostConfig}
 use Rattle.host.specs.declared.answers.HostTraced.{HostTraced}
-use Rattle.host.specs.Tracing.{configOf, Left, left, leftBy, hostTraceOf, toldOf, noMediumOf}
+use Rattle.host.specs.Tracing.{configOf, left, leftBy, hostTraceOf, toldOf, noMediumOf}
 
 left-by : (c : Check) (m : Memory) (p : NonSeqTraceReport) → left (toldOf (record { check = c; report = p; detectors = m .detectors; used = m .used })) (m .flux) (m .hits) (m .values) (m .tags) ≡ leftBy (record { outcome = outcomeOf c m; report = p })
 unfolding toldOf leftBy

@@ -29,6 +29,7 @@ flatMarks (r ∷ rs) = marksOf r ++ flatMarks rs
 
 -- ---- as the code lays them out, in two lists with room for 4,097 rays: one more than the limit, so that 3 comes in its order
 
+-- how many rays were laid out, and the two lists
 pub record Laid : Type 0 where
   pub count : ℕ
   pub values : List Float
@@ -37,10 +38,11 @@ pub record Laid : Type 0 where
 abbrev pub laid : ℕ → List Float → List ℕ → Laid
 laid n v m = record { count = n; values = v; marks = m }
 
+-- whether there is room for ray n in lists of these lengths
 unfoldable pub roomOf : ℕ → ℕ → ℕ → Bool
 roomOf n nv nm = ltb n 4097 && (leb 32776 nv && leb 40970 nm)
 
--- a ray more, while there is room
+-- a ray more, while there is room: its numbers stored one after the other, behind those of the rays before it
 unfoldable pub putRay : GivenRay → Laid → Laid
 putRay r s =
     cond (roomOf (s .count) (length (s .values)) (length (s .marks)))

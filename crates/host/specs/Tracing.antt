@@ -7,7 +7,7 @@ use lib.Ieee.{Float}
 use Rattle.error.specs.declared.Check.{Check}
 use Rattle.error.specs.declared.Check.the-variants.{Passed, Refused}
 use Rattle.error.specs.Refusals.{numberOf}
-use Rattle.material.specs.Media.{lastMedium, mediumOf}
+use Rattle.material.specs.Media.{mediumOf}
 use Rattle.detectors.specs.declared.Detectors.{Detectors}
 use Rattle.memory.specs.Memory.{Memory, Outcome, done, refused, leftOf}
 use Rattle.turn.specs.declared.NonSeqTraceConfig.{NonSeqTraceConfig}

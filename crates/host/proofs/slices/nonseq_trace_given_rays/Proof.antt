@@ -51,8 +51,8 @@ use Rattle.host.specs.declared.answers.HostConfig.{HostConfig}
 use Rattle.host.specs.declared.answers.HostTraced.{HostTraced}
 use Rattle.host.specs.declared.slices.GivenRay.{GivenRay}
 use Rattle.memory.specs.Memory.{memoryOf}
-use Rattle.host.specs.Tracing.{Left, left, hostTraceOf}
-use Rattle.host.specs.Flat.{Laid, laid, putRays, flatValues, flatMarks, frontOf}
+use Rattle.host.specs.Tracing.{left, hostTraceOf}
+use Rattle.host.specs.Flat.{laid, putRays, flatValues, flatMarks, frontOf}
 use Rattle.host.proofs.Laying.{zero-f, zeros, nones, long-f, long-h}
 use Rattle.host.proofs.Given.{given-is}
 use Rattle.host.proofs.Arrays.{big-lit, Elems, apart, whole, lend-mut, back-mut, lend-shr, back-shr}

@@ -1,4 +1,5 @@
 -- `host::tracing::nonseq_trace_rays` meets its contract. Assumes nothing.
+use native.Mathlib.Omega.{arith}
 use Rattle.host.proofs.Told.{traced-is, no-medium-is}
 use borrow.Author.Needs.{needs}
 use Rattle.host.proofs.tracing.nonseq_trace_rays.Statement.{statement}
@@ -26,13 +27,13 @@ same-length-4 : tie.Need-same-length-4
 same-length-4 c = search needs
 
 returns : tie.Need-returns
-returns c = traced-is _ _ _ _ _ _ _ (c .before .before .before .before .before .before .before .before .before .before .before .before .before .before .config-of .result) (c .before .before .before .before .before .before .before .before .before .trace-rays .result) _ _ _ _ _ _ (c .before .before .before .before .before .before .before .before .before .before .before .before .before .before .before .if1 .taken) (c .before .before .before .before .before .before .before .before .before .before .before .before .before .before .config-of .ensures) (c .before .before .before .before .before .before .before .before .before .trace-rays .ensures) (c .told .ensures)
+returns c = traced-is _ _ _ _ _ _ _ (c .before .before .before .before .before .before .before .before .before .before .before .before .before .before .config-of .result) (c .before .before .before .before .before .before .before .before .before .trace-rays .result) _ _ _ _ _ _ (omega arith) (c .before .before .before .before .before .before .before .before .before .before .before .before .before .before .config-of .ensures) (c .before .before .before .before .before .before .before .before .before .trace-rays .ensures) (c .told .ensures)
 
 no-medium-requires : tie.Need-no-medium-requires
 no-medium-requires c κs = search needs
 
 returns-2 : tie.Need-returns-2
-returns-2 c = no-medium-is _ _ _ _ _ _ _ _ _ _ _ _ _ _ (c .before .if1 .left) (c .no-medium .ensures)
+returns-2 c = no-medium-is _ _ _ _ _ _ _ _ _ _ _ _ _ _ (omega arith) (c .no-medium .ensures)
 
 pub nonseq-trace-rays-spec : {M : Type 1} → statement M
 nonseq-trace-rays-spec =
