@@ -1,4 +1,4 @@
-/* The stray-light tracer for C hosts: target/staticlib/libhost.a, made by `rt staticlib host`.
+/* The stray-light tracer for C hosts: target/hosts/libnonseq.a, made by hosts/build.
  *
  * Every call takes every value, checks what it is given, does nothing undefined and ends. `refusal` is 0 where
  * nothing is refused, else the number of the refusal (NONSEQ_.. below), and `place` is the list place of what

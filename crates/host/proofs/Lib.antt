@@ -4,4 +4,3 @@ pub mod Arrays
 pub mod Given
 pub mod Laying
 pub mod Told
-pub mod Alike

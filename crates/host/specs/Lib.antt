@@ -1,7 +1,3 @@
--- What a host's calls answer, in numbers.
-pub mod Numbers
-pub mod Detecting
-pub mod Maps
+-- What the entries for hosts answer and leave.
 pub mod Tracing
 pub mod Flat
-pub mod Texts

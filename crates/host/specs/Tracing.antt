@@ -4,9 +4,7 @@ use mathlib.Core.Bool.{cond}
 use mathlib.Core.List.{List}
 use lib.Dec.{leb}
 use lib.Ieee.{Float}
-use Rattle.error.specs.declared.Check.{Check}
-use Rattle.error.specs.declared.Check.the-variants.{Passed, Refused}
-use Rattle.error.specs.Refusals.{numberOf}
+use Rattle.error.specs.Refusals.{checkOf}
 use Rattle.material.specs.Media.{mediumOf}
 use Rattle.detectors.specs.declared.Detectors.{Detectors}
 use Rattle.memory.specs.Memory.{Memory, Outcome, done, refused, leftOf}
@@ -14,6 +12,7 @@ use Rattle.turn.specs.declared.NonSeqTraceConfig.{NonSeqTraceConfig}
 use Rattle.report.specs.Report.{startReportOf, #0}
 use Rattle.trace.specs.declared.Traced.{Traced}
 use Rattle.trace.specs.Trace.{batchOf, Trace, traceRaysOf}
+use Rattle.host_numbers.specs.Numbers.{checkedFrom}
 use Rattle.host.specs.declared.answers.HostConfig.{HostConfig}
 use Rattle.host.specs.declared.answers.HostTraced.{HostTraced}
 
@@ -59,16 +58,10 @@ hostTraceOf g x k n v t m s =
     (leftBy (record { outcome = refused 17 0 s; report = startReportOf 0 #0 }))
 
 -- of the code's answers
-abbrev pub numberIn : Check → ℕ
-numberIn Passed = 0
-numberIn (Refused e place) = numberOf e
-
-abbrev pub placeIn : Check → ℕ
-placeIn Passed = 0
-placeIn (Refused e place) = place
-
 unfoldable pub toldOf : Traced → HostTraced
-toldOf r = record { refusal = numberIn (r .check); place = placeIn (r .check); used = r .used; report = r .report; detectors = r .detectors }
+toldOf r =
+    let c = checkedFrom (checkOf (r .check)) in
+    record { refusal = c .refusal; place = c .place; used = r .used; report = r .report; detectors = r .detectors }
 
 unfoldable pub noMediumOf : Detectors → ℕ → HostTraced
 noMediumOf ds used = record { refusal = 17; place = 0; used = used; report = startReportOf 0 #0; detectors = ds }

@@ -1,12 +1,11 @@
 // The rules that a host gives, and a tracing's answer to it.
 use detectors::Detectors;
-use error::Check;
 use material::OpticalMedium;
 use report::NonSeqTraceReport;
 use trace::Traced;
 use turn::NonSeqTraceConfig;
 ghost use mathlib.Core.Path.{_≡_};
-ghost use Rattle.host.specs.Tracing.{configOf, numberIn, placeIn, toldOf, noMediumOf};
+ghost use Rattle.host.specs.Tracing.{configOf, toldOf, noMediumOf};
 
 // The rules of a tracing; the ambient medium by document 01's number, with its coefficients from a on.
 #[repr(C)]
@@ -43,33 +42,16 @@ pub fn config_of(g: HostConfig) -> NonSeqTraceConfig
     }
 }
 
-fn number_in(check: Check) -> u32
-    ensures { λ r. ⌜ r ≡ numberIn check ⌝ }
-{
-    match check {
-        Check::Passed => 0,
-        Check::Refused { error, place: _ } => error.number(),
-    }
-}
-
-fn place_in(check: Check) -> u32
-    ensures { λ r. ⌜ r ≡ placeIn check ⌝ }
-{
-    match check {
-        Check::Passed => 0,
-        Check::Refused { error: _, place } => place,
-    }
-}
-
 pub fn told(r: Traced) -> HostTraced
     ensures { λ h. ⌜ h ≡ toldOf r ⌝ }
 {
     let check = r.check;
     let report = r.report;
     let detectors = r.detectors;
+    let c = host_numbers::checked(check);
     HostTraced {
-        refusal: number_in(check),
-        place: place_in(check),
+        refusal: c.refusal,
+        place: c.place,
         used: r.used,
         report,
         detectors,

@@ -1,0 +1,63 @@
+-- The lent maps and the hit list.
+use Prim.Native.Nat.{ℕ}
+use mathlib.Core.Bool.{cond}
+use mathlib.Core.List.{List}
+use lib.Dec.{leb}
+use lib.Ieee.{Float}
+use Rattle.error.specs.Refusals.{Checked, passed, refusedAt}
+use Rattle.detector.specs.Pixels.{pixelsOf}
+use Rattle.detectors.specs.declared.Detectors.{Detectors}
+use Rattle.detectors.specs.declared.Placed.{Placed}
+use Rattle.memory.specs.Memory.{Memory, Outcome, done, refused}
+use Rattle.filter.specs.Filters.{filterOf}
+use Rattle.filtering.specs.Handed.{Handed, handed, refilterOf}
+use Rattle.host_detectors.specs.declared.maps.HostRecorded.{HostRecorded}
+use Rattle.host_detectors.specs.declared.maps.HostFiltered.{HostFiltered}
+use Rattle.host_detectors.specs.declared.maps.HostPart.{HostPart}
+use Rattle.host_numbers.specs.Numbers.{#0}
+
+-- ---- what a recording answers and leaves
+
+pub record Recording : Type 0 where
+  pub answer : HostRecorded
+  pub flux : List Float
+  pub hits : List ℕ
+  pub places : List Float
+  pub kinds : List ℕ
+
+abbrev pub recorded : HostRecorded → List Float → List ℕ → List Float → List ℕ → Recording
+recorded r f h v t = record { answer = r; flux = f; hits = h; places = v; kinds = t }
+
+abbrev pub recordedWith : ℕ → ℕ → Memory → Recording
+recordedWith n place m = recorded (record { refusal = n; place = place; used = m .used; detectors = m .detectors }) (m .flux) (m .hits) (m .values) (m .tags)
+
+abbrev pub recordedFrom : Outcome Memory → Recording
+recordedFrom (done m) = recordedWith 0 0 m
+recordedFrom (refused n place m) = recordedWith n place m
+
+-- ---- what a filter answers, and the work map
+
+pub record Sifted : Type 0 where
+  pub answer : HostFiltered
+  pub work : List Float
+
+abbrev pub filtered : HostFiltered → List Float → Sifted
+filtered r m = record { answer = r; work = m }
+
+abbrev pub filteredWith : Checked Unit → List Float → Float → ℕ → Sifted
+filteredWith (passed u) m t n = filtered (record { refusal = 0; place = 0; «total_flux_watts» = t; «hit_count» = n }) m
+filteredWith (refusedAt k place) m t n = filtered (record { refusal = k; place = place; «total_flux_watts» = t; «hit_count» = n }) m
+
+abbrev pub filteredFrom : Handed → Sifted
+filteredFrom h = filteredWith (h .check) (h .map) (h .total) (h .count)
+
+-- a number over 4 is no filter (17)
+unfoldable pub hostRefilterOf : Detectors → ℕ → ℕ → List Float → List Float → List Float → List ℕ → ℕ → Handed
+hostRefilterOf ds asked f stored work values tags used =
+    cond (leb f 4) (refilterOf ds (record { 0 = asked }) (filterOf f) stored work values tags used) (handed (refusedAt 17 0) work #0 0)
+
+-- ---- where a detector's pixels stand
+
+abbrev pub partFrom : Checked Placed → HostPart
+partFrom (passed p) = record { refusal = 0; place = 0; «first» = p .«first»; pixels = pixelsOf (p .detector) }
+partFrom (refusedAt n place) = record { refusal = n; place = place; «first» = 0; pixels = 0 }

@@ -1,0 +1,2 @@
+-- Refusals and readings in the numbers that hosts get.
+pub mod Numbers

@@ -1,0 +1,18 @@
+-- A refusal as two numbers, its own and its place: 0 and 0 where nothing is refused.
+use Prim.Native.Nat.{ℕ}
+use lib.Ieee.{Float, binary64, ofBits}
+use Rattle.error.specs.Refusals.{Checked, passed, refusedAt}
+use Rattle.host_numbers.specs.declared.HostChecked.{HostChecked}
+use Rattle.host_numbers.specs.declared.HostReading.{HostReading}
+
+abbrev pub #0 : Float
+#0 = ofBits binary64 0
+
+abbrev pub checkedFrom : Checked Unit → HostChecked
+checkedFrom (passed u) = record { refusal = 0; place = 0 }
+checkedFrom (refusedAt n place) = record { refusal = n; place = place }
+
+-- a double, 0 where it is refused
+abbrev pub readingFrom : Checked Float → HostReading
+readingFrom (passed x) = record { refusal = 0; place = 0; value = x }
+readingFrom (refusedAt n place) = record { refusal = n; place = place; value = #0 }
