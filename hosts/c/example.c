@@ -52,8 +52,10 @@ int main(void)
     t = nonseq_trace_given_rays(config, values, 0, tags, 0, 0, &ray, 1, detectors, flux, 4, hits, 4, places, 8, kinds, 8, 0);
     expect("the ray is traced", t.refusal == NONSEQ_DONE && t.used == 1);
     expect("nothing is lost", nonseq_energy_conservation_ratio(t.report.ledger) == 1);
-    n = nonseq_put_answer(text, sizeof text, 0, t.report, t.detectors, NONSEQ_ALL, flux, 4, places, 8, kinds, 8, t.used);
+    n = nonseq_put_answer(text, sizeof text, t.report, t.detectors, NONSEQ_ALL, flux, 4, places, 8, kinds, 8, t.used);
+    expect("the answer fits", n <= sizeof text);
     fwrite(text, 1, n, stdout);
+    expect("one byte too few, and nothing is written", nonseq_put_refusal(text, 17, 17, 4) == 19 && text[0] == 'r' && text[1] == 'a');
 
     f = nonseq_refilter(t.detectors, 0, NONSEQ_GHOSTS_ONLY, flux, 4, work, 4, places, 8, kinds, 8, t.used);
     expect("it is no ghost", f.refusal == NONSEQ_DONE && f.hit_count == 0 && work[3] == 0);

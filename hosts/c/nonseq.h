@@ -176,14 +176,16 @@ nonseq_scene nonseq_read_scene(const uint8_t *text, size_t text_len, double *run
                                size_t runs_len, double *values, size_t values_len, uint32_t *tags, size_t tags_len,
                                double *faces, size_t faces_len, uint32_t *sizes, size_t sizes_len, double *rays,
                                size_t rays_len, uint32_t *marks, size_t marks_len);
-/* The answer of a tracing as text from place `at` on; the next place comes back, what has no place is dropped. A
- * filter over 4 is answered by the text of refusal 17, more than 4,096 pixels in all by that of 9. */
-size_t nonseq_put_answer(uint8_t *buf, size_t buf_len, size_t at, nonseq_report report, nonseq_detectors detectors,
+/* Texts are written whole from the buffer's start on, or not at all where they do not fit; their length comes back. */
+
+/* The answer of a tracing. A filter over 4 (17), detectors (3, 5 to 8), slices that are not theirs or more than 4,096
+ * pixels (9) are answered by the text of the refusal. NONSEQ_MAX_ANSWER bytes hold any answer. */
+size_t nonseq_put_answer(uint8_t *buf, size_t buf_len, nonseq_report report, nonseq_detectors detectors,
                          uint32_t filter, const double *flux, size_t flux_len, const double *places, size_t places_len,
                          const uint32_t *kinds, size_t kinds_len, size_t used);
-size_t nonseq_put_refusal(uint8_t *buf, size_t buf_len, size_t at, uint32_t refusal, uint32_t place);
-/* The answer to a scene text, as straymap prints it; NONSEQ_MAX_ANSWER places hold any answer. */
-size_t nonseq_stray_map(uint8_t *buf, size_t buf_len, size_t at, const uint8_t *text, size_t text_len);
+size_t nonseq_put_refusal(uint8_t *buf, size_t buf_len, uint32_t refusal, uint32_t place);
+/* The answer to a scene text, as straymap prints it; NONSEQ_MAX_ANSWER bytes hold any answer. */
+size_t nonseq_stray_map(uint8_t *buf, size_t buf_len, const uint8_t *text, size_t text_len);
 
 #ifdef __cplusplus
 }

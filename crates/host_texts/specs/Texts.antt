@@ -1,12 +1,16 @@
 -- Scene texts and answers.
 use Prim.Native.Nat.{ℕ}
-use mathlib.Core.Bool.{cond}
+use mathlib.Core.Bool.{Bool, false, cond}
 use mathlib.Core.List.{List}
-use lib.Dec.{leb}
+use lib.Dec.{leb, eqb}
+use lib.ListN.{length, take}
 use Rattle.error.specs.Refusals.{Checked, passed, refusedAt}
 use Rattle.filter.specs.Filters.{filterOf}
 use Rattle.report.specs.declared.NonSeqTraceReport.{NonSeqTraceReport}
-use Rattle.detectors.specs.Detectors.{allPixelsOf}
+use Rattle.detectors.specs.declared.Detectors.{Detectors}
+use Rattle.detectors.specs.Detectors.{allPixelsOf, checkDetectorsOf}
+use Rattle.memory.specs.Memory.{isHitListOf}
+use Rattle.printing.specs.Printing.{Out, out, putAll}
 use Rattle.answer_text.specs.Answer.{Held, answerText, refusalText, maxPixels}
 use Rattle.scene_text.specs.Scene.{Slices, Answer}
 use Rattle.host_texts.specs.declared.HostScene.{HostScene}
@@ -26,7 +30,33 @@ sceneWith (refusedAt n place) i j k m = sceneRead (record { refusal = n; place =
 abbrev pub sceneFrom : Answer → SceneRead
 sceneFrom a = sceneWith (a .check) (a .solids) (a .detectors) (a .rays) (a .left)
 
--- a number over 4 is no filter (17), and there is room for 4,096 pixels (9)
+-- ---- what is written
+
+-- the first n bytes, or all
+unfoldable pub frontOf : ℕ → List ℕ → List ℕ
+frontOf n t = cond (leb n (length t)) (take n t) t
+
+-- a text from the start of a buffer on, or nothing where it does not fit, and its length
+unfoldable pub wholeOf : List ℕ → List ℕ → Out
+wholeOf buf t = cond (leb (length t) (length buf)) (putAll buf 0 t) (out buf (length t))
+
+-- ---- the answer
+
+-- whether slices of these lengths are the flux map and the hit list of these detectors
+unfoldable pub isHeldOf : Detectors → ℕ → ℕ → ℕ → ℕ → Bool
+isHeldOf ds nf nv nt used = cond (eqb nf (allPixelsOf ds)) (isHitListOf nv nt used) false
+
+-- 9 for more pixels than there is room for, or other slices
+unfoldable pub heldText : NonSeqTraceReport → ℕ → Held → List ℕ
+heldText r f m =
+    cond (leb (length (m .flux)) maxPixels)
+    (cond (isHeldOf (m .detectors) (length (m .flux)) (length (m .values)) (length (m .tags)) (m .used)) (answerText r (filterOf f) m) (refusalText 9 0))
+    (refusalText 9 0)
+
+abbrev pub textAfter : Checked Unit → List ℕ → List ℕ
+textAfter (passed u) t = t
+textAfter (refusedAt n place) t = refusalText n place
+
+-- a number over 4 is no filter (17); then 3, 5 to 8, 9
 unfoldable pub hostAnswerText : NonSeqTraceReport → ℕ → Held → List ℕ
-hostAnswerText r f m =
-    cond (leb f 4) (cond (leb (allPixelsOf (m .detectors)) maxPixels) (answerText r (filterOf f) m) (refusalText 9 0)) (refusalText 17 0)
+hostAnswerText r f m = cond (leb f 4) (textAfter (checkDetectorsOf (m .detectors)) (heldText r f m)) (refusalText 17 0)

@@ -1,5 +1,6 @@
 // Scene texts and answers for hosts, and the ratio of a ledger. hosts/c/nonseq.h declares the calls for C.
 use detectors::Detectors;
+use error::Check;
 use filter::RayPathFilter;
 use report::Ledger;
 use report::NonSeqTraceReport;
@@ -9,7 +10,7 @@ ghost use Rattle.report.specs.Report.{energyRatioOf};
 ghost use Rattle.answer_text.specs.Answer.{heldOf, refusalText};
 ghost use Rattle.scene_text.specs.Scene.{slices, sceneOf};
 ghost use Rattle.stray_map.specs.StrayMap.{strayMapOf};
-ghost use Rattle.host_texts.specs.Texts.{hostAnswerText, sceneFrom, sceneRead};
+ghost use Rattle.host_texts.specs.Texts.{frontOf, wholeOf, isHeldOf, heldText, hostAnswerText, sceneFrom, sceneRead};
 
 // How many lines of values the blocks have.
 #[repr(C)]
@@ -51,12 +52,39 @@ pub extern "C" fn nonseq_read_scene(
     }
 }
 
-// The answer of a tracing as text, from place `at` on; what has no place is dropped. Answers the next place. A
-// filter over 4 is answered by the text of refusal 17, more than 4,096 pixels in all by that of 9.
-#[no_mangle]
-pub extern "C" fn nonseq_put_answer(
+// The first n bytes of a text, or all.
+fn front(t: &[u8], n: usize) -> &[u8]
+    ensures { λ r. ⌜ now r ≡ frontOf n (now (t .entry)) ⌝ }
+{
+    if n <= t.len() {
+        return &t[..n];
+    }
+    t
+}
+
+// A text from the start of a buffer on, or nothing where it does not fit. Answers its length.
+fn put_whole(buf: &mut [u8], t: &[u8]) -> usize
+    ensures { λ r. ⌜ out (now (buf .exit)) r ≡ wholeOf (now (buf .entry)) (now (t .entry)) ⌝ }
+{
+    if t.len() <= buf.len() {
+        return printing::put_all(buf, 0, t);
+    }
+    t.len()
+}
+
+// Whether slices of these lengths are the flux map and the hit list of these detectors.
+fn is_held(detectors: Detectors, flux: usize, places: usize, kinds: usize, used: usize) -> bool
+    ensures { λ r. ⌜ r ≡ isHeldOf detectors flux places kinds used ⌝ }
+{
+    if flux == detectors.all_pixels() {
+        return memory::is_hit_list(places, kinds, used);
+    }
+    false
+}
+
+// The answer, once filter and detectors are good, or 9.
+fn put_held(
     buf: &mut [u8],
-    at: usize,
     report: NonSeqTraceReport,
     detectors: Detectors,
     filter: u32,
@@ -65,42 +93,86 @@ pub extern "C" fn nonseq_put_answer(
     kinds: &[u32],
     used: usize,
 ) -> usize
-    ensures { λ r. ⌜ out (now (buf .exit)) r ≡ putAll (now (buf .entry)) at
+    ensures { λ r. ⌜ out (now (buf .exit)) r ≡ putAll (now (buf .entry)) 0
+        (heldText report filter (heldOf detectors (now (flux .entry)) (now (places .entry)) (now (kinds .entry)) used)) ⌝ }
+{
+    if flux.len() <= 4096 {
+        if is_held(detectors, flux.len(), places.len(), kinds.len(), used) {
+            let f = RayPathFilter::numbered(filter);
+            return answer_text::put_answer(buf, 0, report, detectors, f, flux, places, kinds, used);
+        }
+        return answer_text::put_refusal(buf, 0, 9, 0);
+    }
+    answer_text::put_refusal(buf, 0, 9, 0)
+}
+
+fn put_text(
+    buf: &mut [u8],
+    report: NonSeqTraceReport,
+    detectors: Detectors,
+    filter: u32,
+    flux: &[f64],
+    places: &[f64],
+    kinds: &[u32],
+    used: usize,
+) -> usize
+    ensures { λ r. ⌜ out (now (buf .exit)) r ≡ putAll (now (buf .entry)) 0
         (hostAnswerText report filter (heldOf detectors (now (flux .entry)) (now (places .entry)) (now (kinds .entry)) used)) ⌝ }
 {
     if filter <= RayPathFilter::LAST {
-        if detectors.all_pixels() <= 4096 {
-            return answer_text::put_answer(
-                buf,
-                at,
-                report,
-                detectors,
-                RayPathFilter::numbered(filter),
-                flux,
-                places,
-                kinds,
-                used,
-            );
+        match detectors.check() {
+            Check::Passed => {
+                return put_held(buf, report, detectors, filter, flux, places, kinds, used);
+            }
+            Check::Refused { error, place } => {
+                return answer_text::put_refusal(buf, 0, error.number(), place);
+            }
         }
-        return answer_text::put_refusal(buf, at, 9, 0);
     }
-    answer_text::put_refusal(buf, at, 17, 0)
+    answer_text::put_refusal(buf, 0, 17, 0)
 }
 
-// A refusal as text.
+// The answer of a tracing as text, whole, or nothing where it does not fit. Answers its length, at most 131,072. A
+// filter over 4 (17), detectors (3, 5 to 8), slices that are not theirs or more than 4,096 pixels (9) are answered by
+// the text of the refusal.
 #[no_mangle]
-pub extern "C" fn nonseq_put_refusal(buf: &mut [u8], at: usize, refusal: u32, place: u32) -> usize
-    ensures { λ r. ⌜ out (now (buf .exit)) r ≡ putAll (now (buf .entry)) at (refusalText refusal place) ⌝ }
+pub extern "C" fn nonseq_put_answer(
+    buf: &mut [u8],
+    report: NonSeqTraceReport,
+    detectors: Detectors,
+    filter: u32,
+    flux: &[f64],
+    places: &[f64],
+    kinds: &[u32],
+    used: usize,
+) -> usize
+    ensures { λ r. ⌜ out (now (buf .exit)) r ≡ wholeOf (now (buf .entry))
+        (hostAnswerText report filter (heldOf detectors (now (flux .entry)) (now (places .entry)) (now (kinds .entry)) used)) ⌝ }
 {
-    answer_text::put_refusal(buf, at, refusal, place)
+    let mut t = [0u8; 131072];
+    let n = put_text(&mut t, report, detectors, filter, flux, places, kinds, used);
+    put_whole(buf, front(&t, n))
 }
 
-// The answer to a scene text, as straymap prints it. 131,072 places hold any answer.
+// A refusal as text, whole, or nothing where it does not fit. Answers its length.
 #[no_mangle]
-pub extern "C" fn nonseq_stray_map(buf: &mut [u8], at: usize, text: &[u8]) -> usize
-    ensures { λ r. ⌜ out (now (buf .exit)) r ≡ putAll (now (buf .entry)) at (strayMapOf (now (text .entry))) ⌝ }
+pub extern "C" fn nonseq_put_refusal(buf: &mut [u8], refusal: u32, place: u32) -> usize
+    ensures { λ r. ⌜ out (now (buf .exit)) r ≡ wholeOf (now (buf .entry)) (refusalText refusal place) ⌝ }
 {
-    stray_map::put_stray_map(buf, at, text)
+    let mut t = [0u8; 64];
+    let n = answer_text::put_refusal(&mut t, 0, refusal, place);
+    put_whole(buf, front(&t, n))
+}
+
+// The answer to a scene text, as straymap prints it, whole, or nothing where it does not fit. Answers its length, at
+// most 131,072.
+#[no_mangle]
+pub extern "C" fn nonseq_stray_map(buf: &mut [u8], text: &[u8]) -> usize
+    ensures { λ r. ⌜ out (now (buf .exit)) r ≡ wholeOf (now (buf .entry)) (strayMapOf (now (text .entry))) ⌝ }
+{
+    let mut t = [0u8; 131072];
+    let n = stray_map::put_stray_map(&mut t, 0, text);
+    put_whole(buf, front(&t, n))
 }
 
 // Detected, absorbed and escaped power over launched; 1 where none was launched.

@@ -58,9 +58,9 @@ extern "C" {
         rays: *mut f64, rays_len: usize, marks: *mut u32, marks_len: usize,
     ) -> HostScene;
     pub fn nonseq_put_answer(
-        buf: *mut u8, buf_len: usize, at: usize, report: crate::Report, detectors: Detectors, filter: u32,
+        buf: *mut u8, buf_len: usize, report: crate::Report, detectors: Detectors, filter: u32,
         flux: *const f64, flux_len: usize, places: *const f64, places_len: usize, kinds: *const u32, kinds_len: usize, used: usize,
     ) -> usize;
-    pub fn nonseq_put_refusal(buf: *mut u8, buf_len: usize, at: usize, refusal: u32, place: u32) -> usize;
-    pub fn nonseq_stray_map(buf: *mut u8, buf_len: usize, at: usize, text: *const u8, text_len: usize) -> usize;
+    pub fn nonseq_put_refusal(buf: *mut u8, buf_len: usize, refusal: u32, place: u32) -> usize;
+    pub fn nonseq_stray_map(buf: *mut u8, buf_len: usize, text: *const u8, text_len: usize) -> usize;
 }

@@ -168,7 +168,7 @@ impl Memory {
     pub(crate) fn write(&self, buf: &mut [u8], report: &Report, filter: Filter) -> usize {
         unsafe {
             ffi::nonseq_put_answer(
-                buf.as_mut_ptr(), buf.len(), 0, *report, self.detectors, filter.number(), self.flux.as_ptr(), self.flux.len(),
+                buf.as_mut_ptr(), buf.len(), *report, self.detectors, filter.number(), self.flux.as_ptr(), self.flux.len(),
                 self.places.as_ptr(), self.places.len(), self.kinds.as_ptr(), self.kinds.len(), self.used,
             )
         }

@@ -34,7 +34,7 @@ pub struct SceneText {
 /// The answer to a scene text, or its refusal, as the program straymap prints it.
 pub fn stray_map(text: &[u8]) -> Vec<u8> {
     let mut buf = vec![0; MAX_ANSWER];
-    let n = unsafe { ffi::nonseq_stray_map(buf.as_mut_ptr(), buf.len(), 0, text.as_ptr(), text.len()) };
+    let n = unsafe { ffi::nonseq_stray_map(buf.as_mut_ptr(), buf.len(), text.as_ptr(), text.len()) };
     buf.truncate(n);
     buf
 }
@@ -86,7 +86,7 @@ pub fn write_answer(memory: &Memory, report: &Report, filter: Filter) -> Vec<u8>
 /// A refusal as text.
 pub fn write_refusal(error: &Error) -> Vec<u8> {
     let mut buf = vec![0; 64];
-    let n = unsafe { ffi::nonseq_put_refusal(buf.as_mut_ptr(), buf.len(), 0, error.number, error.place) };
+    let n = unsafe { ffi::nonseq_put_refusal(buf.as_mut_ptr(), buf.len(), error.number, error.place) };
     buf.truncate(n);
     buf
 }

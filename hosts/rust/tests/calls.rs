@@ -235,6 +235,11 @@ fn texts() {
     assert_eq!((&s.rays[..], s.marks[0], s.marks[1]), (&[1.0, 1.0, 0.0, 0.0, 0.0, 1.0, 550.0, 1.0][..], 0, 0));
     assert_eq!(number(read_scene(b"threshold\n")), (17, 1));
     assert_eq!(write_refusal(&Error { number: 17, place: 4_294_967_295 }), b"refusal place\n17 4294967295\n");
+    let mut small = [7u8; 18];
+    let n = unsafe { ffi::nonseq_put_refusal(small.as_mut_ptr(), 17, 17, 4) };
+    assert_eq!((n, small), (19, [7; 18]));
+    let n = unsafe { ffi::nonseq_stray_map(small.as_mut_ptr(), 18, SCENE.as_ptr(), SCENE.len()) };
+    assert_eq!((n, small), (ANSWER.len(), [7; 18]));
     let big = Memory::new(&[screen(1.0, 65)], 0).unwrap();
     assert_eq!(write_answer(&big, &Report::default(), Filter::All), b"refusal place\n9 0\n");
 }

@@ -1,58 +1,38 @@
 -- `host_texts::nonseq_put_answer` meets its contract. Assumes nothing.
-use borrow.Author.Tests.{le-leb, lt-leb}
-use Rattle.host_texts.specs.Texts.{hostAnswerText}
+use Rattle.host_texts.proofs.Whole.{whole-in, host-short}
 use borrow.Author.Needs.{needs}
 use Rattle.host_texts.proofs.nonseq_put_answer.Statement.{statement}
 use Rattle.host_texts.proofs.nonseq_put_answer.Tie as tie
 
-all-pixels-requires : tie.Need-all-pixels-requires
-all-pixels-requires c κs = search needs
+slice-aggregate-put-text : tie.Need-slice-aggregate-put-text
+slice-aggregate-put-text c = search needs
 
-numbered-requires : tie.Need-numbered-requires
-numbered-requires c κs = search needs
+put-text-requires : tie.Need-put-text-requires
+put-text-requires c κs = search needs
 
-put-answer-requires : tie.Need-put-answer-requires
-put-answer-requires c κs = search needs
+slice-aggregate-front : tie.Need-slice-aggregate-front
+slice-aggregate-front c = search needs
+
+front-requires : tie.Need-front-requires
+front-requires c κs = search needs
+
+put-whole-requires : tie.Need-put-whole-requires
+put-whole-requires c κs = search needs
 
 same-length : tie.Need-same-length
 same-length c = search needs
 
 returns : tie.Need-returns
-unfolding hostAnswerText
-returns c = simp (le-leb _ _ (c .before .before .before .before .before .before .before .if1 .taken), ← c .before .before .before .before .before .before .all-pixels .ensures, le-leb _ _ (c .before .before .before .before .before .if2 .taken), ← c .before .before .before .numbered .ensures, ← c .before .before .put-answer .ensures)
-
-put-refusal-requires : tie.Need-put-refusal-requires
-put-refusal-requires c κs = search needs
-
-same-length-2 : tie.Need-same-length-2
-same-length-2 c = search needs
-
-returns-2 : tie.Need-returns-2
-unfolding hostAnswerText
-returns-2 c = simp (le-leb _ _ (c .before .before .before .before .before .before .if1 .taken), ← c .before .before .before .before .before .all-pixels .ensures, lt-leb _ _ (c .before .before .before .before .if2 .left), ← c .before .before .put-refusal .ensures)
-
-put-refusal-requires-2 : tie.Need-put-refusal-requires-2
-put-refusal-requires-2 c κs = search needs
-
-same-length-3 : tie.Need-same-length-3
-same-length-3 c = search needs
-
-returns-3 : tie.Need-returns-3
-unfolding hostAnswerText
-returns-3 c = simp (lt-leb _ _ (c .before .before .before .before .if1 .left), ← c .before .before .put-refusal2 .ensures)
+returns c = whole-in _ _ _ _ _ _ _ (host-short _ _ _) (c .before .before .before .before .before .before .before .put-text .ensures) (c .before .before .before .front .ensures) (c .before .before .put-whole .ensures)
 
 pub nonseq-put-answer-spec : {M : Type 1} → statement M
 nonseq-put-answer-spec =
     tie.close
     (tie.spec
-    all-pixels-requires
-    numbered-requires
-    put-answer-requires
+    slice-aggregate-put-text
+    put-text-requires
+    slice-aggregate-front
+    front-requires
+    put-whole-requires
     same-length
-    returns
-    put-refusal-requires
-    same-length-2
-    returns-2
-    put-refusal-requires-2
-    same-length-3
-    returns-3)
+    returns)
