@@ -22,7 +22,7 @@ fn solve(a: f64, b: f64, c: f64) -> Roots
     if disc < 0.0 {
         return Roots::Nothing;
     }
-    let q = doubles::sqrt(disc);
+    let q = doubles::root_elsewhere(disc);
     Roots::Two {
         first: (-b - q) / (2.0 * a),
         second: (-b + q) / (2.0 * a),
@@ -86,7 +86,7 @@ fn cylinder_at(radius: f64, half_length: f64, ray: Ray, t: f64) -> LocalIntersec
     let o = ray.origin;
     let d = ray.direction;
     if t > Ray::MIN_LOCAL_DISTANCE {
-        if doubles::abs(reach(o.z, d.z, t)) <= half_length {
+        if doubles::is_within(reach(o.z, d.z, t), half_length) {
             return cylinder_hit(radius, ray, t);
         }
     }
