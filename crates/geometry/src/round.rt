@@ -6,6 +6,7 @@ use rays::Ray;
 use rays::Vec3;
 ghost use mathlib.Core.Path.{_≡_};
 ghost use Rattle.geometry.specs.Hits.{localHitOf};
+ghost use Rattle.geometry.specs.Away.{awayOf};
 ghost use Rattle.geometry.specs.Round.{solveOf, sphereAtOf, sphereAmongOf, intersectSphereOf, cylinderHitOf, cylinderAtOf, cylinderAmongOf, cylinderRootsOf, intersectCylinderOf};
 
 // The roots of a quadratic equation, in the order in which they are tried.
@@ -52,6 +53,20 @@ fn sphere_among(radius: f64, ray: Ray, candidates: Roots) -> LocalIntersection
     }
 }
 
+// Whether a ray outside a sphere surely runs away from it, told by b and c before any root: the root of b * b - 4 a c
+// is then at most b. The bits say that b is above 0 and that its square is no subnormal number and no infinity.
+fn is_away(b: f64, c: f64) -> bool
+    ensures { λ r. ⌜ r ≡ awayOf b c ⌝ }
+{
+    if c > 0.0 {
+        let bits = doubles::to_bits(b);
+        if 0x2000_0000_0000_0000 <= bits {
+            return bits < 0x5000_0000_0000_0000;
+        }
+    }
+    false
+}
+
 // A negative radius counts as its absolute value.
 pub fn intersect_sphere(radius: f64, ray: Ray) -> LocalIntersection
     ensures { λ h. ⌜ localHitOf h ≡ intersectSphereOf radius ray ⌝ }
@@ -62,6 +77,9 @@ pub fn intersect_sphere(radius: f64, ray: Ray) -> LocalIntersection
     let a = d.dot(d);
     let b = 2.0 * o.dot(d);
     let c = o.dot(o) - r * r;
+    if is_away(b, c) {
+        return LocalIntersection::Miss;
+    }
     sphere_among(r, ray, solve(a, b, c))
 }
 
