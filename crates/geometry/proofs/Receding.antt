@@ -406,14 +406,28 @@ away-none b c f e a radius r p =
     and-right true b e = e
     and-right false b e = absurd (true≢false (sym e))
 
-pub sphere-passed : (radius s : Float) (r : Ray) (x o2 : Float) (t : Bool) → s ≡ absOf radius → x ≡ dotOf (r .origin) (r .direction) → o2 ≡ dotOf (r .origin) (r .origin) → t ≡ awayOf (mul binary64 #2 x) (sub binary64 o2 (mul binary64 s s)) → t ≡ true → none ≡ intersectSphereOf radius r
+-- the sign of a radius is lost in its square
+pub abs-square : (x : Float) → mul binary64 (absOf x) (absOf x) ≡ mul binary64 x x
+unfolding absOf mul
+abs-square nan = refl
+abs-square (inf true) = refl
+abs-square (inf false) = refl
+abs-square (fin true m e) = refl
+abs-square (fin false m e) = refl
+
+pub sphere-passed : (radius : Float) (r : Ray) (x o2 : Float) (t : Bool) → x ≡ dotOf (r .origin) (r .direction) → o2 ≡ dotOf (r .origin) (r .origin) → t ≡ awayOf (mul binary64 #2 x) (sub binary64 o2 (mul binary64 radius radius)) → t ≡ true → none ≡ intersectSphereOf radius r
 unfolding intersectSphereOf
-sphere-passed radius s r x o2 t es ex eo et e =
+sphere-passed radius r x o2 t ex eo et e =
     sym
     (away-none (mul binary64 #2 (dotOf (r .origin) (r .direction))) (sub binary64 (dotOf (r .origin) (r .origin)) (mul binary64 (absOf radius) (absOf radius)))
     (mul-fits binary64 #2 (dotOf (r .origin) (r .direction)))
     (ap (λ (y : Float). awayOf (mul binary64 #2 y) (sub binary64 (dotOf (r .origin) (r .origin)) (mul binary64 (absOf radius) (absOf radius)))) (sym ex)
     ∙ ap (λ (y : Float). awayOf (mul binary64 #2 x) (sub binary64 y (mul binary64 (absOf radius) (absOf radius)))) (sym eo)
-    ∙ ap (λ (y : Float). awayOf (mul binary64 #2 x) (sub binary64 o2 (mul binary64 y y))) (sym es)
+    ∙ ap (λ (y : Float). awayOf (mul binary64 #2 x) (sub binary64 o2 y)) (abs-square radius)
     ∙ sym et ∙ e)
     (dotOf (r .direction) (r .direction)) (absOf radius) r (dot-above (r .direction)))
+
+-- the sphere by its roots
+pub sphere-rooted : (radius s : Float) (r : Ray) (a x o2 : Float) (k : Roots) (h : Option LocalHit) → s ≡ absOf radius → a ≡ dotOf (r .direction) (r .direction) → x ≡ dotOf (r .origin) (r .direction) → o2 ≡ dotOf (r .origin) (r .origin) → k ≡ solveOf a (mul binary64 #2 x) (sub binary64 o2 (mul binary64 radius radius)) → h ≡ sphereAmongOf s r k → h ≡ intersectSphereOf radius r
+unfolding intersectSphereOf
+sphere-rooted radius s r a x o2 k h es ea ex eo ek eh = rw (eh, ek, es, ea, ex, eo, ← abs-square radius)

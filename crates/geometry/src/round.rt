@@ -76,7 +76,7 @@ pub fn intersect_sphere(radius: f64, ray: Ray) -> LocalIntersection
     let d = ray.direction;
     let a = d.dot(d);
     let b = 2.0 * o.dot(d);
-    let c = o.dot(o) - r * r;
+    let c = o.dot(o) - radius * radius;
     if is_away(b, c) {
         return LocalIntersection::Miss;
     }

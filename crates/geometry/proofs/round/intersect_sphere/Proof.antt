@@ -1,6 +1,5 @@
 -- `geometry::round::intersect_sphere` meets its contract. Assumes nothing.
-use Rattle.geometry.specs.Round.{intersectSphereOf}
-use Rattle.geometry.proofs.Receding.{sphere-passed}
+use Rattle.geometry.proofs.Receding.{sphere-passed, sphere-rooted}
 use borrow.Author.Needs.{needs}
 use Rattle.geometry.proofs.round.intersect_sphere.Statement.{statement}
 use Rattle.geometry.proofs.round.intersect_sphere.Tie as tie
@@ -21,7 +20,7 @@ is-away-requires : tie.Need-is-away-requires
 is-away-requires c κs = search needs
 
 returns : tie.Need-returns
-returns c = sphere-passed _ _ _ _ _ _ (c .before .before .before .before .before .before .before .abs .ensures) (c .before .before .before .dot2 .ensures) (c .before .before .dot3 .ensures) (c .before .is-away .ensures) (c .if1 .taken)
+returns c = sphere-passed _ _ _ _ _ (c .before .before .before .dot2 .ensures) (c .before .before .dot3 .ensures) (c .before .is-away .ensures) (c .if1 .taken)
 
 solve-requires : tie.Need-solve-requires
 solve-requires c κs = search needs
@@ -30,8 +29,7 @@ sphere-among-requires : tie.Need-sphere-among-requires
 sphere-among-requires c κs = search needs
 
 returns-2 : tie.Need-returns-2
-unfolding intersectSphereOf
-returns-2 c = simp (← c .before .before .before .before .before .before .before .before .before .abs .ensures, ← c .before .before .before .before .before .before .dot .ensures, ← c .before .before .before .before .before .dot2 .ensures, ← c .before .before .before .before .dot3 .ensures, ← c .before .solve .ensures, ← c .sphere-among .ensures)
+returns-2 c = sphere-rooted _ _ _ _ _ _ _ _ (c .before .before .before .before .before .before .before .before .before .abs .ensures) (c .before .before .before .before .before .before .dot .ensures) (c .before .before .before .before .before .dot2 .ensures) (c .before .before .before .before .dot3 .ensures) (c .before .solve .ensures) (c .sphere-among .ensures)
 
 pub intersect-sphere-spec : {M : Type 1} → statement M
 intersect-sphere-spec =
