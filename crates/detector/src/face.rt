@@ -50,8 +50,8 @@ impl Face {
         let offset = ray.at(t).minus(self.center);
         let local_x = offset.dot(self.right);
         let local_y = offset.dot(self.up);
-        if doubles::abs(local_x) <= self.half_width {
-            if doubles::abs(local_y) <= self.half_height {
+        if doubles::is_within(local_x, self.half_width) {
+            if doubles::is_within(local_y, self.half_height) {
                 return Crossed::At(Crossing {
                     t,
                     local_x,
@@ -69,7 +69,7 @@ impl Face {
         let direction = ray.direction;
         let center = self.center;
         let denom = direction.dot(self.normal);
-        if doubles::abs(denom) < 1e-12 {
+        if doubles::is_under(denom, 1e-12) {
             return Crossed::Miss;
         }
         let t = center.minus(ray.origin).dot(self.normal) / denom;

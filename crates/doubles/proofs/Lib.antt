@@ -6,3 +6,4 @@ pub mod Slow
 pub mod Patterns
 pub mod Roots
 pub mod Beside
+pub mod Sizes

@@ -2,10 +2,11 @@
 // out. Every function takes every bit pattern; there is one NaN.
 mod root;
 
+pub use root::root_elsewhere;
 pub use root::sqrt;
 ghost use mathlib.Core.Path.{_≡_};
 ghost use mathlib.Core.Bool.{false};
-ghost use lib.Ieee.{inf, binary64, ofBits, toBits, toUnsigned};
+ghost use lib.Ieee.{inf, binary64, lt, le, ofBits, toBits, toUnsigned};
 ghost use Rattle.doubles.specs.Doubles.{absOf, clampOf, maxZeroOf, finiteOf};
 
 // The double of a bit pattern. Every NaN pattern gives the one NaN.
@@ -36,6 +37,36 @@ pub fn abs(x: f64) -> f64
         return x;
     }
     f64::from_bits(f64::to_bits(x) % 0x8000_0000_0000_0000)
+}
+
+// `x.abs() > h`, without a test for NaN.
+pub fn exceeds(x: f64, h: f64) -> bool
+    ensures { λ r. ⌜ r ≡ lt h (absOf x) ⌝ }
+{
+    if x > h {
+        return true;
+    }
+    x < -h
+}
+
+// `x.abs() < h`.
+pub fn is_under(x: f64, h: f64) -> bool
+    ensures { λ r. ⌜ r ≡ lt (absOf x) h ⌝ }
+{
+    if x < h {
+        return x > -h;
+    }
+    false
+}
+
+// `x.abs() <= h`.
+pub fn is_within(x: f64, h: f64) -> bool
+    ensures { λ r. ⌜ r ≡ le (absOf x) h ⌝ }
+{
+    if x <= h {
+        return x >= -h;
+    }
+    false
 }
 
 // `x.clamp(lo, hi)`: keeps NaN, and keeps -0 between 0 and 1. Where lo is above hi or one of them

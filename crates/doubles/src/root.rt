@@ -158,8 +158,8 @@ fn root_guessed(b: u64) -> f64
     )
 }
 
-// The root of any double, one that is not beside 1 as a rule.
-fn root_elsewhere(x: f64) -> f64
+// The root of any double, one that is not beside 1 as a rule: for callers whose roots lie anywhere.
+pub fn root_elsewhere(x: f64) -> f64
     ensures { λ r. ⌜ r ≡ sqrtOf x ⌝ }
 {
     if x != x {

@@ -1,2 +1,3 @@
 -- What holds of the definitions.
 pub mod Sights
+pub mod Written

@@ -3,12 +3,12 @@ use Prim.Native.Nat.{ℕ}
 use mathlib.Core.Bool.{cond}
 use mathlib.Core.List.{List, [], _∷_}
 use mathlib.Core.Option.{Option, none, some}
-use lib.Dec.{leb}
+use lib.Dec.{leb, ltb}
 use lib.Ieee.{Float, nan}
 use lib.ListN.{getD}
 use Rattle.rays.specs.declared.Ray.{Ray}
 use Rattle.rays.specs.Vectors.{vec3}
-use Rattle.nearest.specs.Nearest.{nearestOf}
+use Rattle.nearest.specs.Nearest.{nearerOf, nearestOf}
 use Rattle.detector.specs.declared.Detector2D.{Detector2D}
 use Rattle.detector.specs.declared.face.Face.{Face}
 use Rattle.detector.specs.declared.face.Crossing.{Crossing}
@@ -53,6 +53,10 @@ sightFrom i none = none
 
 abbrev pub sightsOf : List Face → Ray → ℕ → Option Sight
 sightsOf l r i = sightFrom i (crossingOf (getD l i noFace) r)
+
+-- the best so far, or what detector i offers if that is one of the first n
+unfoldable pub seenOf : ℕ → ℕ → Option Sight → Option Sight → Option Sight
+seenOf i n best offer = cond (ltb i n) (nearerOf Sight sightDistance best offer) best
 
 -- how many faces there are; a list that 3 refuses has 8
 unfoldable pub shownOf : ℕ → ℕ

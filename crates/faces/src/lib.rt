@@ -11,7 +11,7 @@ ghost use Prim.Native.Nat.{_≤_};
 ghost use Rattle.nearest.specs.Nearest.{distanceOf, nearerOf};
 ghost use Rattle.detector.specs.Faces.{crossingOf};
 ghost use Rattle.faces.specs.declared.Sight.{Sight};
-ghost use Rattle.faces.specs.Faces.{facesOf, sightDistance, sightFrom, shownOf, nearestDetectorOf, sightOf};
+ghost use Rattle.faces.specs.Faces.{facesOf, sightDistance, sightFrom, seenOf, shownOf, nearestDetectorOf, sightOf};
 
 pub struct Faces {
     pub list: [Face; 8],
@@ -57,6 +57,16 @@ fn nearer(face: Face, i: u32, ray: Ray, best: Sighting) -> Sighting
     }
 }
 
+// The best so far, or the crossing of detector i if that is one of the first n.
+fn seen(face: Face, i: u32, n: u32, ray: Ray, best: Sighting) -> Sighting
+    ensures { λ r. ⌜ sightOf r ≡ seenOf i n (sightOf best) (sightFrom i (crossingOf face ray)) ⌝ }
+{
+    if i < n {
+        return nearer(face, i, ray, best);
+    }
+    best
+}
+
 // At most the 8 that the list has.
 fn shown(count: u32) -> u32
     ensures { λ r. ⌜ (r ≡ shownOf count) × (r ≤ 8) ⌝ }
@@ -95,19 +105,29 @@ impl Faces {
         }
     }
 
-    // The nearest detector that a ray crosses; the first listed wins ties.
+    // The nearest detector that a ray crosses; the first listed wins ties. Written out eight times, so that
+    // each face is read where it stands: an index that is worked out would have the list copied first.
     pub fn nearest(self, ray: Ray) -> Sighting
         ensures { λ r. ⌜ sightOf r ≡ nearestDetectorOf self ray ⌝ }
     {
         let list = self.list;
         let n = shown(self.count);
-        let mut best = Sighting::Nothing;
-        let mut i: u32 = 0;
-        while i < n {
-            let face = list[i as usize];
-            best = nearer(face, i, ray, best);
-            i += 1;
-        }
-        best
+        let f0 = list[0];
+        let f1 = list[1];
+        let f2 = list[2];
+        let f3 = list[3];
+        let f4 = list[4];
+        let f5 = list[5];
+        let f6 = list[6];
+        let f7 = list[7];
+        let nothing = Sighting::Nothing;
+        let s0 = seen(f0, 0, n, ray, nothing);
+        let s1 = seen(f1, 1, n, ray, s0);
+        let s2 = seen(f2, 2, n, ray, s1);
+        let s3 = seen(f3, 3, n, ray, s2);
+        let s4 = seen(f4, 4, n, ray, s3);
+        let s5 = seen(f5, 5, n, ray, s4);
+        let s6 = seen(f6, 6, n, ray, s5);
+        seen(f7, 7, n, ray, s6)
     }
 }

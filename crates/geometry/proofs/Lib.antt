@@ -4,3 +4,5 @@ pub mod Signs
 pub mod Behind
 pub mod Local
 pub mod Unit
+pub mod Squares
+pub mod Receding

@@ -203,31 +203,22 @@ unit-finite v u e = go (le l (ofBits binary64 0x3cd203af9ee75616)) (finiteOf l) 
 abbrev ray-of : Vec3 → Vec3 → Ray → Ray
 ray-of o u r = record { origin = o; direction = u; «wavelength_nm» = r .«wavelength_nm»; energy = r .energy }
 
-abbrev made-if : Bool → Bool → Bool → Ray → Option Ray
-made-if a b c q = cond a (cond b (cond c (some q) none) none) none
-
-choose : (a t b c : Bool) (q : Ray) → t ≡ true → madeOf (cond (a && t && b && c) (value q) (refusal 16)) ≡ made-if a b c q
+choose : (a t b c : Bool) (q : Ray) → t ≡ true → madeOf (cond (a && t && b && c) (value q) (refusal 16)) ≡ cond (a && b && c) (some q) none
 unfolding madeOf
 choose true t true true q e = rw e
 choose true t true false q e = rw e
 choose true t false c q e = rw e
 choose false t b c q e = refl
 
-from-made : (o v : Vec3) (r : Ray) (k : unit.UnitVector) (u : Vec3) → unitVectorOf k ≡ unitOf v → k ≡ unit.the-variants.Made u → rayFromOf o v r ≡ made-if (finiteVecOf o) (finiteOf (r .«wavelength_nm»)) (finiteOf (r .energy)) (ray-of o u r)
+from-made : (o v : Vec3) (r : Ray) (k : unit.UnitVector) (u : Vec3) → unitVectorOf k ≡ unitOf v → k ≡ unit.the-variants.Made u → rayFromOf o v r ≡ cond (finiteVecOf o && finiteOf (r .«wavelength_nm») && finiteOf (r .energy)) (some (ray-of o u r)) none
 unfolding rayFromOf rayByOf newRayOf finiteRayOf
 from-made o v r k u p e =
     let is : unitOf v ≡ some u = sym p ∙ ap unitVectorOf e in
     ap (rayByOf o r) is
     ∙ choose (finiteVecOf o) (finiteVecOf u) (finiteOf (r .«wavelength_nm»)) (finiteOf (r .energy)) (ray-of o u r) (unit-finite v u is)
 
-pub ray-made : (o v : Vec3) (r : Ray) (k : unit.UnitVector) (u : Vec3) (a b c : Bool) → unitVectorOf k ≡ unitOf v → k ≡ unit.the-variants.Made u → a ≡ finiteVecOf o → a ≡ true → b ≡ finiteOf (r .«wavelength_nm») → b ≡ true → c ≡ finiteOf (r .energy) → c ≡ true → some (ray-of o u r) ≡ rayFromOf o v r
-ray-made o v r k u a b c p e fa ta fb tb fc tc = sym (from-made o v r k u p e ∙ rw (← fa, ← fb, ← fc, ta, tb, tc))
+pub ray-made : (o v : Vec3) (r : Ray) (k : unit.UnitVector) (u : Vec3) (a : Bool) → unitVectorOf k ≡ unitOf v → k ≡ unit.the-variants.Made u → a ≡ (finiteVecOf o && finiteOf (r .«wavelength_nm») && finiteOf (r .energy)) → a ≡ true → some (ray-of o u r) ≡ rayFromOf o v r
+ray-made o v r k u a p e f t = sym (from-made o v r k u p e ∙ rw (← f, t))
 
-pub no-origin : (o v : Vec3) (r : Ray) (k : unit.UnitVector) (u : Vec3) (a : Bool) → unitVectorOf k ≡ unitOf v → k ≡ unit.the-variants.Made u → a ≡ finiteVecOf o → a ≡ false → none ≡ rayFromOf o v r
-no-origin o v r k u a p e fa ta = sym (from-made o v r k u p e ∙ rw (← fa, ta))
-
-pub no-wavelength : (o v : Vec3) (r : Ray) (k : unit.UnitVector) (u : Vec3) (a b : Bool) → unitVectorOf k ≡ unitOf v → k ≡ unit.the-variants.Made u → a ≡ finiteVecOf o → a ≡ true → b ≡ finiteOf (r .«wavelength_nm») → b ≡ false → none ≡ rayFromOf o v r
-no-wavelength o v r k u a b p e fa ta fb tb = sym (from-made o v r k u p e ∙ rw (← fa, ← fb, ta, tb))
-
-pub no-power : (o v : Vec3) (r : Ray) (k : unit.UnitVector) (u : Vec3) (a b c : Bool) → unitVectorOf k ≡ unitOf v → k ≡ unit.the-variants.Made u → a ≡ finiteVecOf o → a ≡ true → b ≡ finiteOf (r .«wavelength_nm») → b ≡ true → c ≡ finiteOf (r .energy) → c ≡ false → none ≡ rayFromOf o v r
-no-power o v r k u a b c p e fa ta fb tb fc tc = sym (from-made o v r k u p e ∙ rw (← fa, ← fb, ← fc, ta, tb, tc))
+pub no-ray : (o v : Vec3) (r : Ray) (k : unit.UnitVector) (u : Vec3) (a : Bool) → unitVectorOf k ≡ unitOf v → k ≡ unit.the-variants.Made u → a ≡ (finiteVecOf o && finiteOf (r .«wavelength_nm») && finiteOf (r .energy)) → a ≡ false → none ≡ rayFromOf o v r
+no-ray o v r k u a p e f t = sym (from-made o v r k u p e ∙ rw (← f, t))

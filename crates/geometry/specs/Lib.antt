@@ -6,4 +6,5 @@ pub mod Slabs
 pub mod Shapes
 pub mod Transforms
 pub mod Behind
+pub mod Away
 pub mod Meetings

@@ -25,7 +25,7 @@ fn flat_distance(ray: Ray) -> Distance
     ensures { λ r. ⌜ r ≡ flatDistanceOf ray ⌝ }
 {
     let dz = ray.direction.z;
-    if doubles::abs(dz) < 1e-12 {
+    if doubles::is_under(dz, 1e-12) {
         return Distance::Nowhere;
     }
     let t = -ray.origin.z / dz;
@@ -52,8 +52,8 @@ fn plane_at(half_width: f64, half_height: f64, ray: Ray, t: f64) -> LocalInterse
 {
     let o = ray.origin;
     let d = ray.direction;
-    if doubles::abs(reach(o.x, d.x, t)) <= half_width {
-        if doubles::abs(reach(o.y, d.y, t)) <= half_height {
+    if doubles::is_within(reach(o.x, d.x, t), half_width) {
+        if doubles::is_within(reach(o.y, d.y, t), half_height) {
             return flat_hit(t);
         }
     }

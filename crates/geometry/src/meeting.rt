@@ -36,7 +36,7 @@ fn leaves(o: f64, d: f64, h: f64) -> bool
     ensures { λ r. ⌜ r ≡ leavesOf o d h ⌝ }
 {
     if recedes(o, d) {
-        return doubles::abs(o) > h;
+        return doubles::exceeds(o, h);
     }
     false
 }

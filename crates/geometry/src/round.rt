@@ -6,6 +6,7 @@ use rays::Ray;
 use rays::Vec3;
 ghost use mathlib.Core.Path.{_≡_};
 ghost use Rattle.geometry.specs.Hits.{localHitOf};
+ghost use Rattle.geometry.specs.Away.{awayOf};
 ghost use Rattle.geometry.specs.Round.{solveOf, sphereAtOf, sphereAmongOf, intersectSphereOf, cylinderHitOf, cylinderAtOf, cylinderAmongOf, cylinderRootsOf, intersectCylinderOf};
 
 // The roots of a quadratic equation, in the order in which they are tried.
@@ -22,7 +23,7 @@ fn solve(a: f64, b: f64, c: f64) -> Roots
     if disc < 0.0 {
         return Roots::Nothing;
     }
-    let q = doubles::sqrt(disc);
+    let q = doubles::root_elsewhere(disc);
     Roots::Two {
         first: (-b - q) / (2.0 * a),
         second: (-b + q) / (2.0 * a),
@@ -52,6 +53,20 @@ fn sphere_among(radius: f64, ray: Ray, candidates: Roots) -> LocalIntersection
     }
 }
 
+// Whether a ray outside a sphere surely runs away from it, told by b and c before any root: the root of b * b - 4 a c
+// is then at most b. The bits say that b is above 0 and that its square is no subnormal number and no infinity.
+fn is_away(b: f64, c: f64) -> bool
+    ensures { λ r. ⌜ r ≡ awayOf b c ⌝ }
+{
+    if c > 0.0 {
+        let bits = doubles::to_bits(b);
+        if 0x2000_0000_0000_0000 <= bits {
+            return bits < 0x5000_0000_0000_0000;
+        }
+    }
+    false
+}
+
 // A negative radius counts as its absolute value.
 pub fn intersect_sphere(radius: f64, ray: Ray) -> LocalIntersection
     ensures { λ h. ⌜ localHitOf h ≡ intersectSphereOf radius ray ⌝ }
@@ -61,7 +76,10 @@ pub fn intersect_sphere(radius: f64, ray: Ray) -> LocalIntersection
     let d = ray.direction;
     let a = d.dot(d);
     let b = 2.0 * o.dot(d);
-    let c = o.dot(o) - r * r;
+    let c = o.dot(o) - radius * radius;
+    if is_away(b, c) {
+        return LocalIntersection::Miss;
+    }
     sphere_among(r, ray, solve(a, b, c))
 }
 
@@ -86,7 +104,7 @@ fn cylinder_at(radius: f64, half_length: f64, ray: Ray, t: f64) -> LocalIntersec
     let o = ray.origin;
     let d = ray.direction;
     if t > Ray::MIN_LOCAL_DISTANCE {
-        if doubles::abs(reach(o.z, d.z, t)) <= half_length {
+        if doubles::is_within(reach(o.z, d.z, t), half_length) {
             return cylinder_hit(radius, ray, t);
         }
     }

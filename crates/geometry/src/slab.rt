@@ -106,7 +106,7 @@ impl Interval {
     fn cut(self, o: f64, d: f64, h: f64, minus: Side, plus: Side) -> Interval
         ensures { λ r. ⌜ r ≡ cutOf self o d h minus plus ⌝ }
     {
-        if doubles::abs(d) > 1e-12 {
+        if doubles::exceeds(d, 1e-12) {
             let inverse = 1.0 / d;
             let t1 = (-h - o) * inverse;
             let t2 = (h - o) * inverse;
@@ -141,10 +141,10 @@ impl Interval {
 fn outside(o: f64, d: f64, h: f64) -> bool
     ensures { λ r. ⌜ r ≡ outsideOf o d h ⌝ }
 {
-    if doubles::abs(d) > 1e-12 {
+    if doubles::exceeds(d, 1e-12) {
         return false;
     }
-    doubles::abs(o) > h
+    doubles::exceeds(o, h)
 }
 
 // What the three axes leave of a ray that is outside none of them.

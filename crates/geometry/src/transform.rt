@@ -43,17 +43,13 @@ pub(crate) fn ray_from(o: Vec3, d: Vec3, ray: Ray) -> LocalRay
 {
     match unit(d) {
         UnitVector::Made(u) => {
-            if o.is_finite() {
-                if doubles::is_finite(ray.wavelength_nm) {
-                    if doubles::is_finite(ray.energy) {
-                        return LocalRay::Made(Ray {
-                            origin: o,
-                            direction: u,
-                            wavelength_nm: ray.wavelength_nm,
-                            energy: ray.energy,
-                        });
-                    }
-                }
+            if o.is_finite_with(ray.wavelength_nm, ray.energy) {
+                return LocalRay::Made(Ray {
+                    origin: o,
+                    direction: u,
+                    wavelength_nm: ray.wavelength_nm,
+                    energy: ray.energy,
+                });
             }
             LocalRay::Nothing
         }

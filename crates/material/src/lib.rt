@@ -96,7 +96,7 @@ fn root_of_square(n2: f64) -> RefractiveIndex
         return RefractiveIndex::Refused(NonSeqError::InvalidIndex);
     }
     if doubles::is_finite(n2) {
-        return RefractiveIndex::Index(doubles::sqrt(n2));
+        return RefractiveIndex::Index(doubles::root_elsewhere(n2));
     }
     RefractiveIndex::Refused(NonSeqError::InvalidIndex)
 }

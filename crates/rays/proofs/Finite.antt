@@ -1,9 +1,11 @@
--- Three finite tests in one. Assumes nothing.
+-- Several finite tests in one. Assumes nothing.
 use mathlib.Core.Path.{_≡_, refl, ap, _∙_}
 use mathlib.Core.Bool.{Bool, true, false, cond, _&&_}
 use lib.Ieee.{Float, nan, binary64, add, sub, eq, ofBits}
 use Rattle.doubles.specs.Doubles.{finiteOf}
 use Rattle.doubles.proofs.Small.{difference-of-itself}
+use Rattle.rays.specs.declared.vector.Vec3.{Vec3}
+use Rattle.rays.specs.Vectors.{finiteVecOf}
 
 abbrev zero-or-nan : Bool → Float
 zero-or-nan b = cond b (ofBits binary64 0) nan
@@ -25,3 +27,61 @@ all-finite x y z =
     ∙ ap (λ (t : Float). eq (add binary64 (add binary64 (zero-or-nan (finiteOf x)) t) (sub binary64 z z)) (ofBits binary64 0)) (difference-of-itself y)
     ∙ ap (λ (t : Float). eq (add binary64 (add binary64 (zero-or-nan (finiteOf x)) (zero-or-nan (finiteOf y))) t) (ofBits binary64 0)) (difference-of-itself z)
     ∙ all-zero (finiteOf x) (finiteOf y) (finiteOf z)
+
+-- ---- more than three
+
+-- a sum of differences is 0 if all its terms are finite, and else NaN
+zeros-sum : (a b : Bool) → add binary64 (zero-or-nan a) (zero-or-nan b) ≡ zero-or-nan (a && b)
+unfolding add ofBits
+zeros-sum true true = refl
+zeros-sum true false = refl
+zeros-sum false true = refl
+zeros-sum false false = refl
+
+sum-of : (a b : Bool) (x y : Float) → x ≡ zero-or-nan a → y ≡ zero-or-nan b → add binary64 x y ≡ zero-or-nan (a && b)
+sum-of a b x y p q = ap (λ (t : Float). add binary64 t y) p ∙ ap (add binary64 (zero-or-nan a)) q ∙ zeros-sum a b
+
+zero-is : (a : Bool) → eq (zero-or-nan a) (ofBits binary64 0) ≡ a
+unfolding eq ofBits
+zero-is true = refl
+zero-is false = refl
+
+is-zero : (a : Bool) (x : Float) → x ≡ zero-or-nan a → eq x (ofBits binary64 0) ≡ a
+is-zero a x p = ap (λ (t : Float). eq t (ofBits binary64 0)) p ∙ zero-is a
+
+abbrev vector-less : Vec3 → Float
+vector-less v = add binary64 (add binary64 (sub binary64 (v .x) (v .x)) (sub binary64 (v .y) (v .y))) (sub binary64 (v .z) (v .z))
+
+regroup : (a b c : Bool) → (a && (b && c)) ≡ (a && b && c)
+regroup true b c = refl
+regroup false b c = refl
+
+regroup-more : (a b c d : Bool) → (a && (b && (c && d))) ≡ (a && b && c && d)
+regroup-more true b c d = regroup b c d
+regroup-more false b c d = refl
+
+vector-is : (v : Vec3) → vector-less v ≡ zero-or-nan (finiteVecOf v)
+unfolding finiteVecOf
+vector-is v =
+    sum-of (finiteOf (v .x) && finiteOf (v .y)) (finiteOf (v .z)) (add binary64 (sub binary64 (v .x) (v .x)) (sub binary64 (v .y) (v .y))) (sub binary64 (v .z) (v .z))
+    (sum-of (finiteOf (v .x)) (finiteOf (v .y)) (sub binary64 (v .x) (v .x)) (sub binary64 (v .y) (v .y)) (difference-of-itself (v .x)) (difference-of-itself (v .y)))
+    (difference-of-itself (v .z))
+
+abbrev pair-less : Float → Float → Float
+pair-less a b = add binary64 (sub binary64 a a) (sub binary64 b b)
+
+pair-is : (a b : Float) → pair-less a b ≡ zero-or-nan (finiteOf a && finiteOf b)
+pair-is a b = sum-of (finiteOf a) (finiteOf b) (sub binary64 a a) (sub binary64 b b) (difference-of-itself a) (difference-of-itself b)
+
+pub five-finite : (v : Vec3) (a b : Float) → eq (add binary64 (vector-less v) (pair-less a b)) (ofBits binary64 0) ≡ (finiteVecOf v && finiteOf a && finiteOf b)
+five-finite v a b =
+    is-zero (finiteVecOf v && (finiteOf a && finiteOf b)) (add binary64 (vector-less v) (pair-less a b))
+    (sum-of (finiteVecOf v) (finiteOf a && finiteOf b) (vector-less v) (pair-less a b) (vector-is v) (pair-is a b))
+    ∙ regroup (finiteVecOf v) (finiteOf a) (finiteOf b)
+
+pub eight-finite : (o d : Vec3) (a b : Float) → eq (add binary64 (vector-less o) (add binary64 (vector-less d) (pair-less a b))) (ofBits binary64 0) ≡ (finiteVecOf o && finiteVecOf d && finiteOf a && finiteOf b)
+eight-finite o d a b =
+    is-zero (finiteVecOf o && (finiteVecOf d && (finiteOf a && finiteOf b))) (add binary64 (vector-less o) (add binary64 (vector-less d) (pair-less a b)))
+    (sum-of (finiteVecOf o) (finiteVecOf d && (finiteOf a && finiteOf b)) (vector-less o) (add binary64 (vector-less d) (pair-less a b)) (vector-is o)
+    (sum-of (finiteVecOf d) (finiteOf a && finiteOf b) (vector-less d) (pair-less a b) (vector-is d) (pair-is a b)))
+    ∙ regroup-more (finiteVecOf o) (finiteVecOf d) (finiteOf a) (finiteOf b)

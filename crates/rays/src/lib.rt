@@ -50,20 +50,17 @@ impl Ray {
         NewRay::Refused(NonSeqError::RayNotFinite)
     }
 
-    // Whether all eight parts are finite.
+    // Whether all eight parts are finite, by one test.
     pub fn is_finite(self) -> bool
         ensures { λ r. ⌜ r ≡ finiteRayOf self ⌝ }
     {
-        let origin = self.origin;
-        let direction = self.direction;
-        if origin.is_finite() {
-            if direction.is_finite() {
-                if doubles::is_finite(self.wavelength_nm) {
-                    return doubles::is_finite(self.energy);
-                }
-            }
-        }
-        false
+        let o = self.origin;
+        let d = self.direction;
+        let w = self.wavelength_nm;
+        let e = self.energy;
+        ((o.x - o.x) + (o.y - o.y) + (o.z - o.z))
+            + (((d.x - d.x) + (d.y - d.y) + (d.z - d.z)) + ((w - w) + (e - e)))
+            == 0.0
     }
 
     // Whether this is a ray that a caller may give: all parts finite, a power that is not below 0, and a

@@ -1,5 +1,7 @@
 // Vectors of three doubles.
 ghost use mathlib.Core.Path.{_≡_};
+ghost use mathlib.Core.Bool.{_&&_};
+ghost use Rattle.doubles.specs.Doubles.{finiteOf};
 ghost use Rattle.rays.specs.Vectors.{dotOf, crossOf, plusOf, minusOf, scaleOf, divideOf, negateOf, normOf, normalizeOf, finiteVecOf};
 
 #[repr(C)]
@@ -97,5 +99,12 @@ impl Vec3 {
         ensures { λ r. ⌜ r ≡ finiteVecOf self ⌝ }
     {
         (self.x - self.x) + (self.y - self.y) + (self.z - self.z) == 0.0
+    }
+
+    // Whether all three parts and two numbers are finite, by one test.
+    pub fn is_finite_with(self, a: f64, b: f64) -> bool
+        ensures { λ r. ⌜ r ≡ finiteVecOf self && finiteOf a && finiteOf b ⌝ }
+    {
+        (self.x - self.x) + (self.y - self.y) + (self.z - self.z) + ((a - a) + (b - b)) == 0.0
     }
 }

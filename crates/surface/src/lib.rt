@@ -102,7 +102,7 @@ fn refract(
     let d = ray.direction;
     let n = hit.normal;
     let p = hit.point;
-    let c2 = doubles::sqrt(radicand(eta, c1));
+    let c2 = doubles::root_elsewhere(radicand(eta, c1));
     let f = reflectance(n1, n2, c1, c2);
     both(
         leaving(ray, p, reflected_direction(d, n, c1), power * f),

@@ -7,8 +7,8 @@ use Rattle.surface.proofs.refract.Tie as tie
 radicand-requires : tie.Need-radicand-requires
 radicand-requires c κs = search needs
 
-sqrt-requires : tie.Need-sqrt-requires
-sqrt-requires c κs = search needs
+root-elsewhere-requires : tie.Need-root-elsewhere-requires
+root-elsewhere-requires c κs = search needs
 
 reflectance-requires : tie.Need-reflectance-requires
 reflectance-requires c κs = search needs
@@ -30,14 +30,14 @@ both-requires c κs = search needs
 
 returns : tie.Need-returns
 unfolding refractOf
-returns c = simp (← c .before .before .before .before .before .before .before .radicand .ensures, ← c .before .before .before .before .before .before .sqrt .ensures, ← c .before .before .before .before .before .reflectance .ensures, ← c .before .before .before .before .reflected-direction .ensures, ← c .before .before .before .leaving .ensures, ← c .before .before .refracted-direction .ensures, ← c .before .leaving2 .ensures, ← c .both .ensures)
+returns c = simp (← c .before .before .before .before .before .before .before .radicand .ensures, ← c .before .before .before .before .before .before .root-elsewhere .ensures, ← c .before .before .before .before .before .reflectance .ensures, ← c .before .before .before .before .reflected-direction .ensures, ← c .before .before .before .leaving .ensures, ← c .before .before .refracted-direction .ensures, ← c .before .leaving2 .ensures, ← c .both .ensures)
 
 pub refract-spec : {M : Type 1} → statement M
 refract-spec =
     tie.close
     (tie.spec
     radicand-requires
-    sqrt-requires
+    root-elsewhere-requires
     reflectance-requires
     reflected-direction-requires
     leaving-requires

@@ -1,66 +1,84 @@
 -- `faces::Faces::nearest` meets its contract. Assumes nothing.
-use Prim.Native.Nat.{_≤_, _-_}
-use mathlib.Core.Path.{_≡_}
-use lib.ListN.{length}
+use Rattle.faces.specs.Faces.{sightsOf, nearestDetectorOf}
+use Rattle.faces.proofs.Written.{written-out}
 use borrow.Author.Needs.{needs}
-use Rattle.nearest.specs.Nearest.{nearestFrom, nearestOf}
-use Rattle.nearest.proofs.Turns.{nearest-start, nearest-turn, nearest-end}
-use Rattle.faces.specs.declared.Sight.{Sight}
-use Rattle.faces.specs.Faces.{sightDistance, sightsOf, sightOf}
-use Rattle.faces.specs.Faces.{nearestDetectorOf}
 use Rattle.faces.proofs.Faces.nearest.Statement.{statement}
 use Rattle.faces.proofs.Faces.nearest.Tie as tie
 
-abbrev Inv-loop : tie.InvT-loop
-Inv-loop ray list n best₀ i₀ best i = (i ≤ n) × (nearestFrom Sight sightDistance (sightsOf list ray) (n - i) i (sightOf best) ≡ nearestOf Sight sightDistance (sightsOf list ray) n)
-
-abbrev μ-loop : tie.MeasureT-loop
-μ-loop ray list n best₀ i₀ best i = n - i
-
-shown-requires : tie.Need-shown-requires Inv-loop μ-loop
+shown-requires : tie.Need-shown-requires
 shown-requires c κs = search needs
 
-loop-holds : tie.Need-loop-holds Inv-loop μ-loop
-loop-holds c = (search needs, nearest-start _ _ _ _)
+array-copy-out-f0 : tie.Need-array-copy-out-f0
+array-copy-out-f0 c = search needs
 
-cast-face : tie.Need-cast-face Inv-loop μ-loop
-cast-face c = search needs
+array-copy-out-f1 : tie.Need-array-copy-out-f1
+array-copy-out-f1 c = search needs
 
-mul-face : tie.Need-mul-face Inv-loop μ-loop
-mul-face c = search needs
+array-copy-out-f2 : tie.Need-array-copy-out-f2
+array-copy-out-f2 c = search needs
 
-array-copy-out-face : tie.Need-array-copy-out-face Inv-loop μ-loop
-array-copy-out-face c = search needs
+array-copy-out-f3 : tie.Need-array-copy-out-f3
+array-copy-out-f3 c = search needs
 
-nearer-requires : tie.Need-nearer-requires Inv-loop μ-loop
-nearer-requires c κs = search needs
+array-copy-out-f4 : tie.Need-array-copy-out-f4
+array-copy-out-f4 c = search needs
 
-add-i : tie.Need-add-i Inv-loop μ-loop
-add-i c = search needs
+array-copy-out-f5 : tie.Need-array-copy-out-f5
+array-copy-out-f5 c = search needs
 
-loop-less : tie.Need-loop-less Inv-loop μ-loop
-loop-less c = search needs
+array-copy-out-f6 : tie.Need-array-copy-out-f6
+array-copy-out-f6 c = search needs
 
-loop-again : tie.Need-loop-again Inv-loop μ-loop
-loop-again c = (search needs, nearest-turn _ _ _ _ _ _ _ _ (c .before .before .loop-test .taken) (c .nearer .ensures) (c .before .before .before .loop .inv .1))
+array-copy-out-f7 : tie.Need-array-copy-out-f7
+array-copy-out-f7 c = search needs
 
-returns : tie.Need-returns Inv-loop μ-loop
+seen-requires : tie.Need-seen-requires
+seen-requires c κs = search needs
+
+seen-requires-2 : tie.Need-seen-requires-2
+seen-requires-2 c κs = search needs
+
+seen-requires-3 : tie.Need-seen-requires-3
+seen-requires-3 c κs = search needs
+
+seen-requires-4 : tie.Need-seen-requires-4
+seen-requires-4 c κs = search needs
+
+seen-requires-5 : tie.Need-seen-requires-5
+seen-requires-5 c κs = search needs
+
+seen-requires-6 : tie.Need-seen-requires-6
+seen-requires-6 c κs = search needs
+
+seen-requires-7 : tie.Need-seen-requires-7
+seen-requires-7 c κs = search needs
+
+seen-requires-8 : tie.Need-seen-requires-8
+seen-requires-8 c κs = search needs
+
+returns : tie.Need-returns
 unfolding nearestDetectorOf
-returns c = rw (← c .before .before .shown .ensures .0) (nearest-end _ _ _ _ (c .before .loop .i) _ _ (c .loop-test .left) (c .before .loop .inv .1))
+returns c = rw (← c .before .before .before .before .before .before .before .before .before .before .before .before .before .before .before .before .shown .ensures .0) (written-out (sightsOf (c .before .before .before .before .before .before .before .before .before .before .before .before .before .before .before .before .before .before .args .self .list) (c .before .before .before .before .before .before .before .before .before .before .before .before .before .before .before .before .before .before .args .ray)) _ _ _ _ _ _ _ _ _ (c .before .before .before .before .before .before .before .before .before .before .before .before .before .before .before .before .shown .ensures .1) (c .before .before .before .before .before .before .before .seen .ensures) (c .before .before .before .before .before .before .seen2 .ensures) (c .before .before .before .before .before .seen3 .ensures) (c .before .before .before .before .seen4 .ensures) (c .before .before .before .seen5 .ensures) (c .before .before .seen6 .ensures) (c .before .seen7 .ensures) (c .seen8 .ensures))
 
 pub nearest-spec : {M : Type 1} → statement M
 nearest-spec =
     tie.close
     (tie.spec
-    Inv-loop
-    μ-loop
     shown-requires
-    loop-holds
-    cast-face
-    mul-face
-    array-copy-out-face
-    nearer-requires
-    add-i
-    loop-less
-    loop-again
+    array-copy-out-f0
+    array-copy-out-f1
+    array-copy-out-f2
+    array-copy-out-f3
+    array-copy-out-f4
+    array-copy-out-f5
+    array-copy-out-f6
+    array-copy-out-f7
+    seen-requires
+    seen-requires-2
+    seen-requires-3
+    seen-requires-4
+    seen-requires-5
+    seen-requires-6
+    seen-requires-7
+    seen-requires-8
     returns)

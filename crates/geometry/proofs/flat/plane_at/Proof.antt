@@ -7,38 +7,38 @@ use Rattle.geometry.proofs.flat.plane_at.Tie as tie
 reach-requires : tie.Need-reach-requires
 reach-requires c κs = search needs
 
-abs-requires : tie.Need-abs-requires
-abs-requires c κs = search needs
+is-within-requires : tie.Need-is-within-requires
+is-within-requires c κs = search needs
 
 reach-requires-2 : tie.Need-reach-requires-2
 reach-requires-2 c κs = search needs
 
-abs-requires-2 : tie.Need-abs-requires-2
-abs-requires-2 c κs = search needs
+is-within-requires-2 : tie.Need-is-within-requires-2
+is-within-requires-2 c κs = search needs
 
 flat-hit-requires : tie.Need-flat-hit-requires
 flat-hit-requires c κs = search needs
 
 returns : tie.Need-returns
 unfolding planeAtOf
-returns c = simp (← c .before .before .before .before .before .before .reach .ensures, ← c .before .before .before .before .before .abs .ensures, c .before .before .before .before .if1 .taken, ← c .before .before .before .reach2 .ensures, ← c .before .before .abs2 .ensures, c .before .if2 .taken, ← c .flat-hit .ensures)
+returns c = simp (← c .before .before .before .before .before .before .reach .ensures, ← c .before .before .before .before .before .is-within .ensures, c .before .before .before .before .if1 .taken, ← c .before .before .before .reach2 .ensures, ← c .before .before .is-within2 .ensures, c .before .if2 .taken, ← c .flat-hit .ensures)
 
 returns-2 : tie.Need-returns-2
 unfolding planeAtOf
-returns-2 c = simp (← c .before .before .before .before .before .reach .ensures, ← c .before .before .before .before .abs .ensures, c .before .before .before .if1 .taken, ← c .before .before .reach2 .ensures, ← c .before .abs2 .ensures, c .if2 .left)
+returns-2 c = simp (← c .before .before .before .before .before .reach .ensures, ← c .before .before .before .before .is-within .ensures, c .before .before .before .if1 .taken, ← c .before .before .reach2 .ensures, ← c .before .is-within2 .ensures, c .if2 .left)
 
 returns-3 : tie.Need-returns-3
 unfolding planeAtOf
-returns-3 c = simp (← c .before .before .reach .ensures, ← c .before .abs .ensures, c .if1 .left)
+returns-3 c = simp (← c .before .before .reach .ensures, ← c .before .is-within .ensures, c .if1 .left)
 
 pub plane-at-spec : {M : Type 1} → statement M
 plane-at-spec =
     tie.close
     (tie.spec
     reach-requires
-    abs-requires
+    is-within-requires
     reach-requires-2
-    abs-requires-2
+    is-within-requires-2
     flat-hit-requires
     returns
     returns-2

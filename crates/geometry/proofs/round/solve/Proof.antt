@@ -8,12 +8,12 @@ returns : tie.Need-returns
 unfolding solveOf
 returns c = simp (c .if1 .taken)
 
-sqrt-requires : tie.Need-sqrt-requires
-sqrt-requires c κs = search needs
+root-elsewhere-requires : tie.Need-root-elsewhere-requires
+root-elsewhere-requires c κs = search needs
 
 returns-2 : tie.Need-returns-2
 unfolding solveOf
-returns-2 c = simp (c .before .if1 .left, ← c .sqrt .ensures)
+returns-2 c = simp (c .before .if1 .left, ← c .root-elsewhere .ensures)
 
 pub solve-spec : {M : Type 1} → statement M
-solve-spec = tie.close (tie.spec returns sqrt-requires returns-2)
+solve-spec = tie.close (tie.spec returns root-elsewhere-requires returns-2)

@@ -16,23 +16,23 @@ dot-requires c κs = search needs
 dot-requires-2 : tie.Need-dot-requires-2
 dot-requires-2 c κs = search needs
 
-abs-requires : tie.Need-abs-requires
-abs-requires c κs = search needs
+is-within-requires : tie.Need-is-within-requires
+is-within-requires c κs = search needs
 
-abs-requires-2 : tie.Need-abs-requires-2
-abs-requires-2 c κs = search needs
+is-within-requires-2 : tie.Need-is-within-requires-2
+is-within-requires-2 c κs = search needs
 
 returns : tie.Need-returns
 unfolding acrossOf
-returns c = simp (← c .before .before .before .before .before .before .before .before .before .at .ensures, ← c .before .before .before .before .before .before .before .before .minus .ensures, ← c .before .before .before .before .before .before .before .dot .ensures, ← c .before .before .before .before .before .before .dot2 .ensures, ← c .before .before .before .before .before .abs .ensures, c .before .before .before .if1 .taken, ← c .before .before .abs2 .ensures, c .if2 .taken)
+returns c = simp (← c .before .before .before .before .before .before .before .at .ensures, ← c .before .before .before .before .before .before .minus .ensures, ← c .before .before .before .before .before .dot .ensures, ← c .before .before .before .before .dot2 .ensures, ← c .before .before .before .is-within .ensures, c .before .before .if1 .taken, ← c .before .is-within2 .ensures, c .if2 .taken)
 
 returns-2 : tie.Need-returns-2
 unfolding acrossOf
-returns-2 c = simp (← c .before .before .before .before .before .before .before .before .before .at .ensures, ← c .before .before .before .before .before .before .before .before .minus .ensures, ← c .before .before .before .before .before .before .before .dot .ensures, ← c .before .before .before .before .before .before .dot2 .ensures, ← c .before .before .before .before .before .abs .ensures, c .before .before .before .if1 .taken, ← c .before .before .abs2 .ensures, c .if2 .left)
+returns-2 c = simp (← c .before .before .before .before .before .before .before .at .ensures, ← c .before .before .before .before .before .before .minus .ensures, ← c .before .before .before .before .before .dot .ensures, ← c .before .before .before .before .dot2 .ensures, ← c .before .before .before .is-within .ensures, c .before .before .if1 .taken, ← c .before .is-within2 .ensures, c .if2 .left)
 
 returns-3 : tie.Need-returns-3
 unfolding acrossOf
-returns-3 c = simp (← c .before .before .before .before .before .before .at .ensures, ← c .before .before .before .before .before .minus .ensures, ← c .before .before .before .before .dot .ensures, ← c .before .before .before .dot2 .ensures, ← c .before .before .abs .ensures, c .if1 .left)
+returns-3 c = simp (← c .before .before .before .before .before .at .ensures, ← c .before .before .before .before .minus .ensures, ← c .before .before .before .dot .ensures, ← c .before .before .dot2 .ensures, ← c .before .is-within .ensures, c .if1 .left)
 
 pub across-spec : {M : Type 1} → statement M
 across-spec =
@@ -42,8 +42,8 @@ across-spec =
     minus-requires
     dot-requires
     dot-requires-2
-    abs-requires
-    abs-requires-2
+    is-within-requires
+    is-within-requires-2
     returns
     returns-2
     returns-3)

@@ -7,12 +7,12 @@ use Rattle.detector.proofs.face.Face.intersect_ray.Tie as tie
 dot-requires : tie.Need-dot-requires
 dot-requires c κs = search needs
 
-abs-requires : tie.Need-abs-requires
-abs-requires c κs = search needs
+is-under-requires : tie.Need-is-under-requires
+is-under-requires c κs = search needs
 
 returns : tie.Need-returns
 unfolding crossingOf
-returns c = simp (← c .before .before .dot .ensures, ← c .before .abs .ensures, c .if1 .taken)
+returns c = simp (← c .before .before .dot .ensures, ← c .before .is-under .ensures, c .if1 .taken)
 
 minus-requires : tie.Need-minus-requires
 minus-requires c κs = search needs
@@ -22,21 +22,21 @@ dot-requires-2 c κs = search needs
 
 returns-2 : tie.Need-returns-2
 unfolding crossingOf
-returns-2 c = simp (← c .before .before .before .before .before .dot .ensures, ← c .before .before .before .before .abs .ensures, c .before .before .before .if1 .left, ← c .before .before .minus .ensures, ← c .before .dot2 .ensures, c .if2 .taken)
+returns-2 c = simp (← c .before .before .before .before .before .dot .ensures, ← c .before .before .before .before .is-under .ensures, c .before .before .before .if1 .left, ← c .before .before .minus .ensures, ← c .before .dot2 .ensures, c .if2 .taken)
 
 across-requires : tie.Need-across-requires
 across-requires c κs = search needs
 
 returns-3 : tie.Need-returns-3
 unfolding crossingOf
-returns-3 c = simp (← c .before .before .before .before .before .before .dot .ensures, ← c .before .before .before .before .before .abs .ensures, c .before .before .before .before .if1 .left, ← c .before .before .before .minus .ensures, ← c .before .before .dot2 .ensures, c .before .if2 .left, ← c .across .ensures)
+returns-3 c = simp (← c .before .before .before .before .before .before .dot .ensures, ← c .before .before .before .before .before .is-under .ensures, c .before .before .before .before .if1 .left, ← c .before .before .before .minus .ensures, ← c .before .before .dot2 .ensures, c .before .if2 .left, ← c .across .ensures)
 
 pub intersect-ray-spec : {M : Type 1} → statement M
 intersect-ray-spec =
     tie.close
     (tie.spec
     dot-requires
-    abs-requires
+    is-under-requires
     returns
     minus-requires
     dot-requires-2

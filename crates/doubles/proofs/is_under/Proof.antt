@@ -1,0 +1,13 @@
+-- `doubles::is_under` meets its contract. Assumes nothing.
+use Rattle.doubles.proofs.Sizes.{under-first, under-not}
+use Rattle.doubles.proofs.is_under.Statement.{statement}
+use Rattle.doubles.proofs.is_under.Tie as tie
+
+returns : tie.Need-returns
+returns c = under-first _ _ (c .if1 .taken)
+
+returns-2 : tie.Need-returns-2
+returns-2 c = under-not _ _ (c .if1 .left)
+
+pub is-under-spec : {M : Type 1} → statement M
+is-under-spec = tie.close (tie.spec returns returns-2)
