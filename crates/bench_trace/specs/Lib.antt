@@ -1,2 +1,0 @@
--- A tracing in plain numbers.
-pub mod Plain
