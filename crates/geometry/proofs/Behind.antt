@@ -25,11 +25,10 @@ use Rattle.geometry.specs.declared.PrimitiveGeometry.the-variants.{Plane
 use Rattle.geometry.specs.declared.flat.Distance.{Distance}
 use Rattle.geometry.specs.declared.flat.Distance.the-variants.{At, Nowhere}
 use Rattle.geometry.specs.declared.slab.Side.{Side}
-use Rattle.geometry.specs.declared.slab.Interval.{Interval}
 use Rattle.geometry.specs.declared.meeting.Meeting.{Meeting}
 use Rattle.geometry.specs.Hits.{#0, #1, parallel}
 use Rattle.geometry.specs.Flat.{flatDistanceOf, planeFromOf, diskFromOf, intersectPlaneOf, intersectDiskOf}
-use Rattle.geometry.specs.Slabs.{fromOf, toOf, cutOf, wholeOf, outsideOf, insideOf, sideHitOf, hitOf, intersectBoxOf}
+use Rattle.geometry.specs.Slabs.{Interval, fromOf, toOf, cutOf, wholeOf, outsideOf, insideOf, sideHitOf, hitOf, intersectBoxOf}
 use Rattle.geometry.specs.declared.slab.Side.the-variants.{MinusX, PlusX, MinusY, PlusY, MinusZ, PlusZ}
 use Rattle.geometry.specs.Shapes.{intersectLocalOf}
 use Rattle.geometry.specs.Transforms.{unitOf, madeOf}

@@ -6,3 +6,4 @@ pub mod Local
 pub mod Unit
 pub mod Squares
 pub mod Receding
+pub mod Spans

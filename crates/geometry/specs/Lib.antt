@@ -3,6 +3,7 @@ pub mod Hits
 pub mod Flat
 pub mod Round
 pub mod Slabs
+pub mod Spans
 pub mod Shapes
 pub mod Transforms
 pub mod Behind

@@ -10,7 +10,6 @@ use Rattle.rays.specs.Vectors.{vec3}
 use Rattle.geometry.specs.declared.LocalHit.{LocalHit}
 use Rattle.geometry.specs.declared.slab.Side.{Side}
 use Rattle.geometry.specs.declared.slab.Side.the-variants.{MinusX, PlusX, MinusY, PlusY, MinusZ, PlusZ, Unset}
-use Rattle.geometry.specs.declared.slab.Interval.{Interval}
 use Rattle.geometry.specs.Hits.{#0, #1, parallel, hitAt}
 
 abbrev #-1 : Float
@@ -28,6 +27,13 @@ normalOf Unset = vec3 #0 #0 #0
 
 unfoldable pub sideHitOf : Float → Side → Option LocalHit
 sideHitOf t side = hitAt t (normalOf side)
+
+-- the distances at which a ray is between the planes so far, and the sides that set them
+pub record Interval : Type 0 where
+  pub near : Float
+  pub far : Float
+  pub «near_side» : Side
+  pub «far_side» : Side
 
 -- all of the ray, before any axis
 unfoldable pub wholeOf : Interval

@@ -52,10 +52,10 @@ fn plane_at(half_width: f64, half_height: f64, ray: Ray, t: f64) -> LocalInterse
 {
     let o = ray.origin;
     let d = ray.direction;
-    if doubles::is_within(reach(o.x, d.x, t), half_width) {
-        if doubles::is_within(reach(o.y, d.y, t), half_height) {
-            return flat_hit(t);
-        }
+    let x = doubles::is_within(reach(o.x, d.x, t), half_width);
+    let y = doubles::is_within(reach(o.y, d.y, t), half_height);
+    if x & y {
+        return flat_hit(t);
     }
     LocalIntersection::Miss
 }
@@ -77,10 +77,8 @@ fn disk_at(outer_radius: f64, inner_radius: f64, ray: Ray, t: f64) -> LocalInter
     let x = reach(o.x, d.x, t);
     let y = reach(o.y, d.y, t);
     let r2 = x * x + y * y;
-    if r2 >= inner_radius * inner_radius {
-        if r2 <= outer_radius * outer_radius {
-            return flat_hit(t);
-        }
+    if (r2 >= inner_radius * inner_radius) & (r2 <= outer_radius * outer_radius) {
+        return flat_hit(t);
     }
     LocalIntersection::Miss
 }

@@ -35,23 +35,17 @@ fn recedes(o: f64, d: f64) -> bool
 fn leaves(o: f64, d: f64, h: f64) -> bool
     ensures { λ r. ⌜ r ≡ leavesOf o d h ⌝ }
 {
-    if recedes(o, d) {
-        return doubles::exceeds(o, h);
-    }
-    false
+    recedes(o, d) & doubles::exceeds(o, h)
 }
 
-// Of a box.
+// Of a box. All three axes are looked at, since which of them tells is hard to predict.
 fn leaves_box(half_x: f64, half_y: f64, half_z: f64, o: Vec3, d: Vec3) -> bool
     ensures { λ r. ⌜ r ≡ behindOf (Box «half_x» «half_y» «half_z») o d ⌝ }
 {
-    if leaves(o.x, d.x, half_x) {
-        return true;
-    }
-    if leaves(o.y, d.y, half_y) {
-        return true;
-    }
-    leaves(o.z, d.z, half_z)
+    let x = leaves(o.x, d.x, half_x);
+    let y = leaves(o.y, d.y, half_y);
+    let z = leaves(o.z, d.z, half_z);
+    x | (y | z)
 }
 
 impl PrimitiveGeometry {

@@ -6,7 +6,8 @@ use rays::Vec3;
 ghost use mathlib.Core.Path.{_≡_};
 ghost use Rattle.rays.specs.Vectors.{vec3};
 ghost use Rattle.geometry.specs.Hits.{localHitOf};
-ghost use Rattle.geometry.specs.Slabs.{normalOf, wholeOf, fromOf, toOf, cutOf, outsideOf, insideOf, sideHitOf, hitOf, intersectBoxOf};
+ghost use Rattle.geometry.specs.Slabs.{normalOf, outsideOf, insideOf, sideHitOf, hitOf, intersectBoxOf};
+ghost use Rattle.geometry.specs.Spans.{firstFaceOf, alongOf, laterOf, soonerOf, nearEndsOf, farEndsOf, metFirstOf, nearSideOf, farSideOf, hitBetweenOf};
 
 // A side of a box, or none yet.
 pub enum Side {
@@ -19,12 +20,17 @@ pub enum Side {
     Unset,
 }
 
-// The distances at which a ray is between the planes so far, and the sides that set them.
-pub struct Interval {
+// The distances at which a ray enters between an axis's planes and leaves them.
+pub struct Span {
     pub near: f64,
     pub far: f64,
-    pub near_side: Side,
-    pub far_side: Side,
+}
+
+// An end of what the axes leave of a ray: after the first, after two of them, after all.
+pub struct Ends {
+    pub one: f64,
+    pub two: f64,
+    pub all: f64,
 }
 
 fn vector(x: f64, y: f64, z: f64) -> Vec3
@@ -57,84 +63,126 @@ fn side_hit(t: f64, side: Side) -> LocalIntersection
     LocalIntersection::Hit(LocalHit { t, normal })
 }
 
-impl Interval {
-    pub fn whole() -> Interval
-        ensures { λ r. ⌜ r ≡ wholeOf ⌝ }
-    {
-        let far = doubles::infinity();
-        Interval {
-            near: -far,
-            far,
-            near_side: Side::Unset,
-            far_side: Side::Unset,
-        }
+// The place on its axis of the plane that a ray comes to first.
+fn first_face(inverse: f64, h: f64) -> f64
+    ensures { λ r. ⌜ r ≡ firstFaceOf inverse h ⌝ }
+{
+    if inverse >= 0.0 {
+        return -h;
     }
+    h
+}
 
-    // The near end moved up to t, where that is farther.
-    fn from(self, t: f64, side: Side) -> Interval
-        ensures { λ r. ⌜ r ≡ fromOf self t side ⌝ }
-    {
-        if t > self.near {
-            let far_side = self.far_side;
-            return Interval {
-                near: t,
-                far: self.far,
-                near_side: side,
-                far_side,
-            };
-        }
-        self
+// Of a ray along an axis's planes all.
+fn along(o: f64, d: f64, h: f64) -> Span
+    ensures { λ r. ⌜ r ≡ alongOf o d h ⌝ }
+{
+    if doubles::exceeds(d, 1e-12) {
+        let inverse = 1.0 / d;
+        let face = first_face(inverse, h);
+        return Span {
+            near: (face - o) * inverse,
+            far: (-face - o) * inverse,
+        };
     }
+    let far = doubles::infinity();
+    Span { near: -far, far }
+}
 
-    // The far end moved down to t, where that is nearer.
-    fn to(self, t: f64, side: Side) -> Interval
-        ensures { λ r. ⌜ r ≡ toOf self t side ⌝ }
-    {
-        if t < self.far {
-            let near_side = self.near_side;
-            return Interval {
-                near: self.near,
-                far: t,
-                near_side,
-                far_side: side,
-            };
-        }
-        self
+fn later(t: f64, end: f64) -> f64
+    ensures { λ r. ⌜ r ≡ laterOf t end ⌝ }
+{
+    if t > end {
+        return t;
     }
+    end
+}
 
-    // One axis more: origin o, direction d, half size h and the axis's two sides.
-    fn cut(self, o: f64, d: f64, h: f64, minus: Side, plus: Side) -> Interval
-        ensures { λ r. ⌜ r ≡ cutOf self o d h minus plus ⌝ }
-    {
-        if doubles::exceeds(d, 1e-12) {
-            let inverse = 1.0 / d;
-            let t1 = (-h - o) * inverse;
-            let t2 = (h - o) * inverse;
-            if inverse >= 0.0 {
-                return self.from(t1, minus).to(t2, plus);
-            }
-            return self.from(t2, plus).to(t1, minus);
-        }
-        self
+fn sooner(t: f64, end: f64) -> f64
+    ensures { λ r. ⌜ r ≡ soonerOf t end ⌝ }
+{
+    if t < end {
+        return t;
     }
+    end
+}
 
-    // The near end, or the far one where the near end is behind.
-    fn hit(self) -> LocalIntersection
-        ensures { λ h. ⌜ localHitOf h ≡ hitOf self ⌝ }
-    {
-        if self.near > self.far {
-            return LocalIntersection::Miss;
-        }
-        if self.far <= Ray::MIN_LOCAL_DISTANCE {
-            return LocalIntersection::Miss;
-        }
-        if self.near > Ray::MIN_LOCAL_DISTANCE {
-            let side = self.near_side;
-            return side_hit(self.near, side);
-        }
-        let side = self.far_side;
-        side_hit(self.far, side)
+fn near_ends(x: Span, y: Span, z: Span) -> Ends
+    ensures { λ r. ⌜ r ≡ nearEndsOf x y z ⌝ }
+{
+    let one = later(x.near, -doubles::infinity());
+    let two = later(y.near, one);
+    let all = later(z.near, two);
+    Ends { one, two, all }
+}
+
+fn far_ends(x: Span, y: Span, z: Span) -> Ends
+    ensures { λ r. ⌜ r ≡ farEndsOf x y z ⌝ }
+{
+    let one = sooner(x.far, doubles::infinity());
+    let two = sooner(y.far, one);
+    let all = sooner(z.far, two);
+    Ends { one, two, all }
+}
+
+// The side that a ray along d comes to first, of an axis's two.
+fn met_first(d: f64, minus: Side, plus: Side) -> Side
+    ensures { λ r. ⌜ r ≡ metFirstOf d minus plus ⌝ }
+{
+    if 1.0 / d >= 0.0 {
+        return minus;
     }
+    plus
+}
+
+// The side that set the near end: on a tie that of the earlier axis.
+fn near_side(d: Vec3, x: Span, y: Span, z: Span, ends: Ends) -> Side
+    ensures { λ r. ⌜ r ≡ nearSideOf d x y z ends ⌝ }
+{
+    if z.near > ends.two {
+        return met_first(d.z, Side::MinusZ, Side::PlusZ);
+    }
+    if y.near > ends.one {
+        return met_first(d.y, Side::MinusY, Side::PlusY);
+    }
+    if x.near > -doubles::infinity() {
+        return met_first(d.x, Side::MinusX, Side::PlusX);
+    }
+    Side::Unset
+}
+
+// The side that set the far end.
+fn far_side(d: Vec3, x: Span, y: Span, z: Span, ends: Ends) -> Side
+    ensures { λ r. ⌜ r ≡ farSideOf d x y z ends ⌝ }
+{
+    if z.far < ends.two {
+        return met_first(d.z, Side::PlusZ, Side::MinusZ);
+    }
+    if y.far < ends.one {
+        return met_first(d.y, Side::PlusY, Side::MinusY);
+    }
+    if x.far < doubles::infinity() {
+        return met_first(d.x, Side::PlusX, Side::MinusX);
+    }
+    Side::Unset
+}
+
+// The near end, or the far one where the near end is behind. Sides are looked for only where one is met.
+fn hit_between(d: Vec3, x: Span, y: Span, z: Span) -> LocalIntersection
+    ensures { λ h. ⌜ localHitOf h ≡ hitBetweenOf d x y z ⌝ }
+{
+    let near = near_ends(x, y, z);
+    let far = far_ends(x, y, z);
+    if near.all > far.all {
+        return LocalIntersection::Miss;
+    }
+    if far.all <= Ray::MIN_LOCAL_DISTANCE {
+        return LocalIntersection::Miss;
+    }
+    if near.all > Ray::MIN_LOCAL_DISTANCE {
+        return side_hit(near.all, near_side(d, x, y, z, near));
+    }
+    side_hit(far.all, far_side(d, x, y, z, far))
 }
 
 // Whether a ray along an axis's planes runs outside them.
@@ -148,14 +196,15 @@ fn outside(o: f64, d: f64, h: f64) -> bool
 }
 
 // What the three axes leave of a ray that is outside none of them.
-fn inside(half_x: f64, half_y: f64, half_z: f64, ray: Ray) -> Interval
-    ensures { λ r. ⌜ r ≡ insideOf «half_x» «half_y» «half_z» ray ⌝ }
+fn inside(half_x: f64, half_y: f64, half_z: f64, ray: Ray) -> LocalIntersection
+    ensures { λ h. ⌜ localHitOf h ≡ hitOf (insideOf «half_x» «half_y» «half_z» ray) ⌝ }
 {
     let o = ray.origin;
     let d = ray.direction;
-    let x = Interval::whole().cut(o.x, d.x, half_x, Side::MinusX, Side::PlusX);
-    let y = x.cut(o.y, d.y, half_y, Side::MinusY, Side::PlusY);
-    y.cut(o.z, d.z, half_z, Side::MinusZ, Side::PlusZ)
+    let x = along(o.x, d.x, half_x);
+    let y = along(o.y, d.y, half_y);
+    let z = along(o.z, d.z, half_z);
+    hit_between(d, x, y, z)
 }
 
 pub fn intersect_box(half_x: f64, half_y: f64, half_z: f64, ray: Ray) -> LocalIntersection
@@ -172,5 +221,5 @@ pub fn intersect_box(half_x: f64, half_y: f64, half_z: f64, ray: Ray) -> LocalIn
     if outside(o.z, d.z, half_z) {
         return LocalIntersection::Miss;
     }
-    inside(half_x, half_y, half_z, ray).hit()
+    inside(half_x, half_y, half_z, ray)
 }

@@ -3,7 +3,8 @@
 //! The library behind it takes lent memory only; here the buffers are owned. A [`Scene`] is a list of solids, a
 //! [`Memory`] holds detectors, their maps and the list of hits; [`Memory::trace`] traces rays through a scene into
 //! it, [`Memory::filtered`] is a detector's map under a filter. [`stray_map`] goes from a scene text to its answer.
-//! Nothing panics, whatever is handed over; what is not allowed comes back as an [`Error`] with document 01's number.
+//! Nothing panics, whatever is handed over, unless the machine has no memory for a buffer; what is not allowed comes back
+//! as an [`Error`] with document 01's number.
 #![deny(missing_docs)]
 
 mod error;

@@ -15,17 +15,12 @@ flat-hit-requires c κs = search needs
 
 returns : tie.Need-returns
 unfolding diskAtOf
-returns c = simp (← c .before .before .before .before .reach .ensures, ← c .before .before .before .reach2 .ensures, c .before .before .if1 .taken, c .before .if2 .taken, ← c .flat-hit .ensures)
+returns c = simp (← c .before .before .before .reach .ensures, ← c .before .before .reach2 .ensures, c .before .if1 .taken, ← c .flat-hit .ensures)
 
 returns-2 : tie.Need-returns-2
 unfolding diskAtOf
-returns-2 c = simp (← c .before .before .before .reach .ensures, ← c .before .before .reach2 .ensures, c .before .if1 .taken, c .if2 .left)
-
-returns-3 : tie.Need-returns-3
-unfolding diskAtOf
-returns-3 c = simp (← c .before .before .reach .ensures, ← c .before .reach2 .ensures, c .if1 .left)
+returns-2 c = simp (← c .before .before .reach .ensures, ← c .before .reach2 .ensures, c .if1 .left)
 
 pub disk-at-spec : {M : Type 1} → statement M
 disk-at-spec =
-    tie.close
-    (tie.spec reach-requires reach-requires-2 flat-hit-requires returns returns-2 returns-3)
+    tie.close (tie.spec reach-requires reach-requires-2 flat-hit-requires returns returns-2)

@@ -21,15 +21,11 @@ flat-hit-requires c κs = search needs
 
 returns : tie.Need-returns
 unfolding planeAtOf
-returns c = simp (← c .before .before .before .before .before .before .reach .ensures, ← c .before .before .before .before .before .is-within .ensures, c .before .before .before .before .if1 .taken, ← c .before .before .before .reach2 .ensures, ← c .before .before .is-within2 .ensures, c .before .if2 .taken, ← c .flat-hit .ensures)
+returns c = simp (← c .before .before .before .before .before .reach .ensures, ← c .before .before .before .before .is-within .ensures, ← c .before .before .before .reach2 .ensures, ← c .before .before .is-within2 .ensures, c .before .if1 .taken, ← c .flat-hit .ensures)
 
 returns-2 : tie.Need-returns-2
 unfolding planeAtOf
-returns-2 c = simp (← c .before .before .before .before .before .reach .ensures, ← c .before .before .before .before .is-within .ensures, c .before .before .before .if1 .taken, ← c .before .before .reach2 .ensures, ← c .before .is-within2 .ensures, c .if2 .left)
-
-returns-3 : tie.Need-returns-3
-unfolding planeAtOf
-returns-3 c = simp (← c .before .before .reach .ensures, ← c .before .is-within .ensures, c .if1 .left)
+returns-2 c = simp (← c .before .before .before .before .reach .ensures, ← c .before .before .before .is-within .ensures, ← c .before .before .reach2 .ensures, ← c .before .is-within2 .ensures, c .if1 .left)
 
 pub plane-at-spec : {M : Type 1} → statement M
 plane-at-spec =
@@ -41,5 +37,4 @@ plane-at-spec =
     is-within-requires-2
     flat-hit-requires
     returns
-    returns-2
-    returns-3)
+    returns-2)

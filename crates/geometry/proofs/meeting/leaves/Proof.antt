@@ -12,11 +12,7 @@ exceeds-requires c κs = search needs
 
 returns : tie.Need-returns
 unfolding leavesOf
-returns c = simp (← c .before .before .recedes .ensures, c .before .if1 .taken, ← c .exceeds .ensures)
-
-returns-2 : tie.Need-returns-2
-unfolding leavesOf
-returns-2 c = simp (← c .before .recedes .ensures, c .if1 .left)
+returns c = simp (← c .before .recedes .ensures, ← c .exceeds .ensures)
 
 pub leaves-spec : {M : Type 1} → statement M
-leaves-spec = tie.close (tie.spec recedes-requires exceeds-requires returns returns-2)
+leaves-spec = tie.close (tie.spec recedes-requires exceeds-requires returns)

@@ -7,25 +7,15 @@ use Rattle.geometry.proofs.meeting.leaves_box.Tie as tie
 leaves-requires : tie.Need-leaves-requires
 leaves-requires c κs = search needs
 
-returns : tie.Need-returns
-unfolding behindOf
-returns c = simp (← c .before .leaves .ensures, c .if1 .taken)
-
 leaves-requires-2 : tie.Need-leaves-requires-2
 leaves-requires-2 c κs = search needs
-
-returns-2 : tie.Need-returns-2
-unfolding behindOf
-returns-2 c = simp (← c .before .before .before .leaves .ensures, c .before .before .if1 .left, ← c .before .leaves2 .ensures, c .if2 .taken)
 
 leaves-requires-3 : tie.Need-leaves-requires-3
 leaves-requires-3 c κs = search needs
 
-returns-3 : tie.Need-returns-3
+returns : tie.Need-returns
 unfolding behindOf
-returns-3 c = simp (← c .before .before .before .before .leaves .ensures, c .before .before .before .if1 .left, ← c .before .before .leaves2 .ensures, c .before .if2 .left, ← c .leaves3 .ensures)
+returns c = simp (← c .before .before .leaves .ensures, ← c .before .leaves2 .ensures, ← c .leaves3 .ensures)
 
 pub leaves-box-spec : {M : Type 1} → statement M
-leaves-box-spec =
-    tie.close
-    (tie.spec leaves-requires returns leaves-requires-2 returns-2 leaves-requires-3 returns-3)
+leaves-box-spec = tie.close (tie.spec leaves-requires leaves-requires-2 leaves-requires-3 returns)

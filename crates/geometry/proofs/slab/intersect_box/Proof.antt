@@ -28,12 +28,9 @@ returns-3 c = simp (← c .before .before .before .before .before .outside .ensu
 inside-requires : tie.Need-inside-requires
 inside-requires c κs = search needs
 
-hit-requires : tie.Need-hit-requires
-hit-requires c κs = search needs
-
 returns-4 : tie.Need-returns-4
 unfolding intersectBoxOf
-returns-4 c = simp (← c .before .before .before .before .before .before .before .outside .ensures, c .before .before .before .before .before .before .if1 .left, ← c .before .before .before .before .before .outside2 .ensures, c .before .before .before .before .if2 .left, ← c .before .before .before .outside3 .ensures, c .before .before .if3 .left, ← c .before .inside .ensures, ← c .hit .ensures)
+returns-4 c = simp (← c .before .before .before .before .before .before .outside .ensures, c .before .before .before .before .before .if1 .left, ← c .before .before .before .before .outside2 .ensures, c .before .before .before .if2 .left, ← c .before .before .outside3 .ensures, c .before .if3 .left, ← c .inside .ensures)
 
 pub intersect-box-spec : {M : Type 1} → statement M
 intersect-box-spec =
@@ -46,5 +43,4 @@ intersect-box-spec =
     outside-requires-3
     returns-3
     inside-requires
-    hit-requires
     returns-4)
