@@ -73,7 +73,7 @@ fn first_face(inverse: f64, h: f64) -> f64
     h
 }
 
-// Of a ray along an axis's planes all.
+// Where a ray is between an axis's planes: everywhere, if it runs along them.
 fn along(o: f64, d: f64, h: f64) -> Span
     ensures { λ r. ⌜ r ≡ alongOf o d h ⌝ }
 {
@@ -195,7 +195,7 @@ fn outside(o: f64, d: f64, h: f64) -> bool
     doubles::exceeds(o, h)
 }
 
-// What the three axes leave of a ray that is outside none of them.
+// Where a ray that is outside none of the axes' planes meets the box.
 fn inside(half_x: f64, half_y: f64, half_z: f64, ray: Ray) -> LocalIntersection
     ensures { λ h. ⌜ localHitOf h ≡ hitOf (insideOf «half_x» «half_y» «half_z» ray) ⌝ }
 {
