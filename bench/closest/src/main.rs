@@ -9,7 +9,7 @@ use optics_core::Vec3;
 use optics_nonseq::geometry::{PrimitiveGeometry, Transform3D};
 use optics_nonseq::material::{NonSeqMaterial, OpticalMedium};
 use optics_nonseq::scene::{NonSeqObject, NonSeqScene};
-use plain::{Hit, Ray, Shape, Solid, V3};
+use plain::{Hit, Ray, Shape, Solid, KEEN, LAZY, PLAIN, V3};
 use std::hint::black_box;
 use std::time::Instant;
 
@@ -138,12 +138,13 @@ fn main() {
     let s = Scene::typical();
     let many = rays(200_000);
     let few = &many[..4096];
-    let ways: [(&str, fn(&Scene, &Ray) -> BenchHit); 6] = [
+    let ways: [(&str, fn(&Scene, &Ray) -> BenchHit); 7] = [
         ("proved", ours),
-        ("Rust, software root", |s, r| packed(plain::closest::<false>(&s.solids, r, root::sqrt))),
-        ("Rust, software root, no normal for the farther", |s, r| packed(plain::closest::<true>(&s.solids, r, root::sqrt))),
-        ("Rust, hardware root", |s, r| packed(plain::closest::<false>(&s.solids, r, f64::sqrt))),
-        ("Rust, hardware root, no normal for the farther", |s, r| packed(plain::closest::<true>(&s.solids, r, f64::sqrt))),
+        ("Rust, software root", |s, r| packed(plain::closest::<PLAIN>(&s.solids, r, root::sqrt))),
+        ("Rust, software root, no normal for the farther", |s, r| packed(plain::closest::<LAZY>(&s.solids, r, root::sqrt))),
+        ("Rust, hardware root", |s, r| packed(plain::closest::<PLAIN>(&s.solids, r, f64::sqrt))),
+        ("Rust, hardware root, no normal for the farther", |s, r| packed(plain::closest::<LAZY>(&s.solids, r, f64::sqrt))),
+        ("Rust, hardware root, all that the library saves", |s, r| packed(plain::closest::<KEEN>(&s.solids, r, f64::sqrt))),
         ("original", original),
     ];
     if let Some(k) = std::env::args().nth(1) {
@@ -158,7 +159,7 @@ fn main() {
     for r in &many {
         let h = bits(original(&s, r));
         met += h[0];
-        if ways[..5].iter().any(|(_, f)| bits(f(&s, r)) != h) {
+        if ways[..6].iter().any(|(_, f)| bits(f(&s, r)) != h) {
             differ += 1;
         }
     }

@@ -227,8 +227,8 @@ fn split(r: &Ray, h: &Hit, n1: f64, n2: f64, root: impl Fn(f64) -> f64 + Copy) -
     Ok((p, q, new_ray(back_from, back, r.nm, p)?, Some(new_ray(on_from, on, r.nm, q)?)))
 }
 
-/// Traces the rays, last to first. `LAZY` as in the search.
-pub fn trace<const LAZY: bool>(s: &Scene, rays: &[Given], m: &mut Maps, root: impl Fn(f64) -> f64 + Copy) -> Result<Report, u32> {
+/// Traces the rays, last to first. `HOW` as in the search.
+pub fn trace<const HOW: u8>(s: &Scene, rays: &[Given], m: &mut Maps, root: impl Fn(f64) -> f64 + Copy) -> Result<Report, u32> {
     let mut sum = Report::default();
     let mut first = 0;
     let faces: Vec<Face> = (s.detectors.iter())
@@ -262,7 +262,7 @@ pub fn trace<const LAZY: bool>(s: &Scene, rays: &[Given], m: &mut Maps, root: im
                 }
             }
         }
-        let met = closest::<LAZY>(&s.solids, &a.ray, root);
+        let met = closest::<HOW>(&s.solids, &a.ray, root);
         if let Some((k, x, y)) = seen.filter(|_| met.is_none_or(|h| min_t < h.t)) {
             record(m, &s.detectors[k], &faces[k], k, x, y, &a)?;
             sum.detected += power;

@@ -1,6 +1,6 @@
 //! The ways of tracing a scene, and their answers compared.
 use crate::lists::{six, Lists};
-use crate::plain::{Ray, Shape, Solid, V3};
+use crate::plain::{Ray, Shape, Solid, KEEN, LAZY, PLAIN, V3};
 use crate::tracer::{self, Detector, Finish, Given, Maps, Media, Medium, Report};
 use crate::root;
 use nonseq::ffi::{Detectors, HostConfig, HostTraced};
@@ -150,8 +150,8 @@ impl Bench {
         NonSeqTracer::new(config).trace_rays(&mut self.scene, &self.rays, None).unwrap()
     }
 
-    fn plain<const LAZY: bool>(&mut self, root: impl Fn(f64) -> f64 + Copy) -> Report {
-        tracer::trace::<LAZY>(&self.plain, &self.given, &mut self.maps, root).unwrap()
+    fn plain<const HOW: u8>(&mut self, root: impl Fn(f64) -> f64 + Copy) -> Report {
+        tracer::trace::<HOW>(&self.plain, &self.given, &mut self.maps, root).unwrap()
     }
 }
 
@@ -188,9 +188,9 @@ impl Answer {
         Answer::of(b, r.report.total_rays_traced, r.report.total_interactions, [l.launched_flux_watts, l.detected_flux_watts, l.absorbed_flux_watts, l.escaped_flux_watts], r.used)
     }
 
-    fn plain<const LAZY: bool>(b: &mut Bench, root: impl Fn(f64) -> f64 + Copy) -> Answer {
+    fn plain<const HOW: u8>(b: &mut Bench, root: impl Fn(f64) -> f64 + Copy) -> Answer {
         b.clear();
-        let r = b.plain::<LAZY>(root);
+        let r = b.plain::<HOW>(root);
         Answer::of(b, b.given.len() as u32, r.interactions, [r.launched, r.detected, r.absorbed, r.escaped], b.maps.used)
     }
 
@@ -262,10 +262,11 @@ fn timed<T>(b: &mut Bench, f: impl FnOnce(&mut Bench) -> T) -> Duration {
 pub type Way = (&'static str, fn(&mut Bench) -> Answer, fn(&mut Bench) -> Duration);
 
 /// The ways; the first three are the library, the original and plain Rust.
-pub const WAYS: [Way; 5] = [
+pub const WAYS: [Way; 6] = [
     ("proved", Answer::proved, |b| timed(b, Bench::proved)),
     ("original", Answer::original, |b| timed(b, |b| b.original(false))),
-    ("Rust, hardware root", |b| Answer::plain::<false>(b, f64::sqrt), |b| timed(b, |b| b.plain::<false>(f64::sqrt))),
-    ("Rust, hardware root, no normal for the farther", |b| Answer::plain::<true>(b, f64::sqrt), |b| timed(b, |b| b.plain::<true>(f64::sqrt))),
-    ("Rust, software root, no normal for the farther", |b| Answer::plain::<true>(b, root::sqrt), |b| timed(b, |b| b.plain::<true>(root::sqrt))),
+    ("Rust, hardware root", |b| Answer::plain::<PLAIN>(b, f64::sqrt), |b| timed(b, |b| b.plain::<PLAIN>(f64::sqrt))),
+    ("Rust, hardware root, no normal for the farther", |b| Answer::plain::<LAZY>(b, f64::sqrt), |b| timed(b, |b| b.plain::<LAZY>(f64::sqrt))),
+    ("Rust, hardware root, all that the library saves", |b| Answer::plain::<KEEN>(b, f64::sqrt), |b| timed(b, |b| b.plain::<KEEN>(f64::sqrt))),
+    ("Rust, software root, all that the library saves", |b| Answer::plain::<KEEN>(b, root::sqrt), |b| timed(b, |b| b.plain::<KEEN>(root::sqrt))),
 ];
