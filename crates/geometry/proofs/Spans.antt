@@ -1,6 +1,6 @@
 -- The box with its sides left to the end is the box. Assumes nothing.
 use mathlib.Core.Path.{_≡_, refl, sym, ap, _∙_}
-use mathlib.Core.Bool.{Bool, true, false, not, cond, _&&_}
+use mathlib.Core.Bool.{Bool, true, false, cond}
 use mathlib.Core.Option.{Option}
 use lib.Ieee.{Float, nan, inf, fin, binary64, sub, mul, div, neg, lt, le}
 use Rattle.doubles.specs.Doubles.{absOf}
@@ -11,7 +11,7 @@ use Rattle.geometry.specs.declared.slab.Side.the-variants.{MinusX, PlusX
 use Rattle.geometry.specs.declared.slab.Span.{Span}
 use Rattle.geometry.specs.Hits.{#0, #1, parallel}
 use Rattle.geometry.specs.Slabs.{Interval, wholeOf, fromOf, toOf, cutOf, insideOf, hitOf}
-use Rattle.geometry.specs.Spans.{firstFaceOf, alongOf, laterOf, soonerOf, nearEndsOf, farEndsOf, metFirstOf, nearSideOf, farSideOf, hitBetweenOf}
+use Rattle.geometry.specs.Spans.{firstFaceOf, alongOf, laterOf, soonerOf, nearEndsOf, farEndsOf, sideForOf, nearSideOf, farSideOf, hitBetweenOf}
 
 -- nothing is below minus infinity, and infinity is below nothing
 none-below : (x : Float) → lt x (neg (inf false)) ≡ false
@@ -64,8 +64,8 @@ all-kept : (s : Interval) (a b : Side) → s ≡ with s (record { near = neg (in
 unfolding with laterOf soonerOf
 all-kept s a b = rw (none-below (s .near), none-above (s .far))
 
-cut-is : (s : Interval) (o d h : Float) (minus plus : Side) → cutOf s o d h minus plus ≡ with s (alongOf o d h) (metFirstOf d minus plus) (metFirstOf d plus minus)
-unfolding cutOf alongOf firstFaceOf metFirstOf
+cut-is : (s : Interval) (o d h : Float) (minus plus : Side) → cutOf s o d h minus plus ≡ with s (alongOf o d h) (sideForOf d minus plus) (sideForOf d plus minus)
+unfolding cutOf alongOf firstFaceOf sideForOf
 cut-is s o d h minus plus = go (lt parallel (absOf d)) (le #0 i)
   where
     i : Float
@@ -80,14 +80,14 @@ cut-is s o d h minus plus = go (lt parallel (absOf d)) (le #0 i)
     go false c = all-kept s (cond c minus plus) (cond c plus minus)
 
 -- what three axes leave
-three : (x y z : Span) (r : Ray) → hitOf (with (with (with wholeOf x (metFirstOf (r .direction .x) MinusX PlusX) (metFirstOf (r .direction .x) PlusX MinusX)) y (metFirstOf (r .direction .y) MinusY PlusY) (metFirstOf (r .direction .y) PlusY MinusY)) z (metFirstOf (r .direction .z) MinusZ PlusZ) (metFirstOf (r .direction .z) PlusZ MinusZ)) ≡ hitBetweenOf (r .direction) x y z
+three : (x y z : Span) (r : Ray) → hitOf (with (with (with wholeOf x (sideForOf (r .direction .x) MinusX PlusX) (sideForOf (r .direction .x) PlusX MinusX)) y (sideForOf (r .direction .y) MinusY PlusY) (sideForOf (r .direction .y) PlusY MinusY)) z (sideForOf (r .direction .z) MinusZ PlusZ) (sideForOf (r .direction .z) PlusZ MinusZ)) ≡ hitBetweenOf (r .direction) x y z
 unfolding hitOf with wholeOf hitBetweenOf nearEndsOf farEndsOf nearSideOf farSideOf
 three x y z r = refl
 
 pub inside-is : (hx hy hz : Float) (r : Ray) → hitOf (insideOf hx hy hz r) ≡ hitBetweenOf (r .direction) (alongOf (r .origin .x) (r .direction .x) hx) (alongOf (r .origin .y) (r .direction .y) hy) (alongOf (r .origin .z) (r .direction .z) hz)
 unfolding insideOf
 inside-is hx hy hz r =
-    rw (cut-is wholeOf (r .origin .x) (r .direction .x) hx MinusX PlusX, cut-is (with wholeOf (alongOf (r .origin .x) (r .direction .x) hx) (metFirstOf (r .direction .x) MinusX PlusX) (metFirstOf (r .direction .x) PlusX MinusX)) (r .origin .y) (r .direction .y) hy MinusY PlusY)
+    rw (cut-is wholeOf (r .origin .x) (r .direction .x) hx MinusX PlusX, cut-is (with wholeOf (alongOf (r .origin .x) (r .direction .x) hx) (sideForOf (r .direction .x) MinusX PlusX) (sideForOf (r .direction .x) PlusX MinusX)) (r .origin .y) (r .direction .y) hy MinusY PlusY)
     (ap hitOf (cut-is _ (r .origin .z) (r .direction .z) hz MinusZ PlusZ) ∙ three _ _ _ r)
 
 -- by the spans of the three axes and what lies between them

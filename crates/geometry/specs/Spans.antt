@@ -1,5 +1,5 @@
--- Box, the sides left to the end: the distances of all three axes first, and which sides set the two ends only where
--- one of them is met. proofs/Spans.antt has why it is the same.
+-- Box as the code goes about it: the distances of all three axes first, and which sides set the two ends only where one
+-- of them is met. What a box is stands in Slabs, and intersect_box is held to that alone.
 use lib.Ieee.{Float, inf, binary64, sub, mul, div, neg, lt, le}
 use mathlib.Core.Bool.{false, cond}
 use mathlib.Core.Option.{Option, none}
@@ -28,12 +28,14 @@ alongOf o d h =
     (record { near = mul binary64 (sub binary64 face o) i; far = mul binary64 (sub binary64 (neg face) o) i })
     (record { near = neg (inf false); far = inf false })
 
+-- an end moved to t where that is farther, or nearer
 unfoldable pub laterOf : Float → Float → Float
 laterOf t end = cond (lt end t) t end
 
 unfoldable pub soonerOf : Float → Float → Float
 soonerOf t end = cond (lt t end) t end
 
+-- both ends after one axis, two, all
 unfoldable pub nearEndsOf : Span → Span → Span → Ends
 nearEndsOf x y z =
     let one = laterOf (x .near) (neg (inf false)) in
@@ -46,21 +48,24 @@ farEndsOf x y z =
     let two = soonerOf (y .far) one in
     record { one = one; two = two; all = soonerOf (z .far) two }
 
-unfoldable pub metFirstOf : Float → Side → Side → Side
-metFirstOf d minus plus = cond (le #0 (div binary64 #1 d)) minus plus
+-- one side for a ray that goes up its axis, another for one that goes down
+unfoldable pub sideForOf : Float → Side → Side → Side
+sideForOf d up down = cond (le #0 (div binary64 #1 d)) up down
 
+-- the side that set an end: the last axis that moved it
 unfoldable pub nearSideOf : Vec3 → Span → Span → Span → Ends → Side
 nearSideOf d x y z ends =
-    cond (lt (ends .two) (z .near)) (metFirstOf (d .z) MinusZ PlusZ)
-    (cond (lt (ends .one) (y .near)) (metFirstOf (d .y) MinusY PlusY)
-    (cond (lt (neg (inf false)) (x .near)) (metFirstOf (d .x) MinusX PlusX) Unset))
+    cond (lt (ends .two) (z .near)) (sideForOf (d .z) MinusZ PlusZ)
+    (cond (lt (ends .one) (y .near)) (sideForOf (d .y) MinusY PlusY)
+    (cond (lt (neg (inf false)) (x .near)) (sideForOf (d .x) MinusX PlusX) Unset))
 
 unfoldable pub farSideOf : Vec3 → Span → Span → Span → Ends → Side
 farSideOf d x y z ends =
-    cond (lt (z .far) (ends .two)) (metFirstOf (d .z) PlusZ MinusZ)
-    (cond (lt (y .far) (ends .one)) (metFirstOf (d .y) PlusY MinusY)
-    (cond (lt (x .far) (inf false)) (metFirstOf (d .x) PlusX MinusX) Unset))
+    cond (lt (z .far) (ends .two)) (sideForOf (d .z) PlusZ MinusZ)
+    (cond (lt (y .far) (ends .one)) (sideForOf (d .y) PlusY MinusY)
+    (cond (lt (x .far) (inf false)) (sideForOf (d .x) PlusX MinusX) Unset))
 
+-- the near end, or the far one where the near end is not ahead
 unfoldable pub hitBetweenOf : Vec3 → Span → Span → Span → Option LocalHit
 hitBetweenOf d x y z =
     let near = nearEndsOf x y z in

@@ -7,7 +7,7 @@ ghost use mathlib.Core.Path.{_≡_};
 ghost use Rattle.rays.specs.Vectors.{vec3};
 ghost use Rattle.geometry.specs.Hits.{localHitOf};
 ghost use Rattle.geometry.specs.Slabs.{normalOf, outsideOf, insideOf, sideHitOf, hitOf, intersectBoxOf};
-ghost use Rattle.geometry.specs.Spans.{firstFaceOf, alongOf, laterOf, soonerOf, nearEndsOf, farEndsOf, metFirstOf, nearSideOf, farSideOf, hitBetweenOf};
+ghost use Rattle.geometry.specs.Spans.{firstFaceOf, alongOf, laterOf, soonerOf, nearEndsOf, farEndsOf, sideForOf, nearSideOf, farSideOf, hitBetweenOf};
 
 // A side of a box, or none yet.
 pub enum Side {
@@ -125,14 +125,14 @@ fn far_ends(x: Span, y: Span, z: Span) -> Ends
     Ends { one, two, all }
 }
 
-// The side that a ray along d comes to first, of an axis's two.
-fn met_first(d: f64, minus: Side, plus: Side) -> Side
-    ensures { λ r. ⌜ r ≡ metFirstOf d minus plus ⌝ }
+// One side for a ray that goes up its axis, another for one that goes down.
+fn side_for(d: f64, up: Side, down: Side) -> Side
+    ensures { λ r. ⌜ r ≡ sideForOf d up down ⌝ }
 {
     if 1.0 / d >= 0.0 {
-        return minus;
+        return up;
     }
-    plus
+    down
 }
 
 // The side that set the near end: on a tie that of the earlier axis.
@@ -140,13 +140,13 @@ fn near_side(d: Vec3, x: Span, y: Span, z: Span, ends: Ends) -> Side
     ensures { λ r. ⌜ r ≡ nearSideOf d x y z ends ⌝ }
 {
     if z.near > ends.two {
-        return met_first(d.z, Side::MinusZ, Side::PlusZ);
+        return side_for(d.z, Side::MinusZ, Side::PlusZ);
     }
     if y.near > ends.one {
-        return met_first(d.y, Side::MinusY, Side::PlusY);
+        return side_for(d.y, Side::MinusY, Side::PlusY);
     }
     if x.near > -doubles::infinity() {
-        return met_first(d.x, Side::MinusX, Side::PlusX);
+        return side_for(d.x, Side::MinusX, Side::PlusX);
     }
     Side::Unset
 }
@@ -156,13 +156,13 @@ fn far_side(d: Vec3, x: Span, y: Span, z: Span, ends: Ends) -> Side
     ensures { λ r. ⌜ r ≡ farSideOf d x y z ends ⌝ }
 {
     if z.far < ends.two {
-        return met_first(d.z, Side::PlusZ, Side::MinusZ);
+        return side_for(d.z, Side::PlusZ, Side::MinusZ);
     }
     if y.far < ends.one {
-        return met_first(d.y, Side::PlusY, Side::MinusY);
+        return side_for(d.y, Side::PlusY, Side::MinusY);
     }
     if x.far < doubles::infinity() {
-        return met_first(d.x, Side::PlusX, Side::MinusX);
+        return side_for(d.x, Side::PlusX, Side::MinusX);
     }
     Side::Unset
 }

@@ -4,29 +4,29 @@ use borrow.Author.Needs.{needs}
 use Rattle.geometry.proofs.slab.far_side.Statement.{statement}
 use Rattle.geometry.proofs.slab.far_side.Tie as tie
 
-met-first-requires : tie.Need-met-first-requires
-met-first-requires c κs = search needs
+side-for-requires : tie.Need-side-for-requires
+side-for-requires c κs = search needs
 
 returns : tie.Need-returns
 unfolding farSideOf
-returns c = simp (c .before .if1 .taken, ← c .met-first .ensures)
+returns c = simp (c .before .if1 .taken, ← c .side-for .ensures)
 
-met-first-requires-2 : tie.Need-met-first-requires-2
-met-first-requires-2 c κs = search needs
+side-for-requires-2 : tie.Need-side-for-requires-2
+side-for-requires-2 c κs = search needs
 
 returns-2 : tie.Need-returns-2
 unfolding farSideOf
-returns-2 c = simp (c .before .before .before .before .if1 .left, c .before .if2 .taken, ← c .met-first2 .ensures)
+returns-2 c = simp (c .before .before .before .before .if1 .left, c .before .if2 .taken, ← c .side-for2 .ensures)
 
 infinity-requires : tie.Need-infinity-requires
 infinity-requires c κs = search needs
 
-met-first-requires-3 : tie.Need-met-first-requires-3
-met-first-requires-3 c κs = search needs
+side-for-requires-3 : tie.Need-side-for-requires-3
+side-for-requires-3 c κs = search needs
 
 returns-3 : tie.Need-returns-3
 unfolding farSideOf
-returns-3 c = simp (c .before .before .before .before .before .before .before .if1 .left, c .before .before .before .before .if2 .left, ← c .before .before .before .infinity .ensures, c .before .if3 .taken, ← c .met-first3 .ensures)
+returns-3 c = simp (c .before .before .before .before .before .before .before .if1 .left, c .before .before .before .before .if2 .left, ← c .before .before .before .infinity .ensures, c .before .if3 .taken, ← c .side-for3 .ensures)
 
 returns-4 : tie.Need-returns-4
 unfolding farSideOf
@@ -36,11 +36,11 @@ pub far-side-spec : {M : Type 1} → statement M
 far-side-spec =
     tie.close
     (tie.spec
-    met-first-requires
+    side-for-requires
     returns
-    met-first-requires-2
+    side-for-requires-2
     returns-2
     infinity-requires
-    met-first-requires-3
+    side-for-requires-3
     returns-3
     returns-4)
