@@ -19,12 +19,12 @@ use Rattle.detectors.specs.declared.Placed.{Placed}
 use Rattle.detectors.specs.Detectors.{maxDetectors, detectorAt, firstPixelOf, allPixelsOf, placedOf, findOf}
 use Rattle.detectors.proofs.Passed.{asked-there, part-in}
 use Rattle.detectors.proofs.Lists.{first-more}
-use Rattle.memory.specs.declared.hits.DetectorHit.{DetectorHit}
+use Rattle.detector.specs.declared.DetectorHit.{DetectorHit}
 use Rattle.memory.specs.Memory.{hitsFrom, isHitListOf}
 use Rattle.filter.specs.declared.RayPathFilter.{RayPathFilter}
 use Rattle.filter.specs.declared.RayPathFilter.the-variants.{SignalOnly, StrayLight}
 use Rattle.filter.specs.Filters.{#0, Map, isAllOf, zeros, addedAtOf, plusOf, plusEach, passing, refilledOf}
-use Rattle.filtering.specs.Handed.{handed, fromMap, checkPlacedOf, checkFilterOf, refilterPlacedOf, storedPartOf, partPlacedOf, filteredPlacedOf, filteredPixelFluxOf}
+use Rattle.filter.specs.Handed.{handed, fromMap, checkPlacedOf, checkFilterOf, refilterPlacedOf, storedPartOf, partPlacedOf, filteredPlacedOf, filteredPixelFluxOf}
 use Rattle.report.specs.declared.NonSeqTraceReport.{NonSeqTraceReport}
 use Rattle.report.specs.declared.tallies.Tallies.{Tallies}
 use Rattle.printing.specs.Rows.{rowText}

@@ -8,8 +8,8 @@ use borrow.Author.Tests.{eq-eqb, ne-eqb}
 use Rattle.error.specs.Refusals.{Checked, passed, refusedAt}
 use Rattle.filter.specs.declared.RayPathFilter.{RayPathFilter}
 use Rattle.filter.specs.Filters.{#0}
-use Rattle.filtering.specs.declared.Filtered.{Filtered}
-use Rattle.filtering.specs.Handed.{Handed, Numbered, filteredOf, refilterOf, filteredPixelFluxOf, filteredPlacedOf, inNumbersOf, withNumbers}
+use Rattle.filter.specs.declared.filtering.Filtered.{Filtered}
+use Rattle.filter.specs.Handed.{Handed, Numbered, filteredOf, refilterOf, filteredPixelFluxOf, filteredPlacedOf, inNumbersOf, withNumbers}
 use Rattle.printing.specs.Printing.{Out, out, putAll}
 use Rattle.answer_text.specs.declared.maps.Grid.{Grid}
 use Rattle.answer_text.specs.Answer.{Held, maxPixels, gridOf, filteredBy, pixelsFrom, mapText}

@@ -15,7 +15,7 @@ use Rattle.detectors.specs.Detectors.{maxDetectors, atOf}
 use Rattle.filter.specs.declared.RayPathFilter.{RayPathFilter}
 use Rattle.filter.specs.declared.RayPathFilter.the-variants.{SignalOnly, StrayLight}
 use Rattle.filter.specs.Filters.{#0}
-use Rattle.filtering.specs.Handed.{Handed, filteredPixelFluxOf}
+use Rattle.filter.specs.Handed.{Handed, filteredPixelFluxOf}
 use Rattle.report.specs.declared.NonSeqTraceReport.{NonSeqTraceReport}
 use Rattle.report.specs.declared.tallies.Tallies.{Tallies}
 use Rattle.printing.specs.Rows.{rowText}

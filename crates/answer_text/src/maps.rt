@@ -4,7 +4,7 @@ use detector::DetectorNo;
 use detectors::Detectors;
 use detectors::Spot;
 use filter::RayPathFilter;
-use filtering::Filtered;
+use filter::Filtered;
 ghost use mathlib.Core.Path.{_≡_};
 ghost use Prim.Native.Nat.{_≤_};
 ghost use Rattle.printing.specs.Printing.{out, putAll};
@@ -60,7 +60,7 @@ fn shown(
     let g = grid_at(detectors, d);
     let n = g.pixels;
     let mut work = [0.0f64; 4096];
-    filtering::refilter(
+    filter::refilter(
         detectors,
         DetectorNo(d),
         filter,
@@ -139,7 +139,7 @@ pub(crate) fn put_map(
     let mut place: u32 = 0;
     let mut total: f64 = 0.0;
     let mut count: usize = 0;
-    let map = filtering::filtered_pixel_flux(
+    let map = filter::filtered_pixel_flux(
         detectors,
         DetectorNo(d),
         filter,

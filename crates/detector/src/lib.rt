@@ -32,6 +32,20 @@ pub struct Detector2D {
     pub total_rays_hit: u32,
 }
 
+// Where on which detector light arrived, how much of which wavelength, after how many bounces,
+// reflections and total reflections.
+#[repr(C)]
+pub struct DetectorHit {
+    pub local_x: f64,
+    pub local_y: f64,
+    pub flux_watts: f64,
+    pub wavelength_nm: f64,
+    pub detector: DetectorNo,
+    pub bounce_count: u32,
+    pub reflection_count: u32,
+    pub tir_count: u32,
+}
+
 impl Detector2D {
     // The largest resolution.
     pub const MAX_RES: u32 = 4096;

@@ -1,3 +1,4 @@
 -- What holds of the definitions.
 pub mod Sift
 pub mod Agree
+pub mod Hands

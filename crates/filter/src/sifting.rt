@@ -2,7 +2,7 @@
 use crate::RayPathFilter;
 use detector::Detector2D;
 use detector::DetectorNo;
-use memory::DetectorHit;
+use detector::DetectorHit;
 use memory::hit_at;
 ghost use mathlib.Core.Path.{_≡_};
 ghost use Prim.Native.Nat.{_+_, _^_, _<_};

@@ -13,11 +13,11 @@ use Rattle.error.specs.declared.NonSeqError.{NonSeqError}
 use Rattle.error.specs.Refusals.{numberOf, passed, checkOf}
 use Rattle.memory.specs.Memory.{Memory, Outcome, refused, outcomeOf}
 use Rattle.trace.specs.Trace.{Batch, checkAllOf, checkTraceOf, Trace, traceRaysOf}
-use Rattle.life.proofs.Checked.{fit}
-use Rattle.book.specs.Parts.{Part, Exact, joined, withRays, shifted, thenOn}
-use Rattle.book.proofs.Checks.{Passes, passes, lists-say, later-passes}
-use Rattle.book.proofs.Split.{two-parts}
-use Rattle.book.proofs.Places.{place-few}
+use Rattle.theorems_runs.proofs.Checked.{fit}
+use Rattle.theorems_calls.specs.Parts.{Part, Exact, joined, withRays, shifted, thenOn}
+use Rattle.theorems_calls.proofs.Checks.{Passes, passes, lists-say, later-passes}
+use Rattle.theorems_calls.proofs.Split.{two-parts}
+use Rattle.theorems_calls.proofs.Places.{place-few}
 use Rattle.halves.specs.Halves.{furtherOf, laterPart, formerPart}
 
 -- what the code's check says

@@ -7,7 +7,7 @@ use lib.Ieee.{Float}
 use lib.ListN.{length, take, drop}
 use Rattle.memory.specs.Memory.{Memory, memoryOf, Outcome, outcomeOf}
 use Rattle.trace.specs.declared.Traced.{Traced}
-use Rattle.book.specs.Parts.{Part}
+use Rattle.theorems_calls.specs.Parts.{Part}
 use Rattle.halves.specs.declared.Halved.{Halved}
 
 -- at most all rays

@@ -2,14 +2,14 @@
 use detectors::Detectors;
 use error::Check;
 use trace::Traced;
-use turn::NonSeqTraceConfig;
+use step::NonSeqTraceConfig;
 ghost use mathlib.Core.Path.{_≡_};
 ghost use Prim.Native.Nat.{_≤_, _*_};
 ghost use lib.ListN.{length};
 ghost use Rattle.error.specs.Refusals.{passed};
 ghost use Rattle.memory.specs.Memory.{memoryOf};
 ghost use Rattle.trace.specs.Trace.{batchOf, checkTraceOf, traceRaysOf, tracedOf};
-ghost use Rattle.book.specs.Parts.{withRays};
+ghost use Rattle.theorems_calls.specs.Parts.{withRays};
 ghost use Rattle.halves.specs.Halves.{cutOf, furtherOf, laterPart, formerPart, answeredOf, halvedOf};
 
 // The refusal or none, and what goes on. The ledger and tallies of a split batch are those of its parts.

@@ -8,8 +8,8 @@ use Rattle.error.specs.declared.Check.the-variants.{Passed, Refused}
 use Rattle.error.specs.Refusals.{Checked, passed, refusedAt, checkOf}
 use Rattle.memory.specs.declared.recording.Recorded.{Recorded}
 use Rattle.memory.specs.Memory.{Memory, memoryOf, Outcome, outcomeOf, recordedOf}
-use Rattle.filtering.specs.declared.Filtered.{Filtered}
-use Rattle.filtering.specs.Handed.{Handed, filteredOf}
+use Rattle.filter.specs.declared.filtering.Filtered.{Filtered}
+use Rattle.filter.specs.Handed.{Handed, filteredOf}
 use Rattle.host_numbers.specs.declared.HostChecked.{HostChecked}
 use Rattle.host_numbers.specs.Numbers.{checkedFrom}
 use Rattle.host_detectors.specs.Maps.{recorded, recordedFrom, filtered, filteredFrom, filteredWith}

@@ -10,7 +10,7 @@ use Rattle.detectors.specs.declared.Detectors.{Detectors}
 use Rattle.detectors.specs.declared.Placed.{Placed}
 use Rattle.memory.specs.Memory.{Memory, Outcome, done, refused}
 use Rattle.filter.specs.Filters.{filterOf}
-use Rattle.filtering.specs.Handed.{Handed, handed, refilterOf}
+use Rattle.filter.specs.Handed.{Handed, handed, refilterOf}
 use Rattle.host_detectors.specs.declared.maps.HostRecorded.{HostRecorded}
 use Rattle.host_detectors.specs.declared.maps.HostFiltered.{HostFiltered}
 use Rattle.host_detectors.specs.declared.maps.HostPart.{HostPart}

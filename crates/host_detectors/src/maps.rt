@@ -6,7 +6,7 @@ use detectors::Found;
 use error::NonSeqError;
 use filter::RayPathFilter;
 use host_numbers::HostReading;
-use memory::DetectorHit;
+use detector::DetectorHit;
 ghost use mathlib.Core.Path.{_≡_};
 ghost use Rattle.detectors.specs.Detectors.{findOf};
 ghost use Rattle.detectors.specs.Readings.{irradianceAtOf};
@@ -85,7 +85,7 @@ pub extern "C" fn nonseq_refilter(
         ≡ filteredFrom (hostRefilterOf detectors asked filter (now (flux .entry)) (now (work .entry)) (now (places .entry)) (now (kinds .entry)) used) ⌝ }
 {
     if filter <= RayPathFilter::LAST {
-        let r = filtering::refilter(
+        let r = filter::refilter(
             detectors,
             DetectorNo(asked),
             RayPathFilter::numbered(filter),

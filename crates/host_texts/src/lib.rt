@@ -9,7 +9,7 @@ ghost use Rattle.printing.specs.Printing.{out, putAll};
 ghost use Rattle.report.specs.Report.{energyRatioOf};
 ghost use Rattle.answer_text.specs.Answer.{heldOf, refusalText};
 ghost use Rattle.scene_text.specs.Scene.{slices, sceneOf};
-ghost use Rattle.stray_map.specs.StrayMap.{strayMapOf};
+ghost use Rattle.map_text.specs.StrayMap.{strayMapOf};
 ghost use Rattle.host_texts.specs.Texts.{frontOf, wholeOf, isHeldOf, heldText, hostAnswerText, sceneFrom, sceneRead};
 
 // How many lines of values the blocks have.
@@ -171,7 +171,7 @@ pub extern "C" fn nonseq_stray_map(buf: &mut [u8], text: &[u8]) -> usize
     ensures { λ r. ⌜ out (now (buf .exit)) r ≡ wholeOf (now (buf .entry)) (strayMapOf (now (text .entry))) ⌝ }
 {
     let mut t = [0u8; 131072];
-    let n = stray_map::put_stray_map(&mut t, 0, text);
+    let n = map_text::put_stray_map(&mut t, 0, text);
     put_whole(buf, front(&t, n))
 }
 

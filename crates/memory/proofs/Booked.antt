@@ -15,7 +15,7 @@ use Rattle.detector.specs.Pixels.{pixelsOf, pixelAtOf}
 use Rattle.detector.proofs.Grid.{Gridded, pixel-in}
 use Rattle.detectors.specs.declared.Detectors.{Detectors}
 use Rattle.detectors.specs.declared.Placed.{Placed}
-use Rattle.memory.specs.declared.hits.DetectorHit.{DetectorHit}
+use Rattle.detector.specs.declared.DetectorHit.{DetectorHit}
 use Rattle.detectors.specs.Detectors.{detectorAt, firstPixelOf, allPixelsOf, placedOf, findOf}
 use Rattle.memory.specs.Memory.{Memory, done, refused, leftOf, listed, hitsFrom, cellInOf, cellOf, inMapsOf, holdsOf, judged, capacityOf, maxCount, raised, recordAt, recordHit, isHitListOf, areLengthsOf, isMemoryOf, unless, recordClassifiedOf, writtenAt}
 use Rattle.memory.specs.Plain.{Empty, added, viewOf, plusAll, bookHit, sharing, numberIn}

@@ -6,7 +6,7 @@ use lib.Ieee.{Float}
 use lib.ListN.{length, set, length-set}
 use Rattle.detector.specs.declared.Detector2D.{Detector2D}
 use Rattle.detector.specs.Pixels.{pixelsOf, pixelAtOf}
-use Rattle.memory.specs.declared.hits.DetectorHit.{DetectorHit}
+use Rattle.detector.specs.declared.DetectorHit.{DetectorHit}
 use Rattle.detectors.specs.Detectors.{detectorAt, firstPixelOf, placedOf}
 use Rattle.memory.specs.Memory.{Memory, capacityOf, raised, four, cellInOf, cellOf, holdsOf, writtenAt}
 use Rattle.memory.specs.Plain.{added}

@@ -8,7 +8,7 @@ use lib.Ieee.{Float}
 use lib.ListN.{length, getD, set, length-set}
 use lib.Seq.{getD-set-same, getD-set-other}
 use borrow.Author.Tests.{lt-ltb}
-use Rattle.memory.specs.declared.hits.DetectorHit.{DetectorHit}
+use Rattle.detector.specs.declared.DetectorHit.{DetectorHit}
 use Rattle.memory.specs.Memory.{Memory, capacityOf, readHit, hitAt, hitsFrom, listed, four, cellOf, writtenAt}
 use Rattle.memory.specs.Plain.{added}
 use Rattle.memory.proofs.Keeps.{written-values, written-tags}

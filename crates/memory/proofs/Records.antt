@@ -12,7 +12,7 @@ use Rattle.error.specs.declared.NonSeqError.{NonSeqError}
 use Rattle.error.specs.declared.NonSeqError.the-variants.{HitListFull, HitCountFull, InvalidSliceLength}
 use Rattle.error.specs.Refusals.{numberOf}
 use Rattle.detector.specs.declared.Detector2D.{Detector2D}
-use Rattle.memory.specs.declared.hits.DetectorHit.{DetectorHit}
+use Rattle.detector.specs.declared.DetectorHit.{DetectorHit}
 use Rattle.detectors.specs.declared.Placed.{Placed}
 use Rattle.detectors.specs.declared.Found.{Found}
 use Rattle.detectors.specs.declared.Found.the-variants.{There, Refused}

@@ -15,7 +15,7 @@ use borrow.Author.Tests.{eq-eqb, ne-eqb}
 use Rattle.detector.specs.declared.Detector2D.{Detector2D}
 use Rattle.detector.specs.Pixels.{pixelsOf, pixelAtOf}
 use Rattle.detector.proofs.Grid.{Gridded, pixel-in}
-use Rattle.memory.specs.declared.hits.DetectorHit.{DetectorHit}
+use Rattle.detector.specs.declared.DetectorHit.{DetectorHit}
 use Rattle.detectors.specs.Detectors.{noDetector, detectorAt, firstPixelOf, placedOf}
 use Rattle.memory.specs.Memory.{Memory, raised, writtenAt, cellInOf, cellOf}
 use Rattle.memory.specs.Plain.{added, View, partOf, viewOf, plusHit, plusAll}

@@ -14,7 +14,7 @@ use Rattle.detector.specs.Pixels.{pixelAtOf}
 use Rattle.detectors.specs.declared.Detectors.{Detectors}
 use Rattle.detectors.specs.declared.Placed.{Placed}
 use Rattle.detectors.specs.Detectors.{maxDetectors, detectorAt, allPixelsOf, placedOf, findOf}
-use Rattle.memory.specs.declared.hits.DetectorHit.{DetectorHit}
+use Rattle.detector.specs.declared.DetectorHit.{DetectorHit}
 use Rattle.memory.specs.declared.recording.Recorded.{Recorded}
 
 -- detectors, flux and hits of all pixels, the doubles and the whole numbers of the hit list, how many hits are used

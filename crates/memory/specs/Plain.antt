@@ -8,7 +8,7 @@ use lib.Ieee.{Float, nan, binary64, ofBits, add}
 use lib.ListN.{length, getD, set, take, drop}
 use Rattle.detector.specs.declared.Detector2D.{Detector2D}
 use Rattle.detector.specs.Pixels.{pixelsOf, pixelAtOf}
-use Rattle.memory.specs.declared.hits.DetectorHit.{DetectorHit}
+use Rattle.detector.specs.declared.DetectorHit.{DetectorHit}
 use Rattle.detectors.specs.Detectors.{detectorAt, firstPixelOf}
 use Rattle.memory.specs.Memory.{Memory, Outcome, refused, judged, cellOf, capacityOf, holdsOf, maxCount, writtenAt}
 

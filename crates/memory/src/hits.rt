@@ -1,24 +1,11 @@
-// A hit, and its places in the hit list.
+// The places of a hit in the hit list.
+use detector::DetectorHit;
 use detector::DetectorNo;
 ghost use mathlib.Core.Path.{_≡_};
 ghost use Prim.Native.Nat.{ℕ, _+_, _*_, _≤_};
 ghost use lib.Ieee.{Float};
 ghost use lib.ListN.{length};
 ghost use Rattle.memory.specs.Memory.{readHit, noHit, hitAt, four};
-
-// Where on which detector light arrived, how much of which wavelength, after how many bounces,
-// reflections and total reflections.
-#[repr(C)]
-pub struct DetectorHit {
-    pub local_x: f64,
-    pub local_y: f64,
-    pub flux_watts: f64,
-    pub wavelength_nm: f64,
-    pub detector: DetectorNo,
-    pub bounce_count: u32,
-    pub reflection_count: u32,
-    pub tir_count: u32,
-}
 
 // Hit i of slices that hold it.
 fn read_hit(values: &[f64], tags: &[u32], i: usize) -> DetectorHit

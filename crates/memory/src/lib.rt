@@ -4,7 +4,6 @@
 mod hits;
 mod recording;
 
-pub use hits::DetectorHit;
 pub use hits::hit_at;
 pub use recording::Recorded;
 pub use recording::are_lengths;

@@ -1,8 +1,8 @@
 // Recording: one hit added to its pixel, to its detector and to the hit list, wholly or not at all.
-use crate::DetectorHit;
 use crate::hits::put_tags;
 use crate::hits::put_values;
 use detector::Detector2D;
+use detector::DetectorHit;
 use detectors::Detectors;
 use detectors::Found;
 use detectors::Placed;

@@ -2,7 +2,7 @@
 use Prim.Native.Nat.{ℕ}
 use mathlib.Core.Bool.{Bool, true, false, cond}
 use lib.Ieee.{Float, binary64, ofBits, add, div, le}
-use Rattle.turn.specs.Rays.{End, dim, spent, gone, caught, stopped, parted, refusing, Step, moreOf}
+use Rattle.step.specs.Rays.{End, dim, spent, gone, caught, stopped, parted, refusing, Step, moreOf}
 use Rattle.report.specs.declared.ledger.Ledger.{Ledger}
 use Rattle.report.specs.declared.tallies.Tallies.{Tallies}
 use Rattle.report.specs.declared.NonSeqTraceReport.{NonSeqTraceReport}

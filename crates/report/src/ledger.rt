@@ -1,7 +1,7 @@
 // The ledger: the powers of a tracing, in watts, added up in step order.
-use turn::Fate;
+use step::Fate;
 ghost use mathlib.Core.Path.{_≡_};
-ghost use Rattle.turn.specs.Rays.{endOf};
+ghost use Rattle.step.specs.Rays.{endOf};
 ghost use Rattle.report.specs.Report.{detecting, absorbing, escaping, unmade, ledgerAfter, energyRatioOf};
 
 #[repr(C)]

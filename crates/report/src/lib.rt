@@ -5,11 +5,11 @@ mod tallies;
 pub use ledger::Ledger;
 pub use tallies::Tallies;
 use tallies::more_if;
-use turn::Event;
-use turn::Fate;
-use turn::more;
+use step::Event;
+use step::Fate;
+use step::more;
 ghost use mathlib.Core.Path.{_≡_};
-ghost use Rattle.turn.specs.Rays.{endOf, stepOf};
+ghost use Rattle.step.specs.Rays.{endOf, stepOf};
 ghost use Rattle.report.specs.Report.{interacts, reportAfter, countedOf, startReportOf};
 
 // What a tracing adds up to.

@@ -1,9 +1,9 @@
 // The tallies: how many rays were made, and what became of how many.
-use turn::Fate;
-use turn::more;
+use step::Fate;
+use step::more;
 ghost use mathlib.Core.Path.{_≡_};
 ghost use mathlib.Core.Bool.{true, false, cond};
-ghost use Rattle.turn.specs.Rays.{endOf};
+ghost use Rattle.step.specs.Rays.{endOf};
 ghost use Rattle.report.specs.Report.{moreIf, dimmer, spending, catching, going, surfacing, faintOf, talliesAfter};
 
 #[repr(C)]

@@ -4,10 +4,10 @@ use mathlib.Core.Path.{_≡_, refl, sym, ap, _∙_}
 use mathlib.Core.Bool.{Bool, true, false, cond, _&&_}
 use lib.Dec.{leb, ltb}
 use lib.ListN.{getD}
-use Rattle.turn.specs.declared.ActiveRay.{ActiveRay}
-use Rattle.memory.specs.declared.hits.DetectorHit.{DetectorHit}
-use Rattle.turn.specs.Rays.{Scene, Step}
-use Rattle.turn.specs.Turn.{turnOf}
+use Rattle.step.specs.declared.ActiveRay.{ActiveRay}
+use Rattle.detector.specs.declared.DetectorHit.{DetectorHit}
+use Rattle.step.specs.Rays.{Scene, Step}
+use Rattle.step.specs.Turn.{turnOf}
 use Rattle.run.specs.declared.stack.Stack.{Stack}
 use Rattle.run.specs.declared.stack.Taken.{Taken}
 use Rattle.run.specs.declared.stack.Coming.{Coming}

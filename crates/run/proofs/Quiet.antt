@@ -12,12 +12,12 @@ use Rattle.material.specs.declared.SurfaceFinish.the-variants.{Specular, Mirror
 use Rattle.scene.specs.declared.NonSeqHit.{NonSeqHit}
 use Rattle.scene.specs.Closest.{closestOf}
 use Rattle.media.specs.declared.Media.{Media}
-use Rattle.memory.specs.declared.hits.DetectorHit.{DetectorHit}
+use Rattle.detector.specs.declared.DetectorHit.{DetectorHit}
 use Rattle.faces.specs.Faces.{nearestDetectorOf}
 use Rattle.surface.specs.Fresnel.{Parted, total, both, snellFresnelOf, mirroredPowerOf, mirroredOf}
-use Rattle.turn.specs.declared.ActiveRay.{ActiveRay}
-use Rattle.turn.specs.Rays.{Optics, Scene, Step, ended, dim, spent, gone, caught, stopped, parted, refusing}
-use Rattle.turn.specs.Turn.{indexIn, beyondOf, partedOf, partedFrom, clearBetween, clearOf, mirrorFrom, mirrorOf, surfaceBy, surfaceOf, Met, detector, solid, nothing, caughtBy, firstMetOf, meetsOf, interactOf, turnOf}
+use Rattle.step.specs.declared.ActiveRay.{ActiveRay}
+use Rattle.step.specs.Rays.{Optics, Scene, Step, ended, dim, spent, gone, caught, stopped, parted, refusing}
+use Rattle.step.specs.Turn.{indexIn, beyondOf, partedOf, partedFrom, clearBetween, clearOf, mirrorFrom, mirrorOf, surfaceBy, surfaceOf, Met, detector, solid, nothing, caughtBy, firstMetOf, meetsOf, interactOf, turnOf}
 use Rattle.run.specs.Run.{hitIn}
 
 -- if the step brings a hit, neither ray is made

@@ -12,14 +12,14 @@ use Rattle.doubles.proofs.Floats.{clash}
 use Rattle.error.specs.declared.Check.{Check}
 use Rattle.error.specs.declared.Check.the-variants.{Passed, Refused}
 use Rattle.error.specs.Refusals.{checkOf}
-use Rattle.memory.specs.declared.hits.DetectorHit.{DetectorHit}
+use Rattle.detector.specs.declared.DetectorHit.{DetectorHit}
 use Rattle.memory.specs.declared.recording.Recorded.{Recorded}
 use Rattle.memory.specs.Memory.{Memory, memoryOf, Outcome, done, refused, unless, outcomeOf, recordedOf, recordHit}
 use Rattle.memory.proofs.Records.{both}
-use Rattle.turn.specs.declared.ActiveRay.{ActiveRay}
-use Rattle.turn.specs.declared.Event.{Event}
-use Rattle.turn.specs.Rays.{Scene, Step, stepOf}
-use Rattle.turn.specs.Turn.{turnOf}
+use Rattle.step.specs.declared.ActiveRay.{ActiveRay}
+use Rattle.step.specs.declared.Event.{Event}
+use Rattle.step.specs.Rays.{Scene, Step, stepOf}
+use Rattle.step.specs.Turn.{turnOf}
 use Rattle.report.specs.declared.NonSeqTraceReport.{NonSeqTraceReport}
 use Rattle.report.specs.Report.{reportAfter}
 use Rattle.run.specs.declared.stack.Stack.{Stack}

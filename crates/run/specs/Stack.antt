@@ -6,9 +6,9 @@ use lib.Dec.{leb, ltb}
 use lib.Ieee.{nan}
 use lib.ListN.{getD, set, replicate}
 use Rattle.rays.specs.Vectors.{vec3}
-use Rattle.turn.specs.declared.ActiveRay.{ActiveRay}
-use Rattle.turn.specs.Rays.{Step}
-use Rattle.given.specs.Given.{blank}
+use Rattle.step.specs.declared.ActiveRay.{ActiveRay}
+use Rattle.step.specs.Rays.{Step}
+use Rattle.given_rays.specs.Given.{blank}
 use Rattle.run.specs.declared.stack.Stack.{Stack}
 use Rattle.run.specs.declared.stack.Taken.{Taken}
 use Rattle.run.specs.declared.stack.Coming.{Coming}

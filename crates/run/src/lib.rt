@@ -11,11 +11,11 @@ pub use settling::Catch;
 use stack::Coming;
 pub use stack::Stack;
 pub use stack::Taken;
-use turn::NonSeqTraceConfig;
+use step::NonSeqTraceConfig;
 ghost use mathlib.Core.Path.{_≡_};
 ghost use Rattle.memory.specs.Memory.{memoryOf, recordHit};
-ghost use Rattle.turn.specs.Rays.{sceneOf};
-ghost use Rattle.given.specs.Given.{givenOf};
+ghost use Rattle.step.specs.Rays.{sceneOf};
+ghost use Rattle.given_rays.specs.Given.{givenOf};
 ghost use Rattle.run.specs.Run.{advancedOf, drive};
 
 // Where a run stands: the work stack, how many given rays are left, what it has added up.
@@ -68,7 +68,7 @@ pub fn advance(
         k -= 1;
         let newest = stack.rays[stack::top_at(stack.len)];
         let t = stack::take(newest, stack.len, left, rays, marks);
-        let e = turn::turn(config, values, tags, count, faces, t.ray);
+        let e = step::turn(config, values, tags, count, faces, t.ray);
         let after = report.after(t.ray.ray.energy, e);
         left = t.left;
         let at = stack::under(stack.len);

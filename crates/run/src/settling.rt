@@ -1,11 +1,11 @@
 // What a step means for the memory and the report.
 use error::Check;
-use memory::DetectorHit;
+use detector::DetectorHit;
 use report::NonSeqTraceReport;
-use turn::Fate;
+use step::Fate;
 ghost use mathlib.Core.Path.{_≡_};
 ghost use Rattle.error.specs.Refusals.{checkOf};
-ghost use Rattle.turn.specs.Rays.{endOf};
+ghost use Rattle.step.specs.Rays.{endOf};
 ghost use Rattle.run.specs.Run.{hitIn, refusalIn, catchOf, goesOnOf, replaced, settledBy};
 
 // The hit that a step brings, if any.

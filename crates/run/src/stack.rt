@@ -1,8 +1,8 @@
 // The work stack: 17 rays by value, one place changed with each step, the newest ray last.
-use turn::ActiveRay;
+use step::ActiveRay;
 ghost use mathlib.Core.Path.{_≡_};
 ghost use Prim.Native.Nat.{_-_, _<_};
-ghost use Rattle.given.specs.Given.{givenOf};
+ghost use Rattle.given_rays.specs.Given.{givenOf};
 ghost use Rattle.run.specs.Stack.{emptyStack, loadedOf, topAt, takenBy, slotOf, comingOf, heightOf};
 
 pub struct Stack {
@@ -40,7 +40,7 @@ fn load(left: u32, values: &[f64], tags: &[u32]) -> Taken
 {
     let next = fewer(left);
     Taken {
-        ray: given::given_at(values, tags, next),
+        ray: given_rays::given_at(values, tags, next),
         left: next,
     }
 }
@@ -133,7 +133,7 @@ impl Stack {
     pub fn empty() -> Stack
         ensures { λ r. ⌜ r ≡ emptyStack ⌝ }
     {
-        let blank = given::no_ray();
+        let blank = given_rays::no_ray();
         let rays = [blank; 17];
         Stack { rays, len: 0 }
     }

@@ -25,7 +25,7 @@ fn main() {
         drain();
     }
     let mut answer = [0u8; 131072];
-    let m = stray_map::put_stray_map(&mut answer, 0, &text[..n]);
+    let m = map_text::put_stray_map(&mut answer, 0, &text[..n]);
     if m <= 131072 {
         io::write_all(1, &answer[..m]);
     }

@@ -11,7 +11,7 @@ use Rattle.error.specs.Refusals.{checkOf}
 use Rattle.memory.specs.Memory.{Memory, outcomeOf, recordHit}
 use Rattle.faces.specs.declared.Faces.{Faces}
 use Rattle.faces.specs.Faces.{facesOf}
-use Rattle.turn.specs.Rays.{sceneOf}
+use Rattle.step.specs.Rays.{sceneOf}
 use Rattle.report.specs.declared.NonSeqTraceReport.{NonSeqTraceReport}
 use Rattle.report.specs.Report.{startReportOf, #0}
 use Rattle.run.specs.declared.Progress.{Progress}

@@ -10,15 +10,15 @@ use Rattle.error.specs.Refusals.{Checked, passed, refusedAt, after}
 use Rattle.scene.specs.Solids.{checkSolidsOf}
 use Rattle.detectors.specs.declared.Detectors.{Detectors}
 use Rattle.detectors.specs.Detectors.{checkDetectorsOf}
-use Rattle.memory.specs.declared.hits.DetectorHit.{DetectorHit}
+use Rattle.detector.specs.declared.DetectorHit.{DetectorHit}
 use Rattle.memory.specs.Memory.{Memory, memoryOf, Outcome, refused, outcomeOf, areLengthsOf, recordHit}
 use Rattle.faces.specs.Faces.{facesOf}
-use Rattle.turn.specs.declared.NonSeqTraceConfig.{NonSeqTraceConfig}
-use Rattle.turn.specs.declared.ActiveRay.{ActiveRay}
-use Rattle.turn.specs.Rays.{Scene, sceneOf}
+use Rattle.step.specs.declared.NonSeqTraceConfig.{NonSeqTraceConfig}
+use Rattle.step.specs.declared.ActiveRay.{ActiveRay}
+use Rattle.step.specs.Rays.{Scene, sceneOf}
 use Rattle.report.specs.declared.NonSeqTraceReport.{NonSeqTraceReport}
 use Rattle.report.specs.Report.{startReportOf, #0}
-use Rattle.given.specs.Given.{givenOf, checkListsOf, checkRaysFrom, launchedOf}
+use Rattle.given_rays.specs.Given.{givenOf, checkListsOf, checkRaysFrom, launchedOf}
 use Rattle.run.specs.declared.Progress.{Progress}
 use Rattle.run.specs.declared.Advanced.{Advanced}
 use Rattle.run.specs.Stack.{emptyStack}

@@ -2,7 +2,7 @@
 use detectors::Detectors;
 use error::Check;
 use error::NonSeqError;
-use turn::NonSeqTraceConfig;
+use step::NonSeqTraceConfig;
 ghost use mathlib.Core.Path.{_≡_};
 ghost use Rattle.error.specs.Refusals.{checkOf};
 ghost use Rattle.trace.specs.Trace.{batchOf, checkFlatOf, checkConfigOf, checkCountsOf, checkRulesOf, checkLengthsOf, checkMemoryOf, checkAllOf};
@@ -20,7 +20,7 @@ fn check_flat(
     ensures { λ r. ⌜ checkOf r ≡ checkFlatOf (batchOf config (now (values .entry)) (now (tags .entry)) count (now (rays .entry)) (now (marks .entry)) given) ⌝ }
 {
     match scene::check_solids(values, tags, count) {
-        Check::Passed => given::check_lists(rays.len(), marks.len(), given),
+        Check::Passed => given_rays::check_lists(rays.len(), marks.len(), given),
         Check::Refused { error, place } => Check::Refused { error, place },
     }
 }
@@ -128,7 +128,7 @@ pub fn check_trace(
     match check_flat(config, values, tags, count, rays, marks, given) {
         Check::Passed => match check_rules(config, count, given) {
             Check::Passed => match check_memory(detectors, flux, hits, places, kinds, used) {
-                Check::Passed => given::check_rays(rays, marks, given, count),
+                Check::Passed => given_rays::check_rays(rays, marks, given, count),
                 Check::Refused { error, place } => Check::Refused { error, place },
             },
             Check::Refused { error, place } => Check::Refused { error, place },

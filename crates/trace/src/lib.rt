@@ -9,10 +9,10 @@ use report::NonSeqTraceReport;
 use run::Advanced;
 use run::Progress;
 use run::Stack;
-use turn::NonSeqTraceConfig;
+use step::NonSeqTraceConfig;
 ghost use mathlib.Core.Path.{_≡_};
 ghost use Rattle.memory.specs.Memory.{memoryOf};
-ghost use Rattle.given.specs.Given.{givenOf};
+ghost use Rattle.given_rays.specs.Given.{givenOf};
 ghost use Rattle.trace.specs.Trace.{batchOf, startOf, answeredOf, traceRaysOf, tracedOf};
 
 // The refusal or none, the ledger and tallies, and what goes on: the detectors' records and the number
@@ -28,7 +28,7 @@ pub struct Traced {
 fn start(rays: &[f64], marks: &[u32], given: u32) -> Progress
     ensures { λ r. ⌜ r ≡ startOf (givenOf (now (rays .entry)) (now (marks .entry))) given ⌝ }
 {
-    let launched = given::launched(rays, marks, given);
+    let launched = given_rays::launched(rays, marks, given);
     Progress {
         stack: Stack::empty(),
         left: given,

@@ -1,6 +1,6 @@
 -- `host_texts::nonseq_stray_map` meets its contract. Assumes nothing.
 use Rattle.host_texts.proofs.Whole.{whole-in}
-use Rattle.room.proofs.Fits.{answer-fits}
+use Rattle.theorems_room.proofs.Fits.{answer-fits}
 use borrow.Author.Needs.{needs}
 use Rattle.host_texts.proofs.nonseq_stray_map.Statement.{statement}
 use Rattle.host_texts.proofs.nonseq_stray_map.Tie as tie

@@ -5,8 +5,8 @@ use native.Mathlib.Omega.{arith}
 use lib.ListN.{length}
 use borrow.Author.Needs.{needs}
 use Rattle.memory.specs.Memory.{memoryOf, outcomeOf, recordHit}
-use Rattle.turn.specs.Rays.{sceneOf, stepOf}
-use Rattle.given.specs.Given.{givenOf}
+use Rattle.step.specs.Rays.{sceneOf, stepOf}
+use Rattle.given_rays.specs.Given.{givenOf}
 use Rattle.run.specs.Run.{andThen, drive}
 use Rattle.run.proofs.Places.{taken-is, after-is, after-hit}
 use Rattle.run.proofs.Turns.{goes-pos, stops, turn-hit, turn-no-hit}

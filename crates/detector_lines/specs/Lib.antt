@@ -1,2 +1,0 @@
--- What a stored line of crossings or recordings says.
-pub mod DetectorLines

@@ -1,0 +1,68 @@
+-- `filter::filtering::filtered_part` meets its contract. Assumes nothing.
+use mathlib.Core.Path.{refl}
+use Rattle.filter.proofs.Hands.{part-fits, part-refused, part-all, part-work, not-passed, not-other, not-all}
+use borrow.Author.Needs.{needs}
+use Rattle.filter.proofs.filtering.filtered_part.Statement.{statement}
+use Rattle.filter.proofs.filtering.filtered_part.Tie as tie
+
+check-filter-requires : tie.Need-check-filter-requires
+check-filter-requires c κs = search needs
+
+enum-told : tie.Need-enum-told
+enum-told c = search needs
+
+sub-result : tie.Need-sub-result
+sub-result c = search needs
+
+part-result-start : tie.Need-part-result-start
+part-result-start c = search needs
+
+part-result-end : tie.Need-part-result-end
+part-result-end c = search needs
+
+enum-known-p : tie.Need-enum-known-p
+enum-known-p c = search needs
+
+is-all-requires : tie.Need-is-all-requires
+is-all-requires c κs = search needs
+
+stored-part-requires : tie.Need-stored-part-requires
+stored-part-requires c κs = part-fits _ _ _ _ _ _ _ _ _ (c .before .before .before .before .before .check-filter .ensures) (c .before .before .before .p .given .1)
+
+returns : tie.Need-returns
+returns c =
+    let e = c .before .before .before .before .before .before .check-filter .ensures in
+    let k = c .before .before .before .before .p .given .1 in
+    let b = c .before .before .is-all .ensures in
+    let t = c .before .if1 .taken in
+    (part-all _ _ _ _ _ _ _ _ _ e _ k _ b t _ (c .stored-part .ensures .0), (λ q. c .stored-part .ensures .1, λ p q g. not-other _ _ b t q))
+
+returns-2 : tie.Need-returns-2
+returns-2 c =
+    let e = c .before .before .before .check-filter .ensures in
+    let k = c .before .enum-told .given .1 in
+    (part-refused _ _ _ _ _ _ _ _ _ e _ _ k, (λ q. refl, λ p q g. not-passed _ _ _ _ p e k g))
+
+returns-3 : tie.Need-returns-3
+returns-3 c =
+    let e = c .before .before .before .before .before .check-filter .ensures in
+    let k = c .before .before .before .p .given .1 in
+    let b = c .before .is-all .ensures in
+    let t = c .if1 .left in
+    (part-work _ _ _ _ _ _ _ _ _ e _ k _ b t, (λ q. not-all _ _ b t q, λ p q g. refl))
+
+pub filtered-part-spec : {M : Type 1} → statement M
+filtered-part-spec =
+    tie.close
+    (tie.spec
+    check-filter-requires
+    enum-told
+    sub-result
+    part-result-start
+    part-result-end
+    enum-known-p
+    is-all-requires
+    stored-part-requires
+    returns
+    returns-2
+    returns-3)

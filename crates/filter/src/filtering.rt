@@ -1,0 +1,214 @@
+// A detector's map under a filter, its total and its count (document 01, "Maps and lists"): in two calls,
+// whose contracts say all, and in one.
+use detector::DetectorNo;
+use detectors::Detectors;
+use detectors::Found;
+use detectors::Placed;
+use error::Check;
+use error::NonSeqError;
+use crate::RayPathFilter;
+use crate::sifting::refill;
+use memory::is_hit_list;
+ghost use mathlib.Core.Path.{_≡_};
+ghost use mathlib.Core.Bool.{true, false};
+ghost use Prim.Native.Nat.{_+_, _≤_};
+ghost use lib.ListN.{length};
+ghost use Rattle.error.specs.Refusals.{passed};
+ghost use Rattle.detector.specs.Pixels.{pixelsOf};
+ghost use Rattle.detectors.specs.declared.Placed.{Placed};
+ghost use Rattle.detectors.specs.Detectors.{foundOf};
+ghost use Rattle.filter.specs.Filters.{isAllOf};
+ghost use Rattle.filter.specs.Handed.{checkFilterOf, filteredOf, refilterOf, storedPartOf, filteredPartOf, numbered, inNumbersOf, filteredPixelFluxOf};
+
+// The refusal or none, and the total and the count of the hits under the filter; 0 and 0 where refused.
+pub struct Filtered {
+    pub check: Check,
+    pub total_flux_watts: f64,
+    pub hit_count: usize,
+}
+
+// The asked detector, by 3, 5 to 8 and 4; then 9 unless the stored map, the work map and the hit list have
+// these lengths.
+fn check_filter(
+    detectors: Detectors,
+    asked: DetectorNo,
+    stored: usize,
+    work: usize,
+    values: usize,
+    tags: usize,
+    used: usize,
+) -> Found
+    ensures { λ r. ⌜ foundOf r ≡ checkFilterOf detectors asked stored work values tags used ⌝ }
+{
+    match detectors.find(asked) {
+        Found::Refused { error, place } => Found::Refused { error, place },
+        Found::There(p) => {
+            let d = p.detector;
+            if stored == detectors.all_pixels() {
+                if work == d.pixels() {
+                    if is_hit_list(values, tags, used) {
+                        return Found::There(p);
+                    }
+                }
+            }
+            Found::Refused {
+                error: NonSeqError::InvalidSliceLength,
+                place: 0,
+            }
+        }
+    }
+}
+
+// First of two calls: the work map zeroed and refilled with the hits that the filter lets through. All and
+// a refusal leave it; All's total and count are the stored ones.
+pub fn refilter(
+    detectors: Detectors,
+    asked: DetectorNo,
+    filter: RayPathFilter,
+    stored: &[f64],
+    work: &mut [f64],
+    values: &[f64],
+    tags: &[u32],
+    used: usize,
+) -> Filtered
+    ensures { λ r. ⌜ filteredOf r (now (work .exit))
+        ≡ refilterOf detectors asked filter (now (stored .entry)) (now (work .entry)) (now (values .entry)) (now (tags .entry)) used ⌝ }
+{
+    match check_filter(
+        detectors,
+        asked,
+        stored.len(),
+        work.len(),
+        values.len(),
+        tags.len(),
+        used,
+    ) {
+        Found::Refused { error, place } => Filtered {
+            check: Check::Refused { error, place },
+            total_flux_watts: 0.0,
+            hit_count: 0,
+        },
+        Found::There(p) => {
+            let d = p.detector;
+            if filter.is_all() {
+                return Filtered {
+                    check: Check::Passed,
+                    total_flux_watts: d.total_flux_watts,
+                    hit_count: d.total_rays_hit as usize,
+                };
+            }
+            let t = refill(filter, asked, d, work, values, tags, used);
+            Filtered {
+                check: Check::Passed,
+                total_flux_watts: t.total,
+                hit_count: t.count,
+            }
+        }
+    }
+}
+
+// The part of the stored map that holds a detector's pixels.
+fn stored_part<'a>(p: Placed, stored: &'a [f64]) -> &'a [f64]
+    requires { ⌜ p .first + pixelsOf (p .detector) ≤ length (now stored) ⌝ }
+    ensures { λ r. ⌜ now r ≡ storedPartOf p (now (stored .entry)) ⌝ }
+    ensures { λ r. ⌜ r .ptr .0 ≡ stored .entry .ptr .0 ⌝ }
+{
+    let d = p.detector;
+    let first = p.first;
+    let end = first + d.pixels();
+    &stored[first..end]
+}
+
+// Second of two calls: the stored map's part of the detector for All, the work map for the others, an
+// empty part where the call is refused.
+pub fn filtered_part<'a>(
+    detectors: Detectors,
+    asked: DetectorNo,
+    filter: RayPathFilter,
+    stored: &'a [f64],
+    work: &'a [f64],
+    values: &[f64],
+    tags: &[u32],
+    used: usize,
+) -> &'a [f64]
+    ensures { λ r. ⌜ now r
+        ≡ filteredPartOf detectors asked filter (now (stored .entry)) (now (work .entry)) (now (values .entry)) (now (tags .entry)) used ⌝ }
+    ensures { λ r. ⌜ (isAllOf filter ≡ true → r .ptr .0 ≡ stored .entry .ptr .0) ⌝ }
+    ensures { λ r. ⌜ ((p : Placed) → isAllOf filter ≡ false
+        → checkFilterOf detectors asked (length (now (stored .entry))) (length (now (work .entry))) (length (now (values .entry))) (length (now (tags .entry))) used
+        ≡ passed p → r .ptr ≡ work .entry .ptr) ⌝ }
+{
+    match check_filter(
+        detectors,
+        asked,
+        stored.len(),
+        work.len(),
+        values.len(),
+        tags.len(),
+        used,
+    ) {
+        Found::Refused { error: _, place: _ } => &stored[0..0],
+        Found::There(p) => {
+            if filter.is_all() {
+                return stored_part(p, stored);
+            }
+            work
+        }
+    }
+}
+
+// Both in one call, in the form that document 01 names. The refusal's number (0 for none) and its place,
+// the total and the count go to places of the caller's.
+pub fn filtered_pixel_flux<'a>(
+    detectors: Detectors,
+    asked: DetectorNo,
+    filter: RayPathFilter,
+    stored: &'a [f64],
+    work: &'a mut [f64],
+    values: &[f64],
+    tags: &[u32],
+    used: usize,
+    refusal: &mut u32,
+    at: &mut u32,
+    total: &mut f64,
+    count: &mut usize,
+) -> &'a [f64]
+    ensures { λ r. ⌜ numbered (now (refusal .exit)) (now (at .exit)) (now r) (now (total .exit)) (now (count .exit))
+        ≡ inNumbersOf (filteredPixelFluxOf detectors asked filter (now (stored .entry)) (now (work .entry)) (now (values .entry)) (now (tags .entry)) used) ⌝ }
+    ensures { λ r. ⌜ (isAllOf filter ≡ true → r .ptr .0 ≡ stored .entry .ptr .0) ⌝ }
+    ensures { λ r. ⌜ ((p : Placed) → isAllOf filter ≡ false
+        → checkFilterOf detectors asked (length (now (stored .entry))) (length (now (work .entry))) (length (now (values .entry))) (length (now (tags .entry))) used
+        ≡ passed p → r .ptr ≡ work .entry .ptr) ⌝ }
+{
+    *refusal = 0;
+    *at = 0;
+    *total = 0.0;
+    *count = 0;
+    match check_filter(
+        detectors,
+        asked,
+        stored.len(),
+        work.len(),
+        values.len(),
+        tags.len(),
+        used,
+    ) {
+        Found::Refused { error, place } => {
+            *refusal = error.number();
+            *at = place;
+            &stored[0..0]
+        }
+        Found::There(p) => {
+            let d = p.detector;
+            if filter.is_all() {
+                *total = d.total_flux_watts;
+                *count = d.total_rays_hit as usize;
+                return stored_part(p, stored);
+            }
+            let t = refill(filter, asked, d, work, values, tags, used);
+            *total = t.total;
+            *count = t.count;
+            &work[..]
+        }
+    }
+}

@@ -1,0 +1,195 @@
+// The given rays of a tracing, as two lent lists of numbers, as they stand in the scene text (document 01,
+// "Maps and lists"). Of each ray 8 doubles: origin, direction, wavelength, power. Of each ray 10 whole
+// numbers: bounce, number of media, 8 media.
+use error::Check;
+use error::NonSeqError;
+use media::Media;
+use rays::Ray;
+use rays::Vec3;
+use scene::SolidNo;
+use step::ActiveRay;
+ghost use mathlib.Core.Path.{_≡_};
+ghost use Prim.Native.Nat.{_+_, _*_, _≤_};
+ghost use lib.ListN.{length};
+ghost use Rattle.error.specs.Refusals.{checkOf};
+ghost use Rattle.given_rays.specs.Given.{readRayOf, readMediaOf, blank, givenOf, checkListsOf, allSolids, validMediaOf, checkRayOf, checkRaysFrom, launchedOf};
+
+fn read_ray(values: &[f64], i: u32) -> Ray
+    requires { ⌜ i * 8 + 8 ≤ length (now values) ⌝ }
+    ensures { λ r. ⌜ r ≡ readRayOf (now (values .entry)) i ⌝ }
+{
+    let a = i as usize * 8;
+    Ray {
+        origin: Vec3 {
+            x: values[a],
+            y: values[a + 1],
+            z: values[a + 2],
+        },
+        direction: Vec3 {
+            x: values[a + 3],
+            y: values[a + 4],
+            z: values[a + 5],
+        },
+        wavelength_nm: values[a + 6],
+        energy: values[a + 7],
+    }
+}
+
+fn read_media(tags: &[u32], i: u32) -> Media
+    requires { ⌜ i * 10 + 10 ≤ length (now tags) ⌝ }
+    ensures { λ r. ⌜ r ≡ readMediaOf (now (tags .entry)) i ⌝ }
+{
+    let a = i as usize * 10;
+    let mut list = [SolidNo(0); 24];
+    list[0] = SolidNo(tags[a + 2]);
+    list[1] = SolidNo(tags[a + 3]);
+    list[2] = SolidNo(tags[a + 4]);
+    list[3] = SolidNo(tags[a + 5]);
+    list[4] = SolidNo(tags[a + 6]);
+    list[5] = SolidNo(tags[a + 7]);
+    list[6] = SolidNo(tags[a + 8]);
+    list[7] = SolidNo(tags[a + 9]);
+    Media {
+        list,
+        depth: tags[a + 1],
+    }
+}
+
+// What stands for a ray that the lists do not hold: NaN and 0.
+pub fn no_ray() -> ActiveRay
+    ensures { λ r. ⌜ r ≡ blank ⌝ }
+{
+    let nan = 0.0 / 0.0;
+    let v = Vec3 {
+        x: nan,
+        y: nan,
+        z: nan,
+    };
+    let list = [SolidNo(0); 24];
+    ActiveRay {
+        ray: Ray {
+            origin: v,
+            direction: v,
+            wavelength_nm: nan,
+            energy: nan,
+        },
+        bounce_count: 0,
+        reflection_count: 0,
+        tir_count: 0,
+        media: Media { list, depth: 0 },
+    }
+}
+
+// Ray i, as it starts.
+pub fn given_at(values: &[f64], tags: &[u32], i: u32) -> ActiveRay
+    ensures { λ r. ⌜ r ≡ givenOf (now (values .entry)) (now (tags .entry)) i ⌝ }
+{
+    let none = no_ray();
+    if i as usize * 8 + 8 <= values.len() {
+        if i as usize * 10 + 10 <= tags.len() {
+            return ActiveRay {
+                ray: read_ray(values, i),
+                bounce_count: tags[i as usize * 10],
+                reflection_count: 0,
+                tir_count: 0,
+                media: read_media(tags, i),
+            };
+        }
+    }
+    none
+}
+
+// Whether lists of these lengths are those of so many rays (17).
+pub fn check_lists(values: usize, tags: usize, rays: u32) -> Check
+    ensures { λ r. ⌜ checkOf r ≡ checkListsOf values tags rays ⌝ }
+{
+    if values == rays as usize * 8 {
+        if tags == rays as usize * 10 {
+            return Check::Passed;
+        }
+    }
+    Check::Refused {
+        error: NonSeqError::InvalidSceneText,
+        place: 0,
+    }
+}
+
+// Whether the first n places hold solids.
+fn all_solids(list: [SolidNo; 24], n: usize, solids: u32) -> bool
+    requires { ⌜ n ≤ 24 ⌝ }
+    ensures { λ r. ⌜ r ≡ allSolids list solids n 0 ⌝ }
+{
+    let mut i: usize = 0;
+    while i < n {
+        let s = list[i];
+        if s.0 < solids {
+            i += 1;
+        } else {
+            return false;
+        }
+    }
+    true
+}
+
+// At most 8 media, each a solid.
+fn valid_media(media: Media, solids: u32) -> bool
+    ensures { λ r. ⌜ r ≡ validMediaOf media solids ⌝ }
+{
+    let list = media.list;
+    if media.depth <= 8 {
+        return all_solids(list, media.depth as usize, solids);
+    }
+    false
+}
+
+// 10 for a ray that may not be given, then 11 for its media.
+fn check_ray(a: ActiveRay, solids: u32, place: u32) -> Check
+    ensures { λ r. ⌜ checkOf r ≡ checkRayOf a solids place ⌝ }
+{
+    let ray = a.ray;
+    if ray.is_valid() {
+        if valid_media(a.media, solids) {
+            return Check::Passed;
+        }
+        return Check::Refused {
+            error: NonSeqError::InvalidMedia,
+            place,
+        };
+    }
+    Check::Refused {
+        error: NonSeqError::InvalidRay,
+        place,
+    }
+}
+
+// The first of the rays that is refused, by 10 or 11.
+pub fn check_rays(values: &[f64], tags: &[u32], rays: u32, solids: u32) -> Check
+    ensures { λ r. ⌜ checkOf r ≡ checkRaysFrom (givenOf (now (values .entry)) (now (tags .entry))) solids rays 0 ⌝ }
+{
+    let mut i: u32 = 0;
+    while i < rays {
+        match check_ray(given_at(values, tags, i), solids, i) {
+            Check::Passed => {
+                i += 1;
+            }
+            Check::Refused { error, place } => {
+                return Check::Refused { error, place };
+            }
+        }
+    }
+    Check::Passed
+}
+
+// The power launched, summed first to last.
+pub fn launched(values: &[f64], tags: &[u32], rays: u32) -> f64
+    ensures { λ r. ⌜ r ≡ launchedOf (givenOf (now (values .entry)) (now (tags .entry))) rays ⌝ }
+{
+    let mut sum = 0.0;
+    let mut i: u32 = 0;
+    while i < rays {
+        let a = given_at(values, tags, i);
+        sum = sum + a.ray.energy;
+        i += 1;
+    }
+    sum
+}

@@ -1,0 +1,54 @@
+-- `host_tracing::slices::put_ray` meets its contract. Assumes nothing.
+use native.Mathlib.Omega.{arith}
+use Rattle.host_tracing.proofs.Laying.{room-in}
+use Rattle.host_tracing.specs.Flat.{putRay}
+use borrow.Author.Needs.{needs}
+use Rattle.host_tracing.proofs.slices.put_ray.Statement.{statement}
+use Rattle.host_tracing.proofs.slices.put_ray.Tie as tie
+
+has-room-requires : tie.Need-has-room-requires
+has-room-requires c κs = search needs
+
+mul-put-values : tie.Need-mul-put-values
+mul-put-values c = search needs
+
+put-values-requires : tie.Need-put-values-requires
+put-values-requires c κs = omega (arith, room-in _ _ _ _ (c .before .before .has-room .ensures) (c .before .if1 .taken))
+
+mul-put-marks : tie.Need-mul-put-marks
+mul-put-marks c = search needs
+
+put-marks-requires : tie.Need-put-marks-requires
+put-marks-requires c κs = omega (arith, room-in _ _ _ _ (c .before .before .before .before .before .before .has-room .ensures) (c .before .before .before .before .before .if1 .taken))
+
+add-result : tie.Need-add-result
+add-result c = omega (arith, room-in _ _ _ _ (c .before .before .before .before .before .before .before .before .before .has-room .ensures) (c .before .before .before .before .before .before .before .before .if1 .taken))
+
+same-length : tie.Need-same-length
+same-length c = search needs
+
+same-length-2 : tie.Need-same-length-2
+same-length-2 c = search needs
+
+returns : tie.Need-returns
+unfolding putRay
+returns c = simp (← c .before .before .before .before .before .before .before .before .before .has-room .ensures, c .before .before .before .before .before .before .before .before .if1 .taken, ← c .before .before .before .before .before .before .put-values .ensures, ← c .before .before .put-marks .ensures)
+
+returns-2 : tie.Need-returns-2
+unfolding putRay
+returns-2 c = simp (← c .before .has-room .ensures, c .if1 .left)
+
+pub put-ray-spec : {M : Type 1} → statement M
+put-ray-spec =
+    tie.close
+    (tie.spec
+    has-room-requires
+    mul-put-values
+    put-values-requires
+    mul-put-marks
+    put-marks-requires
+    add-result
+    same-length
+    same-length-2
+    returns
+    returns-2)

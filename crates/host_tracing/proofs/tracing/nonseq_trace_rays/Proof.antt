@@ -1,0 +1,51 @@
+-- `host_tracing::tracing::nonseq_trace_rays` meets its contract. Assumes nothing.
+use native.Mathlib.Omega.{arith}
+use Rattle.host_tracing.proofs.Told.{traced-is, no-medium-is}
+use borrow.Author.Needs.{needs}
+use Rattle.host_tracing.proofs.tracing.nonseq_trace_rays.Statement.{statement}
+use Rattle.host_tracing.proofs.tracing.nonseq_trace_rays.Tie as tie
+
+config-of-requires : tie.Need-config-of-requires
+config-of-requires c κs = search needs
+
+trace-rays-requires : tie.Need-trace-rays-requires
+trace-rays-requires c κs = search needs
+
+told-requires : tie.Need-told-requires
+told-requires c κs = search needs
+
+same-length : tie.Need-same-length
+same-length c = search needs
+
+same-length-2 : tie.Need-same-length-2
+same-length-2 c = search needs
+
+same-length-3 : tie.Need-same-length-3
+same-length-3 c = search needs
+
+same-length-4 : tie.Need-same-length-4
+same-length-4 c = search needs
+
+returns : tie.Need-returns
+returns c = traced-is _ _ _ _ _ _ _ (c .before .before .before .before .before .before .before .before .before .before .before .before .before .before .config-of .result) (c .before .before .before .before .before .before .before .before .before .trace-rays .result) _ _ _ _ _ _ (omega arith) (c .before .before .before .before .before .before .before .before .before .before .before .before .before .before .config-of .ensures) (c .before .before .before .before .before .before .before .before .before .trace-rays .ensures) (c .told .ensures)
+
+no-medium-requires : tie.Need-no-medium-requires
+no-medium-requires c κs = search needs
+
+returns-2 : tie.Need-returns-2
+returns-2 c = no-medium-is _ _ _ _ _ _ _ _ _ _ _ _ _ _ (omega arith) (c .no-medium .ensures)
+
+pub nonseq-trace-rays-spec : {M : Type 1} → statement M
+nonseq-trace-rays-spec =
+    tie.close
+    (tie.spec
+    config-of-requires
+    trace-rays-requires
+    told-requires
+    same-length
+    same-length-2
+    same-length-3
+    same-length-4
+    returns
+    no-medium-requires
+    returns-2)

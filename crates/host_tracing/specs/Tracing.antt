@@ -1,0 +1,67 @@
+-- A tracing as a host asks for it: what it answers, and what it leaves in the four lent slices.
+use Prim.Native.Nat.{ℕ}
+use mathlib.Core.Bool.{cond}
+use mathlib.Core.List.{List}
+use lib.Dec.{leb}
+use lib.Ieee.{Float}
+use Rattle.error.specs.Refusals.{checkOf}
+use Rattle.material.specs.Media.{mediumOf}
+use Rattle.detectors.specs.declared.Detectors.{Detectors}
+use Rattle.memory.specs.Memory.{Memory, Outcome, done, refused, leftOf}
+use Rattle.step.specs.declared.NonSeqTraceConfig.{NonSeqTraceConfig}
+use Rattle.report.specs.Report.{startReportOf, #0}
+use Rattle.trace.specs.declared.Traced.{Traced}
+use Rattle.trace.specs.Trace.{batchOf, Trace, traceRaysOf}
+use Rattle.host_numbers.specs.Numbers.{checkedFrom}
+use Rattle.host_tracing.specs.declared.answers.HostConfig.{HostConfig}
+use Rattle.host_tracing.specs.declared.answers.HostTraced.{HostTraced}
+
+-- the rules that a host's numbers mean
+unfoldable pub configOf : HostConfig → NonSeqTraceConfig
+configOf g =
+    record {
+      «max_bounces» = g .«max_bounces»;
+      «min_power_threshold» = g .«min_power_threshold»;
+      «ambient_medium» = mediumOf (g .ambient) (g .a) (g .b) (g .c) (g .d) (g .e) (g .f);
+    }
+
+-- the refusal's number and place, 0 and 0 for none
+abbrev pub refusalOf : Outcome Memory → ℕ
+refusalOf (done m) = 0
+refusalOf (refused n place m) = n
+
+abbrev pub placeOf : Outcome Memory → ℕ
+placeOf (done m) = 0
+placeOf (refused n place m) = place
+
+-- the answer, and the four slices
+pub record Left : Type 0 where
+  pub answer : HostTraced
+  pub flux : List Float
+  pub hits : List ℕ
+  pub places : List Float
+  pub kinds : List ℕ
+
+abbrev pub left : HostTraced → List Float → List ℕ → List Float → List ℕ → Left
+left r f h v t = record { answer = r; flux = f; hits = h; places = v; kinds = t }
+
+unfoldable pub leftBy : Trace Memory → Left
+leftBy t =
+    let m = leftOf (t .outcome) in
+    left (record { refusal = refusalOf (t .outcome); place = placeOf (t .outcome); used = m .used; report = t .report; detectors = m .detectors }) (m .flux) (m .hits) (m .values) (m .tags)
+
+-- 17 for an ambient medium that is none, first of all
+unfoldable pub hostTraceOf : HostConfig → List Float → List ℕ → ℕ → List Float → List ℕ → ℕ → Memory → Left
+hostTraceOf g x k n v t m s =
+    cond (leb (g .ambient) 3)
+    (leftBy (traceRaysOf (batchOf (configOf g) x k n v t m) s))
+    (leftBy (record { outcome = refused 17 0 s; report = startReportOf 0 #0 }))
+
+-- of the code's answers
+unfoldable pub toldOf : Traced → HostTraced
+toldOf r =
+    let c = checkedFrom (checkOf (r .check)) in
+    record { refusal = c .refusal; place = c .place; used = r .used; report = r .report; detectors = r .detectors }
+
+unfoldable pub noMediumOf : Detectors → ℕ → HostTraced
+noMediumOf ds used = record { refusal = 17; place = 0; used = used; report = startReportOf 0 #0; detectors = ds }

@@ -1,0 +1,55 @@
+-- `map_text::parts::config` meets its contract. Assumes nothing.
+use Rattle.map_text.specs.Tables.{configOf}
+use borrow.Author.Needs.{needs}
+use Rattle.map_text.proofs.parts.config.Statement.{statement}
+use Rattle.map_text.proofs.parts.config.Tie as tie
+
+whole-requires : tie.Need-whole-requires
+whole-requires c κs = search needs
+
+value-requires : tie.Need-value-requires
+value-requires c κs = search needs
+
+value-requires-2 : tie.Need-value-requires-2
+value-requires-2 c κs = search needs
+
+value-requires-3 : tie.Need-value-requires-3
+value-requires-3 c κs = search needs
+
+value-requires-4 : tie.Need-value-requires-4
+value-requires-4 c κs = search needs
+
+value-requires-5 : tie.Need-value-requires-5
+value-requires-5 c κs = search needs
+
+value-requires-6 : tie.Need-value-requires-6
+value-requires-6 c κs = search needs
+
+numbered-requires : tie.Need-numbered-requires
+numbered-requires c κs = search needs
+
+whole-requires-2 : tie.Need-whole-requires-2
+whole-requires-2 c κs = search needs
+
+value-requires-7 : tie.Need-value-requires-7
+value-requires-7 c κs = search needs
+
+returns : tie.Need-returns
+unfolding configOf
+returns c = simp (← c .before .before .before .before .before .before .before .before .before .whole .ensures, ← c .before .before .before .before .before .before .before .before .value .ensures, ← c .before .before .before .before .before .before .before .value2 .ensures, ← c .before .before .before .before .before .before .value3 .ensures, ← c .before .before .before .before .before .value4 .ensures, ← c .before .before .before .before .value5 .ensures, ← c .before .before .before .value6 .ensures, ← c .before .before .numbered .ensures, ← c .before .whole2 .ensures, ← c .value7 .ensures)
+
+pub config-spec : {M : Type 1} → statement M
+config-spec =
+    tie.close
+    (tie.spec
+    whole-requires
+    value-requires
+    value-requires-2
+    value-requires-3
+    value-requires-4
+    value-requires-5
+    value-requires-6
+    numbered-requires
+    whole-requires-2
+    value-requires-7
+    returns)

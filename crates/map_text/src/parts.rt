@@ -1,0 +1,117 @@
+// What is given to the tracing, from the tables.
+use detector::Detector2D;
+use detectors::Detectors;
+use filter::RayPathFilter;
+use material::OpticalMedium;
+use rays::Vec3;
+use step::NonSeqTraceConfig;
+ghost use mathlib.Core.Path.{_≡_};
+ghost use Prim.Native.Nat.{_≤_};
+ghost use Rattle.rays.specs.Vectors.{vec3};
+ghost use Rattle.map_text.specs.Tables.{valueIn, wholeIn, configOf, meantOf, detectorOf, detectorsOf, atMost};
+
+// The double at a place; NaN past the end.
+fn value(l: &[f64], i: usize) -> f64
+    ensures { λ r. ⌜ r ≡ valueIn (now (l .entry)) i ⌝ }
+{
+    if i < l.len() {
+        return l[i];
+    }
+    0.0 / 0.0
+}
+
+// The whole number at a place; 0 past the end.
+pub(crate) fn whole(l: &[u32], i: usize) -> u32
+    ensures { λ r. ⌜ r ≡ wholeIn (now (l .entry)) i ⌝ }
+{
+    if i < l.len() {
+        return l[i];
+    }
+    0
+}
+
+pub(crate) fn config(values: &[f64], wholes: &[u32]) -> NonSeqTraceConfig
+    ensures { λ r. ⌜ r ≡ configOf (now (values .entry)) (now (wholes .entry)) ⌝ }
+{
+    let ambient_medium = OpticalMedium::numbered(
+        whole(wholes, 2),
+        value(values, 1),
+        value(values, 2),
+        value(values, 3),
+        value(values, 4),
+        value(values, 5),
+        value(values, 6),
+    );
+    NonSeqTraceConfig {
+        max_bounces: whole(wholes, 0),
+        min_power_threshold: value(values, 0),
+        ambient_medium,
+    }
+}
+
+// The filter of a number; `-`, kept as 5, means All.
+pub(crate) fn meant(number: u32) -> RayPathFilter
+    ensures { λ r. ⌜ r ≡ meantOf number ⌝ }
+{
+    if number == 5 {
+        return RayPathFilter::numbered(0);
+    }
+    RayPathFilter::numbered(number)
+}
+
+// At most so many.
+pub(crate) fn at_most(most: u32, n: u32) -> u32
+    ensures { λ r. ⌜ (r ≡ atMost most n) × (r ≤ most) ⌝ }
+{
+    if n <= most {
+        return n;
+    }
+    most
+}
+
+fn vector(l: &[f64], i: usize, j: usize, k: usize) -> Vec3
+    ensures { λ r. ⌜ r ≡ vec3 (valueIn (now (l .entry)) i) (valueIn (now (l .entry)) j) (valueIn (now (l .entry)) k) ⌝ }
+{
+    Vec3 {
+        x: value(l, i),
+        y: value(l, j),
+        z: value(l, k),
+    }
+}
+
+// Detector i of eight.
+fn detector(values: &[f64], wholes: &[u32], i: u32) -> Detector2D
+    ensures { λ r. ⌜ r ≡ detectorOf (now (values .entry)) (now (wholes .entry)) i ⌝ }
+{
+    let j = i as usize * 11;
+    let k = i as usize * 2;
+    Detector2D {
+        center: vector(values, j, j + 1, j + 2),
+        normal: vector(values, j + 3, j + 4, j + 5),
+        up: vector(values, j + 6, j + 7, j + 8),
+        width_mm: value(values, j + 9),
+        height_mm: value(values, j + 10),
+        res_x: whole(wholes, k),
+        res_y: whole(wholes, k + 1),
+        total_flux_watts: 0.0,
+        total_rays_hit: 0,
+    }
+}
+
+pub(crate) fn detectors(values: &[f64], wholes: &[u32], count: u32) -> Detectors
+    ensures { λ r. ⌜ r ≡ detectorsOf (now (values .entry)) (now (wholes .entry)) count ⌝ }
+{
+    Detectors {
+        list: [
+            detector(values, wholes, 0),
+            detector(values, wholes, 1),
+            detector(values, wholes, 2),
+            detector(values, wholes, 3),
+            detector(values, wholes, 4),
+            detector(values, wholes, 5),
+            detector(values, wholes, 6),
+            detector(values, wholes, 7),
+        ],
+        count,
+    }
+}

@@ -1,2 +1,0 @@
--- What a stored line of shapes or solids says.
-pub mod SceneLines

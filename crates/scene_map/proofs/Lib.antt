@@ -1,3 +1,0 @@
--- What holds of the definitions.
-pub mod Outcomes
-pub mod Lengths

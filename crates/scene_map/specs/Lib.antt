@@ -1,2 +1,0 @@
--- Document 01, "`straymap`": a scene's tables of numbers, traced and answered.
-pub mod Tables

@@ -1,6 +1,0 @@
-// A scene's tables of numbers, as the scene text has them, traced into a memory with room for 4,096 pixels
-// and 1,024 hits, and the answer as text (document 01, `straymap`).
-mod mapping;
-mod parts;
-
-pub use mapping::put_map;

@@ -1,0 +1,15 @@
+-- `step::clear::all_reflected` meets its contract. Assumes nothing.
+use Rattle.step.specs.Turn.{partedOf}
+use borrow.Author.Needs.{needs}
+use Rattle.step.proofs.clear.all_reflected.Statement.{statement}
+use Rattle.step.proofs.clear.all_reflected.Tie as tie
+
+reflected-requires : tie.Need-reflected-requires
+reflected-requires c κs = search needs
+
+returns : tie.Need-returns
+unfolding partedOf
+returns c = simp (← c .reflected .ensures)
+
+pub all-reflected-spec : {M : Type 1} → statement M
+all-reflected-spec = tie.close (tie.spec reflected-requires returns)

@@ -1,0 +1,65 @@
+-- `step::interact` meets its contract. Assumes nothing.
+use Rattle.step.specs.Turn.{interactOf, meetsOf}
+use borrow.Author.Needs.{needs}
+use Rattle.step.proofs.interact.Statement.{statement}
+use Rattle.step.proofs.interact.Tie as tie
+
+nearest-requires : tie.Need-nearest-requires
+nearest-requires c κs = search needs
+
+closest-object-requires : tie.Need-closest-object-requires
+closest-object-requires c κs = search needs
+
+first-met-requires : tie.Need-first-met-requires
+first-met-requires c κs = search needs
+
+enum-known-sight : tie.Need-enum-known-sight
+enum-known-sight c = search needs
+
+caught-by-requires : tie.Need-caught-by-requires
+caught-by-requires c κs = search needs
+
+ends-requires : tie.Need-ends-requires
+ends-requires c κs = search needs
+
+enum-known-hit : tie.Need-enum-known-hit
+enum-known-hit c = search needs
+
+surface-requires : tie.Need-surface-requires
+surface-requires c κs = search needs
+
+enum-told : tie.Need-enum-told
+enum-told c = search needs
+
+ends-requires-2 : tie.Need-ends-requires-2
+ends-requires-2 c κs = search needs
+
+returns : tie.Need-returns
+unfolding interactOf meetsOf
+returns c = simp (← c .before .before .before .before .before .before .before .nearest .ensures, ← c .before .before .before .before .before .before .closest-object .ensures, ← c .before .before .before .before .before .first-met .ensures, c .before .before .before .sight .given .1, ← c .before .caught-by .ensures, ← c .ends .ensures)
+
+returns-2 : tie.Need-returns-2
+unfolding interactOf meetsOf
+returns-2 c = simp (← c .before .before .before .before .before .before .nearest .ensures, ← c .before .before .before .before .before .closest-object .ensures, ← c .before .before .before .before .first-met .ensures, c .before .before .hit .given .1, ← c .surface .ensures)
+
+returns-3 : tie.Need-returns-3
+unfolding interactOf meetsOf
+returns-3 c = simp (← c .before .before .before .before .before .nearest .ensures, ← c .before .before .before .before .closest-object .ensures, ← c .before .before .before .first-met .ensures, c .before .enum-told .given .1, ← c .ends2 .ensures)
+
+pub interact-spec : {M : Type 1} → statement M
+interact-spec =
+    tie.close
+    (tie.spec
+    nearest-requires
+    closest-object-requires
+    first-met-requires
+    enum-known-sight
+    caught-by-requires
+    ends-requires
+    enum-known-hit
+    surface-requires
+    enum-told
+    ends-requires-2
+    returns
+    returns-2
+    returns-3)

@@ -1,0 +1,105 @@
+-- A ray on its way, the scene that it is in, and what one step makes of it.
+use Prim.Native.Nat.{ℕ, _+_}
+use mathlib.Core.Bool.{Bool, false, cond}
+use mathlib.Core.List.{List}
+use mathlib.Core.Option.{Option}
+use lib.Dec.{ltb}
+use lib.Ieee.{Float}
+use Rattle.error.specs.Refusals.{numberOf}
+use Rattle.rays.specs.declared.Ray.{Ray}
+use Rattle.material.specs.declared.OpticalMedium.{OpticalMedium}
+use Rattle.material.specs.declared.SurfaceFinish.{SurfaceFinish}
+use Rattle.scene.specs.declared.SolidNo.{SolidNo}
+use Rattle.scene.specs.declared.NonSeqObject.{NonSeqObject}
+use Rattle.scene.specs.Solids.{solidAt, finishAt, mediumAt}
+use Rattle.media.specs.declared.Media.{Media}
+use Rattle.detector.specs.declared.DetectorHit.{DetectorHit}
+use Rattle.faces.specs.declared.Faces.{Faces}
+use Rattle.step.specs.declared.NonSeqTraceConfig.{NonSeqTraceConfig}
+use Rattle.step.specs.declared.ActiveRay.{ActiveRay}
+use Rattle.step.specs.declared.Event.{Event}
+use Rattle.step.specs.declared.Fate as fates
+
+-- the solids' finishes and media, and by which rules rays are traced
+pub record Optics : Type 0 where
+  pub finish : SolidNo → SurfaceFinish
+  pub medium : SolidNo → OpticalMedium
+  pub config : NonSeqTraceConfig
+
+-- what a ray can meet
+pub record Scene : Type 0 where
+  pub solids : ℕ
+  pub solid : ℕ → Option NonSeqObject
+  pub faces : Faces
+  pub optics : Optics
+
+-- the scene whose n solids are the lists x and k
+abbrev pub opticsOf : List Float → List ℕ → NonSeqTraceConfig → Optics
+opticsOf x k g = record { finish = finishAt x k; medium = mediumAt x k; config = g }
+
+abbrev pub sceneOf : List Float → List ℕ → ℕ → Faces → NonSeqTraceConfig → Scene
+sceneOf x k n fs g = record { solids = n; solid = solidAt x k; faces = fs; optics = opticsOf x k g }
+
+-- what becomes of the newest ray: at most the threshold; bounced to the limit; lost to the dark; caught by a detector; a power left at an absorber or a mirror; the powers reflected and transmitted at a clear surface, and whether the radicand was at most 0; a refusal
+pub data End : Type 0 where
+  dim : End
+  spent : End
+  gone : End
+  caught : DetectorHit → End
+  stopped : Float → End
+  parted : Float → Float → Bool → End
+  refusing : ℕ → End
+
+-- one step: what becomes of the ray, and the rays that come of it, if they are made
+pub record Step : Type 0 where
+  pub end : End
+  pub «first» : Bool
+  pub reflected : ActiveRay
+  pub second : Bool
+  pub transmitted : ActiveRay
+
+-- no ray comes of a
+abbrev pub ended : ActiveRay → End → Step
+ended a e = record { end = e; «first» = false; reflected = a; second = false; transmitted = a }
+
+-- a count raised by 1; no traced ray comes near the largest
+abbrev pub maxCount : ℕ
+maxCount = 4294967295
+
+unfoldable pub moreOf : ℕ → ℕ
+moreOf n = cond (ltb n maxCount) (n + 1) n
+
+-- the reflected ray: one bounce more, and one reflection or total reflection
+unfoldable pub reflectedOf : Bool → ActiveRay → Ray → ActiveRay
+reflectedOf tir a r =
+    record {
+      ray = r;
+      «bounce_count» = moreOf (a .«bounce_count»);
+      «reflection_count» = cond tir (a .«reflection_count») (moreOf (a .«reflection_count»));
+      «tir_count» = cond tir (moreOf (a .«tir_count»)) (a .«tir_count»);
+      media = a .media;
+    }
+
+-- the transmitted ray, in the media beyond
+unfoldable pub transmittedOf : ActiveRay → Ray → Media → ActiveRay
+transmittedOf a r m =
+    record {
+      ray = r;
+      «bounce_count» = moreOf (a .«bounce_count»);
+      «reflection_count» = a .«reflection_count»;
+      «tir_count» = a .«tir_count»;
+      media = m;
+    }
+
+-- what the code's answers say
+abbrev pub endOf : fates.Fate → End
+endOf fates.the-variants.Dim = dim
+endOf fates.the-variants.Spent = spent
+endOf fates.the-variants.Gone = gone
+endOf (fates.the-variants.Caught h) = caught h
+endOf (fates.the-variants.Stopped p) = stopped p
+endOf (fates.the-variants.Parted r t total) = parted r t total
+endOf (fates.the-variants.Refused e) = refusing (numberOf e)
+
+abbrev pub stepOf : Event → Step
+stepOf e = record { end = endOf (e .fate); «first» = e .«first»; reflected = e .reflected; second = e .second; transmitted = e .transmitted }

@@ -1,0 +1,135 @@
+// A ray at a clear surface.
+use crate::ActiveRay;
+use crate::Event;
+use crate::Fate;
+use crate::NonSeqTraceConfig;
+use material::RefractiveIndex;
+use media::Media;
+use media::Newest;
+use rays::Ray;
+use scene::NonSeqHit;
+use surface::FresnelInteraction;
+ghost use mathlib.Core.Path.{_≡_};
+ghost use Rattle.material.specs.Media.{answerOf};
+ghost use Rattle.surface.specs.Fresnel.{total, both, partedOf as saidOf};
+ghost use Rattle.step.specs.Rays.{opticsOf, stepOf};
+ghost use Rattle.step.specs.Turn.{indexIn, beyondOf, partedOf, partedFrom, clearBetween, clearOf};
+
+// The index of the newest medium, else of the ambient.
+fn index_in(
+    config: NonSeqTraceConfig,
+    values: &[f64],
+    tags: &[u32],
+    media: Media,
+    wavelength: f64,
+) -> RefractiveIndex
+    ensures { λ r. ⌜ answerOf r ≡ indexIn (opticsOf (now (values .entry)) (now (tags .entry)) config) media wavelength ⌝ }
+{
+    let ambient = config.ambient_medium;
+    match media.newest() {
+        Newest::In(solid) => {
+            let medium = scene::medium_at(values, tags, solid);
+            medium.refractive_index(wavelength)
+        }
+        Newest::Outside => ambient.refractive_index(wavelength),
+    }
+}
+
+// The media beyond the surface.
+fn beyond(media: Media, hit: NonSeqHit) -> Media
+    ensures { λ r. ⌜ r ≡ beyondOf media hit ⌝ }
+{
+    let solid = hit.object_id;
+    if hit.entering {
+        return media.entered(solid);
+    }
+    media.left(solid)
+}
+
+fn all_reflected(threshold: f64, a: ActiveRay, media: Media, ray: Ray) -> Event
+    ensures { λ r. ⌜ stepOf r ≡ partedOf threshold a media (total ray) ⌝ }
+{
+    Event {
+        fate: Fate::Parted {
+            reflected: ray.energy,
+            transmitted: 0.0,
+            total: true,
+        },
+        first: ray.energy > threshold,
+        reflected: a.reflected(true, ray),
+        second: false,
+        transmitted: a,
+    }
+}
+
+// Transmitted power at most 0 counts as total reflection.
+fn both_made(threshold: f64, a: ActiveRay, media: Media, reflected: Ray, transmitted: Ray) -> Event
+    ensures { λ r. ⌜ stepOf r ≡ partedOf threshold a media (both reflected transmitted) ⌝ }
+{
+    let tir = transmitted.energy <= 0.0;
+    Event {
+        fate: Fate::Parted {
+            reflected: reflected.energy,
+            transmitted: transmitted.energy,
+            total: false,
+        },
+        first: reflected.energy > threshold,
+        reflected: a.reflected(tir, reflected),
+        second: transmitted.energy > threshold,
+        transmitted: a.transmitted(transmitted, media),
+    }
+}
+
+fn parted(threshold: f64, a: ActiveRay, media: Media, rays: FresnelInteraction) -> Event
+    ensures { λ r. ⌜ stepOf r ≡ partedFrom threshold a media (saidOf rays) ⌝ }
+{
+    match rays {
+        FresnelInteraction::Total(ray) => all_reflected(threshold, a, media, ray),
+        FresnelInteraction::Split {
+            reflected,
+            transmitted,
+        } => both_made(threshold, a, media, reflected, transmitted),
+        FresnelInteraction::Refused(error) => a.ends(Fate::Refused(error)),
+    }
+}
+
+// Between two indices, each of which may be refused.
+fn between(
+    threshold: f64,
+    a: ActiveRay,
+    hit: NonSeqHit,
+    media: Media,
+    here: RefractiveIndex,
+    there: RefractiveIndex,
+) -> Event
+    ensures { λ r. ⌜ stepOf r ≡ clearBetween threshold a hit media (answerOf here) (answerOf there) ⌝ }
+{
+    let ray = a.ray;
+    match here {
+        RefractiveIndex::Index(n1) => match there {
+            RefractiveIndex::Index(n2) => {
+                let rays = surface::compute_snell_fresnel_interaction(ray, hit, n1, n2, ray.energy);
+                parted(threshold, a, media, rays)
+            }
+            RefractiveIndex::Refused(error) => a.ends(Fate::Refused(error)),
+        },
+        RefractiveIndex::Refused(error) => a.ends(Fate::Refused(error)),
+    }
+}
+
+pub(crate) fn clear(
+    config: NonSeqTraceConfig,
+    values: &[f64],
+    tags: &[u32],
+    a: ActiveRay,
+    hit: NonSeqHit,
+) -> Event
+    ensures { λ r. ⌜ stepOf r ≡ clearOf (opticsOf (now (values .entry)) (now (tags .entry)) config) a hit ⌝ }
+{
+    let media = a.media;
+    let after = beyond(media, hit);
+    let wavelength = a.ray.wavelength_nm;
+    let n1 = index_in(config, values, tags, media, wavelength);
+    let n2 = index_in(config, values, tags, after, wavelength);
+    between(config.min_power_threshold, a, hit, after, n1, n2)
+}

@@ -1,0 +1,39 @@
+// A ray at a mirror.
+use crate::ActiveRay;
+use crate::Event;
+use crate::Fate;
+use rays::NewRay;
+use scene::NonSeqHit;
+ghost use mathlib.Core.Path.{_≡_};
+ghost use Rattle.rays.specs.Rays.{answerOf};
+ghost use Rattle.step.specs.Rays.{stepOf};
+ghost use Rattle.step.specs.Turn.{mirrorFrom, mirrorOf};
+
+// The ray is on its way again, and the rest of its power stays; or it could not be made.
+fn mirror_from(a: ActiveRay, left: f64, made: NewRay) -> Event
+    ensures { λ r. ⌜ stepOf r ≡ mirrorFrom a left (answerOf made) ⌝ }
+{
+    match made {
+        NewRay::Made(ray) => Event {
+            fate: Fate::Stopped(left),
+            first: true,
+            reflected: a.reflected(false, ray),
+            second: false,
+            transmitted: a,
+        },
+        NewRay::Refused(error) => a.ends(Fate::Refused(error)),
+    }
+}
+
+// Only a ray above the threshold is made.
+pub(crate) fn mirror(threshold: f64, a: ActiveRay, hit: NonSeqHit, reflectance: f64) -> Event
+    ensures { λ r. ⌜ stepOf r ≡ mirrorOf threshold a hit reflectance ⌝ }
+{
+    let ray = a.ray;
+    let power = surface::mirrored_power(ray.energy, reflectance);
+    let left = ray.energy - power;
+    if power > threshold {
+        return mirror_from(a, left, surface::mirrored(ray, hit, power));
+    }
+    a.ends(Fate::Stopped(left))
+}

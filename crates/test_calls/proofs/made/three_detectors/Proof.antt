@@ -1,0 +1,64 @@
+-- `test_calls::made::three_detectors` meets its contract. Assumes nothing.
+use borrow.Author.Needs.{needs}
+use Prim.Native.Nat.{_-_, _≤_}
+use mathlib.Core.Path.{_≡_}
+use lib.ListN.{length}
+use Rattle.test_calls.proofs.made.three_detectors.Statement.{statement}
+use Rattle.test_calls.proofs.made.three_detectors.Tie as tie
+
+abbrev Inv-loop : tie.InvT-loop
+Inv-loop u w₀ d₀ i₀ w d i = (i ≤ 3) × (length w ≡ length w₀) × (length d ≡ length d₀)
+
+abbrev μ-loop : tie.MeasureT-loop
+μ-loop u w₀ d₀ i₀ w d i = 3 - i
+
+loop-holds : tie.Need-loop-holds Inv-loop μ-loop
+loop-holds c = search needs
+
+mul-doubles-from : tie.Need-mul-doubles-from Inv-loop μ-loop
+mul-doubles-from c = search needs
+
+add-doubles-from : tie.Need-add-doubles-from Inv-loop μ-loop
+add-doubles-from c = search needs
+
+doubles-from-requires : tie.Need-doubles-from-requires Inv-loop μ-loop
+doubles-from-requires c κs = search needs
+
+detector-requires : tie.Need-detector-requires Inv-loop μ-loop
+detector-requires c κs = search needs
+
+add-i : tie.Need-add-i Inv-loop μ-loop
+add-i c = search needs
+
+loop-less : tie.Need-loop-less Inv-loop μ-loop
+loop-less c = search needs
+
+loop-again : tie.Need-loop-again Inv-loop μ-loop
+loop-again c = search needs
+
+same-length : tie.Need-same-length Inv-loop μ-loop
+same-length c = search needs
+
+same-length-2 : tie.Need-same-length-2 Inv-loop μ-loop
+same-length-2 c = search needs
+
+returns : tie.Need-returns Inv-loop μ-loop
+returns c = search needs
+
+pub three-detectors-spec : {M : Type 1} → statement M
+three-detectors-spec =
+    tie.close
+    (tie.spec
+    Inv-loop
+    μ-loop
+    loop-holds
+    mul-doubles-from
+    add-doubles-from
+    doubles-from-requires
+    detector-requires
+    add-i
+    loop-less
+    loop-again
+    same-length
+    same-length-2
+    returns)

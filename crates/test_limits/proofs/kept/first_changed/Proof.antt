@@ -1,0 +1,51 @@
+-- `test_limits::kept::first_changed` meets its contract. Assumes nothing.
+use borrow.Author.Needs.{needs}
+use Prim.Native.Nat.{_-_, _≤_}
+use lib.ListN.{length}
+use Rattle.test_limits.proofs.kept.first_changed.Statement.{statement}
+use Rattle.test_limits.proofs.kept.first_changed.Tie as tie
+
+abbrev Inv-loop : tie.InvT-loop
+Inv-loop s copy i₀ i = i ≤ length s
+
+abbrev μ-loop : tie.MeasureT-loop
+μ-loop s copy i₀ i = length s - i
+
+loop-holds : tie.Need-loop-holds Inv-loop μ-loop
+loop-holds c = search needs
+
+bits-at-requires : tie.Need-bits-at-requires Inv-loop μ-loop
+bits-at-requires c κs = search needs
+
+bits-at-requires-2 : tie.Need-bits-at-requires-2 Inv-loop μ-loop
+bits-at-requires-2 c κs = search needs
+
+returns : tie.Need-returns Inv-loop μ-loop
+returns c = search needs
+
+add-i : tie.Need-add-i Inv-loop μ-loop
+add-i c = search needs
+
+loop-less : tie.Need-loop-less Inv-loop μ-loop
+loop-less c = search needs
+
+loop-again : tie.Need-loop-again Inv-loop μ-loop
+loop-again c = search needs
+
+returns-2 : tie.Need-returns-2 Inv-loop μ-loop
+returns-2 c = search needs
+
+pub first-changed-spec : {M : Type 1} → statement M
+first-changed-spec =
+    tie.close
+    (tie.spec
+    Inv-loop
+    μ-loop
+    loop-holds
+    bits-at-requires
+    bits-at-requires-2
+    returns
+    add-i
+    loop-less
+    loop-again
+    returns-2)

@@ -1,0 +1,59 @@
+-- `test_limits::report::all_bits` meets its contract. Assumes nothing.
+use borrow.Author.Needs.{needs}
+use Prim.Native.Nat.{_-_, _≤_}
+use lib.ListN.{length}
+use Rattle.test_limits.proofs.report.all_bits.Statement.{statement}
+use Rattle.test_limits.proofs.report.all_bits.Tie as tie
+
+abbrev Inv-loop : tie.InvT-loop
+Inv-loop words s i₀ t4 i = i ≤ length s
+
+abbrev μ-loop : tie.MeasureT-loop
+μ-loop words s i₀ t4 i = length s - i
+
+write-all-requires : tie.Need-write-all-requires Inv-loop μ-loop
+write-all-requires c κs = search needs
+
+loop-holds : tie.Need-loop-holds Inv-loop μ-loop
+loop-holds c = search needs
+
+slice-aggregate-bits : tie.Need-slice-aggregate-bits Inv-loop μ-loop
+slice-aggregate-bits c = search needs
+
+mul-bits : tie.Need-mul-bits Inv-loop μ-loop
+mul-bits c = search needs
+
+shared-slice-read-bits : tie.Need-shared-slice-read-bits Inv-loop μ-loop
+shared-slice-read-bits c = search needs
+
+bits-requires : tie.Need-bits-requires Inv-loop μ-loop
+bits-requires c κs = search needs
+
+add-i : tie.Need-add-i Inv-loop μ-loop
+add-i c = search needs
+
+loop-less : tie.Need-loop-less Inv-loop μ-loop
+loop-less c = search needs
+
+loop-again : tie.Need-loop-again Inv-loop μ-loop
+loop-again c = search needs
+
+returns : tie.Need-returns Inv-loop μ-loop
+returns c = search needs
+
+pub all-bits-spec : {M : Type 1} → statement M
+all-bits-spec =
+    tie.close
+    (tie.spec
+    Inv-loop
+    μ-loop
+    write-all-requires
+    loop-holds
+    slice-aggregate-bits
+    mul-bits
+    shared-slice-read-bits
+    bits-requires
+    add-i
+    loop-less
+    loop-again
+    returns)

@@ -1,0 +1,190 @@
+// A filter asked and told in a line: the refusal or none, count, total, the part that is handed back, and
+// how many places of the stored map, the work map, values and tags changed.
+use crate::kept;
+use crate::made;
+use crate::report;
+use detector::DetectorNo;
+use detectors::Detectors;
+use filter::RayPathFilter;
+ghost use Prim.Native.Nat.{_≤_};
+
+// What is asked: a filter's number for a detector, in two calls or in one, with so many hits used.
+pub struct Question {
+    pub detectors: Detectors,
+    pub asked: u32,
+    pub filter: u32,
+    pub used: usize,
+    pub in_one_call: bool,
+}
+
+// How many places of each slice a trial lends.
+pub struct Maps {
+    pub stored: usize,
+    pub work: usize,
+    pub values: usize,
+    pub tags: usize,
+}
+
+fn tell_part(part: &[f64]) {
+    report::whole(b", part of ", part.len() as u64);
+    report::all_bits(b"", part);
+}
+
+fn tell_changed(
+    stored: &[f64],
+    stored_copy: &[f64],
+    work: &[f64],
+    work_copy: &[f64],
+    values: &[f64],
+    values_copy: &[f64],
+    tags: &[u32],
+    tags_copy: &[u32],
+) {
+    report::whole(b", changed ", kept::doubles_changed(stored, stored_copy));
+    report::whole(b" ", kept::doubles_changed(work, work_copy));
+    report::whole(b" ", kept::doubles_changed(values, values_copy));
+    report::whole(b" ", kept::wholes_changed(tags, tags_copy));
+    report::text(b"\n");
+}
+
+// `refilter`, then `filtered_part`.
+fn ask_twice(q: Question, stored: &[f64], work: &mut [f64], values: &[f64], tags: &[u32]) {
+    let detectors = q.detectors;
+    let kind = RayPathFilter::numbered(q.filter);
+    let asked = DetectorNo(q.asked);
+    let r = filter::refilter(detectors, asked, kind, stored, work, values, tags, q.used);
+    let check = r.check;
+    report::check(check);
+    report::whole(b", count ", r.hit_count as u64);
+    report::bits(b", total ", r.total_flux_watts);
+    tell_part(filter::filtered_part(detectors, asked, kind, stored, work, values, tags, q.used));
+}
+
+// `filtered_pixel_flux`; the four places for its answer hold 99 before.
+fn ask_once(q: Question, stored: &[f64], work: &mut [f64], values: &[f64], tags: &[u32]) {
+    let detectors = q.detectors;
+    let kind = RayPathFilter::numbered(q.filter);
+    let mut refusal: u32 = 99;
+    let mut at: u32 = 99;
+    let mut total = 99.0;
+    let mut count: usize = 99;
+    let part = filter::filtered_pixel_flux(
+        detectors,
+        DetectorNo(q.asked),
+        kind,
+        stored,
+        work,
+        values,
+        tags,
+        q.used,
+        &mut refusal,
+        &mut at,
+        &mut total,
+        &mut count,
+    );
+    report::numbered(refusal, at);
+    report::whole(b", count ", count as u64);
+    report::bits(b", total ", total);
+    tell_part(part);
+}
+
+fn ask(q: Question, stored: &[f64], work: &mut [f64], values: &[f64], tags: &[u32]) {
+    report::whole(b", filter ", q.filter as u64);
+    if q.in_one_call {
+        report::text(b" in one call: ");
+        ask_once(q, stored, work, values, tags);
+        return;
+    }
+    report::text(b": ");
+    ask_twice(q, stored, work, values, tags);
+}
+
+pub(crate) fn sift(
+    words: &[u8],
+    q: Question,
+    stored: &[f64],
+    work: &mut [f64],
+    values: &[f64],
+    tags: &[u32],
+) {
+    let mut stored_copy = [0.0f64; 32];
+    let mut work_copy = [0.0f64; 32];
+    let mut values_copy = [0.0f64; 32];
+    let mut tags_copy = [0u32; 32];
+    kept::copy_doubles(stored, &mut stored_copy);
+    kept::copy_doubles(work, &mut work_copy);
+    kept::copy_doubles(values, &mut values_copy);
+    kept::copy_wholes(tags, &mut tags_copy);
+    report::text(words);
+    ask(q, stored, work, values, tags);
+    tell_changed(
+        stored,
+        &stored_copy,
+        work,
+        &work_copy,
+        values,
+        &values_copy,
+        tags,
+        &tags_copy,
+    );
+}
+
+// The same over slices that are filled before: the work map with sevens, the list with hits on detector 1
+// that every filter but SignalOnly lets through.
+fn fill_and_sift(
+    words: &[u8],
+    q: Question,
+    stored: &mut [f64],
+    work: &mut [f64],
+    values: &mut [f64],
+    tags: &mut [u32],
+) {
+    made::fill_doubles(stored, 0.25, 1.0);
+    made::fill_doubles(work, 7.0, 0.0);
+    made::fill_doubles(values, 0.5, 0.0);
+    made::fill_wholes(tags, 1, 0);
+    sift(words, q, stored, work, values, tags);
+}
+
+// The same over slices of these lengths.
+pub(crate) fn once(words: &[u8], q: Question, lent: Maps)
+    requires { ⌜ (lent .stored ≤ 32) × (lent .work ≤ 32) × (lent .values ≤ 32) × (lent .tags ≤ 32) ⌝ }
+{
+    let mut stored = [0.0f64; 32];
+    let mut work = [0.0f64; 32];
+    let mut values = [0.0f64; 32];
+    let mut tags = [0u32; 32];
+    let a = lent.stored;
+    let b = lent.work;
+    let c = lent.values;
+    let d = lent.tags;
+    fill_and_sift(
+        words,
+        q,
+        &mut stored[0..a],
+        &mut work[0..b],
+        &mut values[0..c],
+        &mut tags[0..d],
+    );
+}
+
+// All and GhostsOnly, in two calls and in one.
+pub(crate) fn each_way(words: &[u8], detectors: Detectors, asked: u32, used: usize, lent: Maps)
+    requires { ⌜ (lent .stored ≤ 32) × (lent .work ≤ 32) × (lent .values ≤ 32) × (lent .tags ≤ 32) ⌝ }
+{
+    let mut q = Question {
+        detectors,
+        asked,
+        filter: 0,
+        used,
+        in_one_call: false,
+    };
+    once(words, q, lent);
+    q.in_one_call = true;
+    once(words, q, lent);
+    q.filter = 2;
+    q.in_one_call = false;
+    once(words, q, lent);
+    q.in_one_call = true;
+    once(words, q, lent);
+}

@@ -1,0 +1,51 @@
+-- `test_vectors::detector_lines::is_crossing_at` meets its contract. Assumes nothing.
+use Rattle.test_vectors.specs.DetectorLines.{isCrossingAt}
+use borrow.Author.Needs.{needs}
+use Rattle.test_vectors.proofs.detector_lines.is_crossing_at.Statement.{statement}
+use Rattle.test_vectors.proofs.detector_lines.is_crossing_at.Tie as tie
+
+is-double-requires : tie.Need-is-double-requires
+is-double-requires c κs = search needs
+
+is-double-requires-2 : tie.Need-is-double-requires-2
+is-double-requires-2 c κs = search needs
+
+is-double-requires-3 : tie.Need-is-double-requires-3
+is-double-requires-3 c κs = search needs
+
+is-index-requires : tie.Need-is-index-requires
+is-index-requires c κs = search needs
+
+is-index-requires-2 : tie.Need-is-index-requires-2
+is-index-requires-2 c κs = search needs
+
+both-requires : tie.Need-both-requires
+both-requires c κs = search needs
+
+both-requires-2 : tie.Need-both-requires-2
+both-requires-2 c κs = search needs
+
+both-requires-3 : tie.Need-both-requires-3
+both-requires-3 c κs = search needs
+
+both-requires-4 : tie.Need-both-requires-4
+both-requires-4 c κs = search needs
+
+returns : tie.Need-returns
+unfolding isCrossingAt
+returns c = simp (← c .before .before .before .before .before .before .before .before .is-double .ensures, ← c .before .before .before .before .before .before .before .is-double2 .ensures, ← c .before .before .before .before .before .before .is-double3 .ensures, ← c .before .before .before .before .before .is-index .ensures, ← c .before .before .before .before .is-index2 .ensures, ← c .before .before .before .both .ensures, ← c .before .before .both2 .ensures, ← c .before .both3 .ensures, ← c .both4 .ensures)
+
+pub is-crossing-at-spec : {M : Type 1} → statement M
+is-crossing-at-spec =
+    tie.close
+    (tie.spec
+    is-double-requires
+    is-double-requires-2
+    is-double-requires-3
+    is-index-requires
+    is-index-requires-2
+    both-requires
+    both-requires-2
+    both-requires-3
+    both-requires-4
+    returns)

@@ -1,0 +1,91 @@
+-- `test_vectors::lines::double_line` meets its contract. Assumes nothing.
+use Rattle.test_vectors.specs.Lines.{doubleLine}
+use borrow.Author.Needs.{needs}
+use Rattle.test_vectors.proofs.lines.double_line.Statement.{statement}
+use Rattle.test_vectors.proofs.lines.double_line.Tie as tie
+
+bits-at-requires : tie.Need-bits-at-requires
+bits-at-requires c κs = search needs
+
+from-bits-requires : tie.Need-from-bits-requires
+from-bits-requires c κs = search needs
+
+is-given-requires : tie.Need-is-given-requires
+is-given-requires c κs = search needs
+
+abs-requires : tie.Need-abs-requires
+abs-requires c κs = search needs
+
+is-double-requires : tie.Need-is-double-requires
+is-double-requires c κs = search needs
+
+max-zero-requires : tie.Need-max-zero-requires
+max-zero-requires c κs = search needs
+
+is-double-requires-2 : tie.Need-is-double-requires-2
+is-double-requires-2 c κs = search needs
+
+clamp-requires : tie.Need-clamp-requires
+clamp-requires c κs = search needs
+
+is-double-requires-3 : tie.Need-is-double-requires-3
+is-double-requires-3 c κs = search needs
+
+is-finite-requires : tie.Need-is-finite-requires
+is-finite-requires c κs = search needs
+
+one-if-requires : tie.Need-one-if-requires
+one-if-requires c κs = search needs
+
+is-whole-requires : tie.Need-is-whole-requires
+is-whole-requires c κs = search needs
+
+to-usize-requires : tie.Need-to-usize-requires
+to-usize-requires c κs = search needs
+
+is-bits-requires : tie.Need-is-bits-requires
+is-bits-requires c κs = search needs
+
+both-requires : tie.Need-both-requires
+both-requires c κs = search needs
+
+both-requires-2 : tie.Need-both-requires-2
+both-requires-2 c κs = search needs
+
+both-requires-3 : tie.Need-both-requires-3
+both-requires-3 c κs = search needs
+
+both-requires-4 : tie.Need-both-requires-4
+both-requires-4 c κs = search needs
+
+both-requires-5 : tie.Need-both-requires-5
+both-requires-5 c κs = search needs
+
+returns : tie.Need-returns
+unfolding doubleLine
+returns c = simp (← c .before .before .before .before .before .before .before .before .before .before .before .before .before .before .before .before .before .before .bits-at .ensures, ← c .before .before .before .before .before .before .before .before .before .before .before .before .before .before .before .before .before .from-bits .ensures, ← c .before .before .before .before .before .before .before .before .before .before .before .before .before .before .before .before .is-given .ensures, ← c .before .before .before .before .before .before .before .before .before .before .before .before .before .before .before .abs .ensures, ← c .before .before .before .before .before .before .before .before .before .before .before .before .before .before .is-double .ensures, ← c .before .before .before .before .before .before .before .before .before .before .before .before .before .max-zero .ensures, ← c .before .before .before .before .before .before .before .before .before .before .before .before .is-double2 .ensures, ← c .before .before .before .before .before .before .before .before .before .before .before .clamp .ensures, ← c .before .before .before .before .before .before .before .before .before .before .is-double3 .ensures, ← c .before .before .before .before .before .before .before .before .before .is-finite .ensures, ← c .before .before .before .before .before .before .before .before .one-if .ensures, ← c .before .before .before .before .before .before .before .is-whole .ensures, ← c .before .before .before .before .before .before .to-usize .ensures, ← c .before .before .before .before .before .is-bits .ensures, ← c .before .before .before .before .both .ensures, ← c .before .before .before .both2 .ensures, ← c .before .before .both3 .ensures, ← c .before .both4 .ensures, ← c .both5 .ensures)
+
+pub double-line-spec : {M : Type 1} → statement M
+double-line-spec =
+    tie.close
+    (tie.spec
+    bits-at-requires
+    from-bits-requires
+    is-given-requires
+    abs-requires
+    is-double-requires
+    max-zero-requires
+    is-double-requires-2
+    clamp-requires
+    is-double-requires-3
+    is-finite-requires
+    one-if-requires
+    is-whole-requires
+    to-usize-requires
+    is-bits-requires
+    both-requires
+    both-requires-2
+    both-requires-3
+    both-requires-4
+    both-requires-5
+    returns)

@@ -1,0 +1,74 @@
+-- `test_vectors::lines::index_line` meets its contract. Assumes nothing.
+use borrow.Author.Tests.{lt-ltb, le-ltb}
+use Rattle.test_vectors.specs.Lines.{indexLine, indexOfMedium}
+use borrow.Author.Needs.{needs}
+use Rattle.test_vectors.proofs.lines.index_line.Statement.{statement}
+use Rattle.test_vectors.proofs.lines.index_line.Tie as tie
+
+part-requires : tie.Need-part-requires
+part-requires c κs = search needs
+
+read-whole-requires : tie.Need-read-whole-requires
+read-whole-requires c κs = search needs
+
+enum-known-number : tie.Need-enum-known-number
+enum-known-number c = search needs
+
+returns : tie.Need-returns
+unfolding indexLine indexOfMedium
+returns c = simp (← c .before .before .before .before .before .part .ensures, ← c .before .before .before .before .read-whole .ensures, c .before .before .number .given .1, lt-ltb _ _ (c .if1 .taken))
+
+has-shape-requires : tie.Need-has-shape-requires
+has-shape-requires c κs = search needs
+
+are-bits-requires : tie.Need-are-bits-requires
+are-bits-requires c κs = search needs
+
+both-requires : tie.Need-both-requires
+both-requires c κs = search needs
+
+medium-requires : tie.Need-medium-requires
+medium-requires c κs = search needs
+
+double-at-requires : tie.Need-double-at-requires
+double-at-requires c κs = search needs
+
+refractive-index-requires : tie.Need-refractive-index-requires
+refractive-index-requires c κs = search needs
+
+is-answer-requires : tie.Need-is-answer-requires
+is-answer-requires c κs = search needs
+
+both-requires-2 : tie.Need-both-requires-2
+both-requires-2 c κs = search needs
+
+enum-told : tie.Need-enum-told
+enum-told c = search needs
+
+returns-2 : tie.Need-returns-2
+unfolding indexLine indexOfMedium
+returns-2 c = simp (← c .before .before .before .before .before .before .before .before .before .before .before .before .before .part .ensures, ← c .before .before .before .before .before .before .before .before .before .before .before .before .read-whole .ensures, c .before .before .before .before .before .before .before .before .before .before .number .given .1, le-ltb _ _ (c .before .before .before .before .before .before .before .before .if1 .left), ← c .before .before .before .before .before .before .before .has-shape .ensures, ← c .before .before .before .before .before .before .are-bits .ensures, ← c .before .before .before .before .before .both .ensures, ← c .before .before .before .before .medium .ensures, ← c .before .before .before .double-at .ensures, ← c .before .before .refractive-index .ensures, ← c .before .is-answer .ensures, ← c .both2 .ensures)
+
+returns-3 : tie.Need-returns-3
+unfolding indexLine indexOfMedium
+returns-3 c = simp (← c .before .before .before .part .ensures, ← c .before .before .read-whole .ensures, c .enum-told .given .1)
+
+pub index-line-spec : {M : Type 1} → statement M
+index-line-spec =
+    tie.close
+    (tie.spec
+    part-requires
+    read-whole-requires
+    enum-known-number
+    returns
+    has-shape-requires
+    are-bits-requires
+    both-requires
+    medium-requires
+    double-at-requires
+    refractive-index-requires
+    is-answer-requires
+    both-requires-2
+    enum-told
+    returns-2
+    returns-3)

@@ -1,0 +1,71 @@
+-- `test_vectors::lines::one_agrees` meets its contract. Assumes nothing.
+use Rattle.test_vectors.specs.Lines.{oneAgrees}
+use borrow.Author.Needs.{needs}
+use Rattle.test_vectors.proofs.lines.one_agrees.Statement.{statement}
+use Rattle.test_vectors.proofs.lines.one_agrees.Tie as tie
+
+scale-requires : tie.Need-scale-requires
+scale-requires c κs = search needs
+
+is-vec-requires : tie.Need-is-vec-requires
+is-vec-requires c κs = search needs
+
+divide-requires : tie.Need-divide-requires
+divide-requires c κs = search needs
+
+is-vec-requires-2 : tie.Need-is-vec-requires-2
+is-vec-requires-2 c κs = search needs
+
+negate-requires : tie.Need-negate-requires
+negate-requires c κs = search needs
+
+is-vec-requires-3 : tie.Need-is-vec-requires-3
+is-vec-requires-3 c κs = search needs
+
+norm-requires : tie.Need-norm-requires
+norm-requires c κs = search needs
+
+is-double-requires : tie.Need-is-double-requires
+is-double-requires c κs = search needs
+
+normalize-requires : tie.Need-normalize-requires
+normalize-requires c κs = search needs
+
+is-vec-requires-4 : tie.Need-is-vec-requires-4
+is-vec-requires-4 c κs = search needs
+
+both-requires : tie.Need-both-requires
+both-requires c κs = search needs
+
+both-requires-2 : tie.Need-both-requires-2
+both-requires-2 c κs = search needs
+
+both-requires-3 : tie.Need-both-requires-3
+both-requires-3 c κs = search needs
+
+both-requires-4 : tie.Need-both-requires-4
+both-requires-4 c κs = search needs
+
+returns : tie.Need-returns
+unfolding oneAgrees
+returns c = simp (← c .before .before .before .before .before .before .before .before .before .before .before .before .before .scale .ensures, ← c .before .before .before .before .before .before .before .before .before .before .before .before .is-vec .ensures, ← c .before .before .before .before .before .before .before .before .before .before .before .divide .ensures, ← c .before .before .before .before .before .before .before .before .before .before .is-vec2 .ensures, ← c .before .before .before .before .before .before .before .before .before .negate .ensures, ← c .before .before .before .before .before .before .before .before .is-vec3 .ensures, ← c .before .before .before .before .before .before .before .norm .ensures, ← c .before .before .before .before .before .before .is-double .ensures, ← c .before .before .before .before .before .normalize .ensures, ← c .before .before .before .before .is-vec4 .ensures, ← c .before .before .before .both .ensures, ← c .before .before .both2 .ensures, ← c .before .both3 .ensures, ← c .both4 .ensures)
+
+pub one-agrees-spec : {M : Type 1} → statement M
+one-agrees-spec =
+    tie.close
+    (tie.spec
+    scale-requires
+    is-vec-requires
+    divide-requires
+    is-vec-requires-2
+    negate-requires
+    is-vec-requires-3
+    norm-requires
+    is-double-requires
+    normalize-requires
+    is-vec-requires-4
+    both-requires
+    both-requires-2
+    both-requires-3
+    both-requires-4
+    returns)

@@ -1,0 +1,59 @@
+-- `test_vectors::lines::vector_line` meets its contract. Assumes nothing.
+use Rattle.test_vectors.specs.Lines.{vectorLine}
+use borrow.Author.Needs.{needs}
+use Rattle.test_vectors.proofs.lines.vector_line.Statement.{statement}
+use Rattle.test_vectors.proofs.lines.vector_line.Tie as tie
+
+vec-at-requires : tie.Need-vec-at-requires
+vec-at-requires c κs = search needs
+
+vec-at-requires-2 : tie.Need-vec-at-requires-2
+vec-at-requires-2 c κs = search needs
+
+double-at-requires : tie.Need-double-at-requires
+double-at-requires c κs = search needs
+
+pair-agrees-requires : tie.Need-pair-agrees-requires
+pair-agrees-requires c κs = search needs
+
+one-agrees-requires : tie.Need-one-agrees-requires
+one-agrees-requires c κs = search needs
+
+both-requires : tie.Need-both-requires
+both-requires c κs = search needs
+
+is-given-requires : tie.Need-is-given-requires
+is-given-requires c κs = search needs
+
+at-requires : tie.Need-at-requires
+at-requires c κs = search needs
+
+is-vec-requires : tie.Need-is-vec-requires
+is-vec-requires c κs = search needs
+
+both-requires-2 : tie.Need-both-requires-2
+both-requires-2 c κs = search needs
+
+both-requires-3 : tie.Need-both-requires-3
+both-requires-3 c κs = search needs
+
+returns : tie.Need-returns
+unfolding vectorLine
+returns c = simp (← c .before .before .before .before .before .before .before .before .before .before .vec-at .ensures, ← c .before .before .before .before .before .before .before .before .before .vec-at2 .ensures, ← c .before .before .before .before .before .before .before .before .double-at .ensures, ← c .before .before .before .before .before .before .before .pair-agrees .ensures, ← c .before .before .before .before .before .before .one-agrees .ensures, ← c .before .before .before .before .before .both .ensures, ← c .before .before .before .before .is-given .ensures, ← c .before .before .before .at .ensures, ← c .before .before .is-vec .ensures, ← c .before .both2 .ensures, ← c .both3 .ensures)
+
+pub vector-line-spec : {M : Type 1} → statement M
+vector-line-spec =
+    tie.close
+    (tie.spec
+    vec-at-requires
+    vec-at-requires-2
+    double-at-requires
+    pair-agrees-requires
+    one-agrees-requires
+    both-requires
+    is-given-requires
+    at-requires
+    is-vec-requires
+    both-requires-2
+    both-requires-3
+    returns)

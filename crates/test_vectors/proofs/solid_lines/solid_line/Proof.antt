@@ -1,0 +1,78 @@
+-- `test_vectors::solid_lines::solid_line` meets its contract. Assumes nothing.
+use borrow.Author.Tests.{lt-ltb, le-ltb}
+use Rattle.test_vectors.specs.SceneLines.{solidLine, solidNumbered}
+use borrow.Author.Needs.{needs}
+use Rattle.test_vectors.proofs.solid_lines.solid_line.Statement.{statement}
+use Rattle.test_vectors.proofs.solid_lines.solid_line.Tie as tie
+
+part-requires : tie.Need-part-requires
+part-requires c κs = search needs
+
+read-whole-requires : tie.Need-read-whole-requires
+read-whole-requires c κs = search needs
+
+enum-known-number : tie.Need-enum-known-number
+enum-known-number c = search needs
+
+returns : tie.Need-returns
+unfolding solidLine solidNumbered
+returns c = simp (← c .before .before .before .before .before .part .ensures, ← c .before .before .before .before .read-whole .ensures, c .before .before .number .given .1, lt-ltb _ _ (c .if1 .taken))
+
+object-in-requires : tie.Need-object-in-requires
+object-in-requires c κs = search needs
+
+one-if-requires : tie.Need-one-if-requires
+one-if-requires c κs = search needs
+
+is-whole-requires : tie.Need-is-whole-requires
+is-whole-requires c κs = search needs
+
+are-bits-requires : tie.Need-are-bits-requires
+are-bits-requires c κs = search needs
+
+both-requires : tie.Need-both-requires
+both-requires c κs = search needs
+
+ray-in-requires : tie.Need-ray-in-requires
+ray-in-requires c κs = search needs
+
+intersect-requires : tie.Need-intersect-requires
+intersect-requires c κs = search needs
+
+is-hit-requires : tie.Need-is-hit-requires
+is-hit-requires c κs = search needs
+
+both-requires-2 : tie.Need-both-requires-2
+both-requires-2 c κs = search needs
+
+enum-told : tie.Need-enum-told
+enum-told c = search needs
+
+returns-2 : tie.Need-returns-2
+unfolding solidLine solidNumbered
+returns-2 c = simp (← c .before .before .before .before .before .before .before .before .before .before .before .before .before .before .part .ensures, ← c .before .before .before .before .before .before .before .before .before .before .before .before .before .read-whole .ensures, c .before .before .before .before .before .before .before .before .before .before .before .number .given .1, le-ltb _ _ (c .before .before .before .before .before .before .before .before .before .if1 .left), ← c .before .before .before .before .before .before .before .before .object-in .ensures, ← c .before .before .before .before .before .before .before .one-if .ensures, ← c .before .before .before .before .before .before .is-whole .ensures, ← c .before .before .before .before .before .are-bits .ensures, ← c .before .before .before .before .both .ensures, ← c .before .before .before .ray-in .ensures, ← c .before .before .intersect .ensures, ← c .before .is-hit .ensures, ← c .both2 .ensures)
+
+returns-3 : tie.Need-returns-3
+unfolding solidLine solidNumbered
+returns-3 c = simp (← c .before .before .before .part .ensures, ← c .before .before .read-whole .ensures, c .enum-told .given .1)
+
+pub solid-line-spec : {M : Type 1} → statement M
+solid-line-spec =
+    tie.close
+    (tie.spec
+    part-requires
+    read-whole-requires
+    enum-known-number
+    returns
+    object-in-requires
+    one-if-requires
+    is-whole-requires
+    are-bits-requires
+    both-requires
+    ray-in-requires
+    intersect-requires
+    is-hit-requires
+    both-requires-2
+    enum-told
+    returns-2
+    returns-3)

@@ -1,0 +1,6 @@
+-- What a stored line says, and counting those that agree.
+pub mod Lines
+pub mod Count
+pub mod Parts
+pub mod SceneLines
+pub mod DetectorLines

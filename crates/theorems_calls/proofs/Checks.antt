@@ -1,0 +1,184 @@
+-- What the checks before a run say of a batch and a memory, part by part, and that parts of a batch that passed pass. Assumes nothing.
+use Prim.Native.Nat.{ℕ, zero, suc, _+_, _*_, _/_, _%_, _≤_, _<_}
+use mathlib.Core.Path.{_≡_, refl, ap, _∙_}
+use mathlib.Core.Bool.{Bool, true, false, cond, _&&_}
+use native.Mathlib.Omega.{arith}
+use native.Mathlib.Nat.{add-zero, zero-add}
+use lib.Dec.{leb, eqb}
+use lib.ListN.{length}
+use borrow.Author.Tests.{leb-true, le-leb, eq-eqb, eqb-true}
+use Rattle.error.specs.Refusals.{Checked, passed, refusedAt, after}
+use Rattle.rays.specs.Rays.{validRayOf}
+use Rattle.scene.specs.Solids.{checkSolidsOf}
+use Rattle.nearest.proofs.Order.{and-left, and-right}
+use Rattle.detectors.specs.declared.Detectors.{Detectors}
+use Rattle.detectors.specs.Detectors.{allPixelsOf, checkDetectorsOf}
+use Rattle.memory.specs.Memory.{Memory, capacityOf, isHitListOf, areLengthsOf}
+use Rattle.step.specs.declared.ActiveRay.{ActiveRay}
+use Rattle.given_rays.specs.Given.{validMediaOf, checkListsOf, checkRayOf, checkRaysFrom}
+use Rattle.trace.specs.Trace.{Batch, raysOf, checkFlatOf, checkConfigOf, checkCountsOf, checkRulesOf, checkLengthsOf, checkMemoryOf, checkAllOf, checkTraceOf}
+use Rattle.theorems_runs.proofs.Bred.{false-true}
+use Rattle.theorems_runs.proofs.Checked.{both-passed}
+use Rattle.theorems_calls.specs.Parts.{Part, Exact, joined, withRays}
+use Rattle.theorems_calls.proofs.Reached.{Reached, added-checks, added-all, added-flux, added-hits, added-values, added-tags}
+use Rattle.theorems_calls.proofs.Joined.{former-given, later-given}
+
+abbrev checkLengthsIn : Memory → Checked Unit
+checkLengthsIn s = checkLengthsOf (s .detectors) (length (s .flux)) (length (s .hits)) (length (s .values)) (length (s .tags)) (s .used)
+
+pub record Passes (B : Batch) (s : Memory) : Type 0 where
+  pub solids : checkSolidsOf (B .values) (B .tags) (B .solids) ≡ passed tt
+  pub lists : checkListsOf (length (B .rayValues)) (length (B .rayTags)) (B .rays) ≡ passed tt
+  pub config : checkConfigOf (B .config) ≡ passed tt
+  pub counts : checkCountsOf (B .solids) (B .rays) ≡ passed tt
+  pub detectors : checkDetectorsOf (s .detectors) ≡ passed tt
+  pub lengths : checkLengthsIn s ≡ passed tt
+  pub rays : checkRaysFrom (raysOf B) (B .solids) (B .rays) 0 ≡ passed tt
+
+pub passes : (B : Batch) (s : Memory) → checkTraceOf B s ≡ passed tt → Passes B s
+unfolding checkTraceOf checkAllOf checkFlatOf checkRulesOf checkMemoryOf
+passes B s e =
+    let e1 = both-passed tt (checkFlatOf B) _ e in
+    let e2 = both-passed tt (checkRulesOf (B .config) (B .solids) (B .rays)) _ (e1 .1) in
+    let e3 = both-passed tt (after (checkDetectorsOf (s .detectors)) (checkLengthsIn s)) _ (e2 .1) in
+    let f = both-passed tt (checkSolidsOf (B .values) (B .tags) (B .solids)) _ (e1 .0) in
+    let g = both-passed tt (checkConfigOf (B .config)) _ (e2 .0) in
+    let h = both-passed tt (checkDetectorsOf (s .detectors)) _ (e3 .0) in
+    record { solids = f .0; lists = f .1; config = g .0; counts = g .1; detectors = h .0; lengths = h .1; rays = e3 .1 }
+
+pub all-pass : (B : Batch) (s : Memory) → Passes B s → checkTraceOf B s ≡ passed tt
+unfolding checkTraceOf checkAllOf checkFlatOf checkRulesOf checkMemoryOf
+all-pass B s p = rw (p .solids, p .lists, p .config, p .counts, p .detectors, p .lengths, p .rays)
+
+-- ---- fewer rays
+
+abbrev isPassed : Checked Unit → Bool
+isPassed (passed u) = true
+isPassed (refusedAt n place) = false
+
+-- what a test that passed says
+pub said : (t : Bool) (n place : ℕ) → _≡_ {A = Checked Unit} (cond t (passed tt) (refusedAt n place)) (passed tt) → t ≡ true
+said true n place e = refl
+said false n place e = false-true (ap isPassed e)
+
+counts-less : (k n m : ℕ) → m ≤ n → checkCountsOf k n ≡ passed tt → checkCountsOf k m ≡ passed tt
+unfolding checkCountsOf
+counts-less k n m l e =
+    let t = said (leb k 32 && leb n 4096) 3 0 e in
+    rw (and-left (leb k 32) (leb n 4096) t, le-leb m 4096 (omega (arith, leb-true n 4096 (and-right (leb k 32) (leb n 4096) t))))
+
+pub exact-lists : (p : Part) → Exact p → checkListsOf (length (p .values)) (length (p .tags)) (p .rays) ≡ passed tt
+unfolding checkListsOf
+exact-lists p e = rw (eq-eqb _ _ (e .values), eq-eqb _ _ (e .tags))
+
+pub lists-say : (nv nt n : ℕ) → checkListsOf nv nt n ≡ passed tt → (nv ≡ n * 8) × (nt ≡ n * 10)
+unfolding checkListsOf
+lists-say nv nt n e =
+    let t = said (eqb nv (n * 8) && eqb nt (n * 10)) 17 0 e in
+    (eqb-true nv (n * 8) (and-left (eqb nv (n * 8)) (eqb nt (n * 10)) t), eqb-true nt (n * 10) (and-right (eqb nv (n * 8)) (eqb nt (n * 10)) t))
+
+ray-anywhere : (a : ActiveRay) (solids i j : ℕ) → checkRayOf a solids i ≡ passed tt → checkRayOf a solids j ≡ passed tt
+unfolding checkRayOf
+ray-anywhere a solids i j = go (validRayOf (a .ray)) (validMediaOf (a .media) solids)
+  where
+    go : (t u : Bool) → _≡_ {A = Checked Unit} (cond t (cond u (passed tt) (refusedAt 11 i)) (refusedAt 10 i)) (passed tt) → _≡_ {A = Checked Unit} (cond t (cond u (passed tt) (refusedAt 11 j)) (refusedAt 10 j)) (passed tt)
+    go true true e = refl
+    go true false e = false-true (ap isPassed e)
+    go false u e = false-true (ap isPassed e)
+
+each-ray : (given : ℕ → ActiveRay) (solids n i j : ℕ) → checkRaysFrom given solids n i ≡ passed tt → j < n → checkRayOf (given (i + j)) solids 0 ≡ passed tt
+unfolding checkRaysFrom
+each-ray given solids zero i j e k = absurd (omega arith)
+each-ray given solids (suc n) i zero e k = rw add-zero (ray-anywhere (given i) solids i 0 (both-passed tt (checkRayOf (given i) solids i) (checkRaysFrom given solids n (i + 1)) e .0))
+each-ray given solids (suc n) i (suc j) e k =
+    let q : i + suc j ≡ i + 1 + j = omega arith in
+    rw q (each-ray given solids n (i + 1) j (both-passed tt (checkRayOf (given i) solids i) (checkRaysFrom given solids n (i + 1)) e .1) (omega arith))
+
+all-rays : (given : ℕ → ActiveRay) (solids n i : ℕ) → ((j : ℕ) → j < n → checkRayOf (given (i + j)) solids 0 ≡ passed tt) → checkRaysFrom given solids n i ≡ passed tt
+unfolding checkRaysFrom
+all-rays given solids zero i f = refl
+all-rays given solids (suc n) i f =
+    rw (
+      ray-anywhere (given i) solids 0 i (rw add-zero at (f 0 (omega arith))),
+      all-rays given solids n (i + 1) (λ j k. let q : i + suc j ≡ i + 1 + j = omega arith in rw q at (f (suc j) (omega arith))),
+    )
+
+-- the rays from place c on, by another way to fetch them
+rays-part : (given again : ℕ → ActiveRay) (solids n c m : ℕ) → c + m ≤ n → ((i : ℕ) → i < m → again i ≡ given (c + i)) → checkRaysFrom given solids n 0 ≡ passed tt → checkRaysFrom again solids m 0 ≡ passed tt
+rays-part given again solids n c m l same e =
+    all-rays again solids m 0
+    (λ j k.
+    rw (zero-add, same j k) (rw zero-add at (each-ray given solids n 0 (c + j) e (omega arith))))
+
+-- ---- the memory
+
+five : (a b c d e : Bool) → (a && (b && (c && (d && e)))) ≡ true → (a ≡ true) × (b ≡ true) × (c ≡ true) × (d ≡ true) × (e ≡ true)
+five a b c d e h =
+    let x = and-right a (b && (c && (d && e))) h in
+    let y = and-right b (c && (d && e)) x in
+    let z = and-right c (d && e) y in
+    (and-left a (b && (c && (d && e))) h, and-left b (c && (d && e)) x, and-left c (d && e) y, and-left d e z, and-right d e z)
+
+lengths-say : (ds : Detectors) (nf nh nv nt u : ℕ) → checkLengthsOf ds nf nh nv nt u ≡ passed tt
+    → (eqb nf (allPixelsOf ds) ≡ true) × (eqb nh (allPixelsOf ds) ≡ true) × (eqb nv nt ≡ true) × (eqb (nv % 4) 0 ≡ true) × (leb u (nv / 4) ≡ true)
+unfolding checkLengthsOf areLengthsOf isHitListOf
+lengths-say ds nf nh nv nt u e =
+    five (eqb nf (allPixelsOf ds)) (eqb nh (allPixelsOf ds)) (eqb nv nt) (eqb (nv % 4) 0) (leb u (nv / 4))
+    (said (eqb nf (allPixelsOf ds) && (eqb nh (allPixelsOf ds) && (eqb nv nt && (eqb (nv % 4) 0 && leb u (nv / 4))))) 9 0 e)
+
+pub used-room : (s : Memory) → checkLengthsIn s ≡ passed tt → s .used ≤ capacityOf s
+unfolding capacityOf
+used-room s e = leb-true (s .used) (length (s .values) / 4) (lengths-say _ _ _ _ _ _ e .4)
+
+more-used : (ds : Detectors) (nf nh nv nt u v : ℕ) → v ≤ nv / 4 → checkLengthsOf ds nf nh nv nt u ≡ passed tt → checkLengthsOf ds nf nh nv nt v ≡ passed tt
+unfolding checkLengthsOf areLengthsOf isHitListOf
+more-used ds nf nh nv nt u v k e =
+    let t = lengths-say ds nf nh nv nt u e in
+    rw (t .0, t .1, t .2, t .3, le-leb v (nv / 4) k)
+
+-- by pixels and lengths alone
+pub same-lengths : (ds es : Detectors) (nf nh nv nt u : ℕ) → allPixelsOf es ≡ allPixelsOf ds → checkLengthsOf es nf nh nv nt u ≡ checkLengthsOf ds nf nh nv nt u
+unfolding checkLengthsOf areLengthsOf
+same-lengths ds es nf nh nv nt u e = rw e
+
+pub reached-lengths : (s m : Memory) → Reached s m → checkLengthsIn s ≡ passed tt → checkLengthsIn m ≡ passed tt
+unfolding capacityOf
+reached-lengths s m r e =
+    let b = r .hits in
+    ap (λ (x : Memory). checkLengthsOf (x .detectors) (length (x .flux)) (length (x .hits)) (length (x .values)) (length (x .tags)) (m .used)) (r .sum)
+    ∙ rw (added-flux b s, added-hits b s, added-values b s, added-tags b s, same-lengths (s .detectors) _ (length (s .flux)) (length (s .hits)) (length (s .values)) (length (s .tags)) (m .used) (added-all b s))
+    (more-used (s .detectors) (length (s .flux)) (length (s .hits)) (length (s .values)) (length (s .tags)) (s .used) (m .used) (r .room) e)
+
+pub reached-checks : (s m : Memory) → Reached s m → checkDetectorsOf (s .detectors) ≡ passed tt → checkDetectorsOf (m .detectors) ≡ passed tt
+reached-checks s m r e = ap (λ (x : Memory). checkDetectorsOf (x .detectors)) (r .sum) ∙ added-checks (r .hits) s ∙ e
+
+-- ---- the parts of a batch that passed pass, on what calls leave of its memory
+
+module _ (B : Batch) (p q : Part) (s : Memory) (ep : Exact p) (eq : Exact q) (w : Passes (withRays B (joined p q)) s) where
+  pub former-passes : (m : Memory) → Reached s m → Passes (withRays B p) m
+  former-passes m r =
+      record {
+        solids = w .solids;
+        lists = exact-lists p ep;
+        config = w .config;
+        counts = counts-less (B .solids) (p .rays + q .rays) (p .rays) (omega arith) (w .counts);
+        detectors = reached-checks s m r (w .detectors);
+        lengths = reached-lengths s m r (w .lengths);
+        rays =
+            rays-part (raysOf (withRays B (joined p q))) (raysOf (withRays B p)) (B .solids) (p .rays + q .rays) 0 (p .rays) (omega arith)
+            (λ i k. rw zero-add (former-given p q ep i k)) (w .rays);
+      }
+
+  pub later-passes : Passes (withRays B q) s
+  later-passes =
+      record {
+        solids = w .solids;
+        lists = exact-lists q eq;
+        config = w .config;
+        counts = counts-less (B .solids) (p .rays + q .rays) (q .rays) (omega arith) (w .counts);
+        detectors = w .detectors;
+        lengths = w .lengths;
+        rays =
+            rays-part (raysOf (withRays B (joined p q))) (raysOf (withRays B q)) (B .solids) (p .rays + q .rays) (p .rays) (q .rays) (omega arith)
+            (λ i k. later-given p q ep i eq k) (w .rays);
+      }

@@ -1,0 +1,69 @@
+-- Demand 3 in one place: that the compiled calls meet their contracts, and what follows of the definitions that these contracts name. Assumes nothing.
+use Prim.Native.Nat.{ℕ}
+use mathlib.Core.Path.{_≡_}
+use mathlib.Core.List.{List, []}
+use lib.ListN.{length}
+use Rattle.error.specs.Refusals.{passed, refusedAt}
+use Rattle.memory.specs.Memory.{Memory, refused}
+use Rattle.memory.specs.Plain.{Empty, added}
+use Rattle.memory.proofs.Plain.{mapOutcome}
+use Rattle.trace.specs.Trace.{Batch, checkTraceOf, traceRaysOf}
+use Rattle.detector.proofs.Detector2D.intersect_ray.Statement.{statement as intersect-ray-meets}
+use Rattle.detector.proofs.Detector2D.intersect_ray.Met as intersect-ray
+use Rattle.detector.proofs.Detector2D.pixel_area_m2.Statement.{statement as pixel-area-m2-meets}
+use Rattle.detector.proofs.Detector2D.pixel_area_m2.Met as pixel-area-m2
+use Rattle.detectors.proofs.irradiance_at.Statement.{statement as irradiance-at-meets}
+use Rattle.detectors.proofs.irradiance_at.Met as irradiance-at
+use Rattle.memory.proofs.record_hit_classified.Statement.{statement as record-hit-classified-meets}
+use Rattle.memory.proofs.record_hit_classified.Met as record-hit-classified
+use Rattle.filter.proofs.filtering.refilter.Statement.{statement as refilter-meets}
+use Rattle.filter.proofs.filtering.refilter.Met as refilter
+use Rattle.filter.proofs.filtering.filtered_part.Statement.{statement as filtered-part-meets}
+use Rattle.filter.proofs.filtering.filtered_part.Met as filtered-part
+use Rattle.filter.proofs.filtering.filtered_pixel_flux.Statement.{statement as filtered-pixel-flux-meets}
+use Rattle.filter.proofs.filtering.filtered_pixel_flux.Met as filtered-pixel-flux
+use Rattle.trace.proofs.trace_rays.Statement.{statement as trace-rays-meets}
+use Rattle.trace.proofs.trace_rays.Met as trace-rays
+use Rattle.theorems_calls.specs.Parts.{Part, Splits, tracePartsOf}
+use Rattle.theorems_calls.specs.Calls.{Call, Wish, grantedOf, memoryAfter, bare, bookedOf, bookAfter, Told}
+use Rattle.theorems_calls.proofs.Split as splitting
+use Rattle.theorems_calls.proofs.Lists as lists
+use Rattle.theorems_calls.proofs.Nine.{nine-before}
+
+pub record Demand3 (M : Type 1) : Type 2 where
+  -- the calls of the list, as compiled
+  pub trace-rays : trace-rays-meets M
+  pub record-hit-classified : record-hit-classified-meets M
+  pub refilter : refilter-meets M
+  pub filtered-part : filtered-part-meets M
+  pub filtered-pixel-flux : filtered-pixel-flux-meets M
+  pub irradiance-at : irradiance-at-meets M
+  pub intersect-ray : intersect-ray-meets M
+  pub pixel-area-m2 : pixel-area-m2-meets M
+  -- a batch that passes the checks, traced in parts from any start
+  pub split : (B : Batch) (ps : List Part) (s : Memory) → Splits B ps → checkTraceOf B s ≡ passed tt → tracePartsOf B ps s ≡ traceRaysOf B s .outcome
+  -- any list of calls from the empty memory; every list of detectors of the code has eight places
+  pub calls : (s : Memory) → length (s .detectors .list) ≡ 8 → Empty s → (cs : List Call) → Told s (memoryAfter cs s) (bookAfter (bare s) cs [])
+  -- and each of them is done, or refused with the same number at the same place, in both
+  pub answers :
+      (s : Memory) (eight : length (s .detectors .list) ≡ 8) (empty : Empty s) (cs : List Call) (w : Wish)
+      → grantedOf w (memoryAfter cs s) ≡ mapOutcome (added s) (bookedOf (bare s) w (bookAfter (bare s) cs []))
+  -- where a detector wins, only 12 and 13 end the run
+  pub nine : (B : Batch) (s : Memory) (place : ℕ) (t : Memory) → traceRaysOf B s .outcome ≡ refused 9 place t → checkTraceOf B s ≡ refusedAt 9 place
+
+pub demand-3 : {M : Type 1} → Demand3 M
+demand-3 =
+    record {
+      trace-rays = trace-rays.met;
+      record-hit-classified = record-hit-classified.met;
+      refilter = refilter.met;
+      filtered-part = filtered-part.met;
+      filtered-pixel-flux = filtered-pixel-flux.met;
+      irradiance-at = irradiance-at.met;
+      intersect-ray = intersect-ray.met;
+      pixel-area-m2 = pixel-area-m2.met;
+      split = splitting.split;
+      calls = lists.told;
+      answers = lists.answered;
+      nine = nine-before;
+    }

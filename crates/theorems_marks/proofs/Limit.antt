@@ -1,0 +1,71 @@
+-- With a bounce limit of 0 no step is an interaction.
+use Prim.Native.Nat.{ℕ, zero, suc}
+use mathlib.Core.Path.{_≡_, refl, _∙_}
+use mathlib.Core.Logic.{_⊎_, inl, inr}
+use mathlib.Core.Bool.{Bool, true, false, cond}
+use lib.Dec.{leb, leb·zero}
+use lib.Ieee.{le}
+use Rattle.detectors.specs.declared.Detectors.{Detectors}
+use Rattle.detector.specs.declared.DetectorHit.{DetectorHit}
+use Rattle.memory.specs.Memory.{Outcome, done}
+use Rattle.step.specs.declared.ActiveRay.{ActiveRay}
+use Rattle.step.specs.Rays.{Scene, Step, dim, spent, ended}
+use Rattle.step.specs.Turn.{turnOf, interactOf}
+use Rattle.report.specs.Report.{moreIf, interacts, reportAfter, startReportOf}
+use Rattle.run.specs.declared.Progress.{Progress}
+use Rattle.run.specs.declared.stack.Taken.{Taken}
+use Rattle.run.specs.Stack.{takenOf}
+use Rattle.run.specs.Run.{Run, hitIn, refusalIn, stepFrom, stepOn, isLeft, andThen, drive}
+use Rattle.trace.specs.Trace.{Batch, raysOf, sceneIn, allSteps, startOf, runOn}
+
+-- every step is dim or spent
+only-ends : (S : Scene) (a : ActiveRay) → S .optics .config .«max_bounces» ≡ 0 → (turnOf S a ≡ ended a dim) ⊎ (turnOf S a ≡ ended a spent)
+unfolding turnOf
+only-ends S a z = go (le (a .ray .energy) (S .optics .config .«min_power_threshold»))
+  where
+    over : leb (S .optics .config .«max_bounces») (a .«bounce_count») ≡ true
+    over = rw z (leb·zero (a .«bounce_count»))
+
+    go : (b : Bool)
+        → (cond b (ended a dim) (cond (leb (S .optics .config .«max_bounces») (a .«bounce_count»)) (ended a spent) (interactOf S a)) ≡ ended a dim)
+        ⊎ (cond b (ended a dim) (cond (leb (S .optics .config .«max_bounces») (a .«bounce_count»)) (ended a spent) (interactOf S a)) ≡ ended a spent)
+    go true = inl refl
+    go false = inr (rw over)
+
+module _ {M : Type 0} (put : M → DetectorHit → Outcome M) (S : Scene) (given : ℕ → ActiveRay) where
+  -- such a step leaves the memory, and counts nothing
+  settled : (m : M) (p : Progress) (t : Taken) (a : ActiveRay) (s : Step) → (s ≡ ended a dim) ⊎ (s ≡ ended a spent)
+      → (stepFrom put S given m p t s .outcome ≡ done m) × (stepFrom put S given m p t s .progress .report .«total_interactions» ≡ p .report .«total_interactions»)
+  unfolding hitIn refusalIn reportAfter moreIf interacts
+  settled m p t a s (inl e) = (rw e, rw e)
+  settled m p t a s (inr e) = (rw e, rw e)
+
+  pub uncounted : S .optics .config .«max_bounces» ≡ 0 → (k : ℕ) (m : M) (p : Progress) → p .report .«total_interactions» ≡ 0
+      → drive put S given k m p .progress .report .«total_interactions» ≡ 0
+  unfolding drive stepOn
+  uncounted z zero m p e = e
+  uncounted z (suc k) m p e = go (uncounted z k m) (isLeft p)
+    where
+      t : Taken
+      t = takenOf given (p .stack) (p .left)
+
+      next : Run M
+      next = stepFrom put S given m p t (turnOf S (t .ray))
+
+      both : (next .outcome ≡ done m) × (next .progress .report .«total_interactions» ≡ p .report .«total_interactions»)
+      both = settled m p t (t .ray) (turnOf S (t .ray)) (only-ends S (t .ray) z)
+
+      on : (o : Outcome M) → o ≡ done m → drive put S given k m (next .progress) .progress .report .«total_interactions» ≡ 0
+          → andThen (drive put S given k) o (next .progress) .progress .report .«total_interactions» ≡ 0
+      on o f rest = rw f rest
+
+      go : ((q : Progress) → q .report .«total_interactions» ≡ 0 → drive put S given k m q .progress .report .«total_interactions» ≡ 0)
+          → (b : Bool) → cond b (andThen (drive put S given k) (next .outcome) (next .progress)) (record { outcome = done m; progress = p }) .progress .report .«total_interactions» ≡ 0
+      go rest true = on (next .outcome) (both .0) (rest (next .progress) (both .1 ∙ e))
+      go rest false = e
+
+-- from the start of a run on
+pub uninteracting : {M : Type 0} (put : M → DetectorHit → Outcome M) (ds : Detectors) (B : Batch) (m : M) → B .config .«max_bounces» ≡ 0
+    → runOn put ds B m .progress .report .«total_interactions» ≡ 0
+unfolding runOn startOf startReportOf
+uninteracting put ds B m z = uncounted put (sceneIn B ds) (raysOf B) z allSteps m (startOf (raysOf B) (B .rays)) refl

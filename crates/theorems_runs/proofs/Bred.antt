@@ -1,0 +1,202 @@
+-- What a step makes of a ray: which rays come of it, and when. Assumes nothing.
+use Prim.Native.Nat.{ℕ, zero, suc, _≤_, _<_, _+_, _-_}
+use mathlib.Core.Path.{_≡_, refl, _∙_}
+use mathlib.Core.Bool.{Bool, true, false, cond}
+use mathlib.Core.List.{List}
+use mathlib.Core.Option.{Option, none, some}
+use native.Mathlib.Omega.{arith}
+use lib.Dec.{ltb, leb}
+use lib.ListN.{length, set, length-set}
+use lib.Ieee.{Float, lt, le, binary64, ofBits}
+use borrow.Author.Tests.{leb-false}
+use Rattle.error.specs.Refusals.{Answer, value, refusal}
+use Rattle.rays.specs.declared.Ray.{Ray}
+use Rattle.material.specs.declared.SurfaceFinish.{SurfaceFinish}
+use Rattle.material.specs.declared.SurfaceFinish.the-variants.{Specular, Mirror, Absorber}
+use Rattle.scene.specs.declared.SolidNo.{SolidNo}
+use Rattle.scene.specs.declared.NonSeqHit.{NonSeqHit}
+use Rattle.surface.specs.Fresnel.{Parted, total, both, mirroredPowerOf}
+use Rattle.media.specs.declared.Media.{Media}
+use Rattle.media.specs.Media.{enteredOf, leftOf, lastOf, movedDown, withoutOf, solidIn, maxMedia}
+use Rattle.step.specs.declared.ActiveRay.{ActiveRay}
+use Rattle.step.specs.Rays.{Optics, Scene, Step, End, ended, dim, spent, gone, caught, stopped, parted, refusing, moreOf, reflectedOf, transmittedOf}
+use Rattle.step.specs.Turn.{beyondOf, partedOf, partedFrom, clearBetween, clearOf, mirrorFrom, mirrorOf, surfaceBy, surfaceOf, Met, detector, solid, nothing, meetsOf, interactOf, turnOf}
+use Rattle.report.specs.Report.{interacts}
+use Rattle.theorems_runs.specs.Sums.{isSurface}
+
+pub false-true : {A : Type 0} → false ≡ true → A
+false-true q = let z : _≡_ {A = ℕ} 0 1 = cc in absurd (omega arith)
+
+-- by cases on a test, with what the test says
+pub pick : {A : Type 0} (P : A → Type 0) (t : Bool) {x y : A} → (t ≡ true → P x) → (t ≡ false → P y) → P (cond t x y)
+pick P true f g = f refl
+pick P false f g = g refl
+
+-- ---- the media beyond a surface
+
+moved-length : (k i : ℕ) (l : List SolidNo) → length (movedDown k i l) ≡ length l
+unfolding movedDown
+moved-length zero i l = refl
+moved-length (suc k) i l = moved-length k (i + 1) (set l i (solidIn l (i + 1))) ∙ length-set l i (solidIn l (i + 1))
+
+-- one solid deeper at most, in a list as long
+pub record Deeper (m n : Media) : Type 0 where
+  pub depth : n .depth ≤ m .depth + 1
+  pub long : length (n .list) ≡ length (m .list)
+
+same : (m : Media) → Deeper m m
+same m = record { depth = omega arith; long = refl }
+
+without : (m : Media) (o : Option ℕ) → Deeper m (withoutOf m o)
+unfolding withoutOf
+without m (some i) = record { depth = omega arith; long = moved-length (m .depth - 1 - i) i (m .list) }
+without m none = same m
+
+entered : (m : Media) (s : SolidNo) → Deeper m (enteredOf m s)
+unfolding enteredOf
+entered m s =
+    pick (Deeper m) (ltb (m .depth) maxMedia) (λ q. record { depth = omega arith; long = length-set (m .list) (m .depth) s }) (λ q. same m)
+
+left-of : (m : Media) (s : SolidNo) → Deeper m (leftOf m s)
+unfolding leftOf
+left-of m s = pick (Deeper m) (leb (m .depth) maxMedia) (λ q. without m (lastOf (m .list) (m .depth) s)) (λ q. same m)
+
+beyond : (m : Media) (h : NonSeqHit) → Deeper m (beyondOf m h)
+unfolding beyondOf
+beyond m h = pick (Deeper m) (h .entering) (λ q. entered m (h .«object_id»)) (λ q. left-of m (h .«object_id»))
+
+-- ---- a step
+
+-- in media one deeper at most, with at most one reflection of each kind more
+pub record Later (a c : ActiveRay) : Type 0 where
+  pub media : Deeper (a .media) (c .media)
+  pub reflections : c .«reflection_count» ≤ a .«reflection_count» + 1
+  pub tirs : c .«tir_count» ≤ a .«tir_count» + 1
+
+itself : (a : ActiveRay) → Later a a
+itself a = record { media = same (a .media); reflections = omega arith; tirs = omega arith }
+
+pub more-most : (n : ℕ) → moreOf n ≤ n + 1
+unfolding moreOf
+more-most n = pick (λ (k : ℕ). k ≤ n + 1) (ltb n 4294967295) (λ q. omega arith) (λ q. omega arith)
+
+reflected-later : (t : Bool) (a : ActiveRay) (r : Ray) → Later a (reflectedOf t a r)
+unfolding reflectedOf
+reflected-later true a r = record { media = same (a .media); reflections = omega arith; tirs = more-most (a .«tir_count») }
+reflected-later false a r = record { media = same (a .media); reflections = more-most (a .«reflection_count»); tirs = omega arith }
+
+transmitted-later : (a : ActiveRay) (r : Ray) (m : Media) → Deeper (a .media) m → Later a (transmittedOf a r m)
+unfolding transmittedOf
+transmitted-later a r m d = record { media = d; reflections = omega arith; tirs = omega arith }
+
+-- an interaction is below the limit; a ray that is made has one bounce more and was made at a surface
+pub record Bred (b : ℕ) (a : ActiveRay) (s : Step) : Type 0 where
+  pub busy : interacts (s .end) ≡ true → a .«bounce_count» < b
+  pub one : s .«first» ≡ true → s .reflected .«bounce_count» ≡ moreOf (a .«bounce_count»)
+  pub two : s .second ≡ true → s .transmitted .«bounce_count» ≡ moreOf (a .«bounce_count»)
+  pub at-one : s .«first» ≡ true → isSurface (s .end) ≡ true
+  pub at-two : s .second ≡ true → isSurface (s .end) ≡ true
+  pub later-one : Later a (s .reflected)
+  pub later-two : Later a (s .transmitted)
+
+ended-bred : (b : ℕ) (a : ActiveRay) (e : End) → (interacts e ≡ true → a .«bounce_count» < b) → Bred b a (ended a e)
+ended-bred b a e h =
+    record {
+      busy = h;
+      one = λ q. false-true q;
+      two = λ q. false-true q;
+      at-one = λ q. false-true q;
+      at-two = λ q. false-true q;
+      later-one = itself a;
+      later-two = itself a;
+    }
+
+module _ (b : ℕ) (a : ActiveRay) (low : a .«bounce_count» < b) where
+  parted-bred : (threshold : Float) (m : Media) (p : Parted) → Deeper (a .media) m → Bred b a (partedOf threshold a m p)
+  unfolding partedOf reflectedOf transmittedOf isSurface
+  parted-bred threshold m (total r) d =
+      record {
+        busy = λ q. low;
+        one = λ q. refl;
+        two = λ q. false-true q;
+        at-one = λ q. refl;
+        at-two = λ q. false-true q;
+        later-one = reflected-later true a r;
+        later-two = itself a;
+      }
+  parted-bred threshold m (both r t) d =
+      record {
+        busy = λ q. low;
+        one = λ q. refl;
+        two = λ q. refl;
+        at-one = λ q. refl;
+        at-two = λ q. refl;
+        later-one = reflected-later (le (t .energy) (ofBits binary64 0)) a r;
+        later-two = transmitted-later a t m d;
+      }
+
+  parted-from : (threshold : Float) (m : Media) (p : Answer Parted) → Deeper (a .media) m → Bred b a (partedFrom threshold a m p)
+  unfolding partedFrom
+  parted-from threshold m (value p) d = parted-bred threshold m p d
+  parted-from threshold m (refusal n) d = ended-bred b a (refusing n) (λ q. low)
+
+  between-bred : (threshold : Float) (h : NonSeqHit) (m : Media) (x y : Answer Float) → Deeper (a .media) m → Bred b a (clearBetween threshold a h m x y)
+  unfolding clearBetween
+  between-bred threshold h m (value x) (value y) d = parted-from threshold m _ d
+  between-bred threshold h m (value x) (refusal n) d = ended-bred b a (refusing n) (λ q. low)
+  between-bred threshold h m (refusal n) y d = ended-bred b a (refusing n) (λ q. low)
+
+  clear-bred : (O : Optics) (h : NonSeqHit) → Bred b a (clearOf O a h)
+  unfolding clearOf
+  clear-bred O h = between-bred _ h (beyondOf (a .media) h) _ _ (beyond (a .media) h)
+
+  mirror-from : (left : Float) (r : Answer Ray) → Bred b a (mirrorFrom a left r)
+  unfolding mirrorFrom reflectedOf isSurface
+  mirror-from left (value r) =
+      record {
+        busy = λ q. low;
+        one = λ q. refl;
+        two = λ q. false-true q;
+        at-one = λ q. refl;
+        at-two = λ q. false-true q;
+        later-one = reflected-later false a r;
+        later-two = itself a;
+      }
+  mirror-from left (refusal n) = ended-bred b a (refusing n) (λ q. low)
+
+  mirror-bred : (threshold : Float) (h : NonSeqHit) (rho : Float) → Bred b a (mirrorOf threshold a h rho)
+  unfolding mirrorOf
+  mirror-bred threshold h rho =
+      pick (Bred b a) (lt threshold (mirroredPowerOf (a .ray .energy) rho)) (λ q. mirror-from _ _) (λ q. ended-bred b a _ (λ z. low))
+
+  by-bred : (O : Optics) (h : NonSeqHit) (f : SurfaceFinish) → Bred b a (surfaceBy O a h f)
+  unfolding surfaceBy
+  by-bred O h Specular = clear-bred O h
+  by-bred O h (Mirror rho) = mirror-bred _ h rho
+  by-bred O h Absorber = ended-bred b a _ (λ q. low)
+
+  meets-bred : (S : Scene) (k : Met) → Bred b a (meetsOf S a k)
+  unfolding meetsOf surfaceOf
+  meets-bred S (detector s) = ended-bred b a _ (λ q. low)
+  meets-bred S (solid h) = by-bred (S .optics) h (S .optics .finish (h .«object_id»))
+  meets-bred S nothing = ended-bred b a gone (λ q. low)
+
+pub bred : (S : Scene) (a : ActiveRay) → Bred (S .optics .config .«max_bounces») a (turnOf S a)
+unfolding turnOf interactOf interacts
+bred S a =
+    let b : ℕ = S .optics .config .«max_bounces» in
+    pick (Bred b a) (le (a .ray .energy) (S .optics .config .«min_power_threshold»)) (λ q. ended-bred b a dim (λ z. false-true z))
+    (λ q.
+    pick (Bred b a) (leb b (a .«bounce_count»)) (λ z. ended-bred b a spent (λ y. false-true y))
+    (λ z. meets-bred b a (leb-false b (a .«bounce_count») z) S _))
+
+-- a ray made at a surface is made in an interaction
+pub surface-busy : (e : End) → isSurface e ≡ true → interacts e ≡ true
+unfolding isSurface interacts
+surface-busy dim q = q
+surface-busy spent q = q
+surface-busy gone q = refl
+surface-busy (caught h) q = refl
+surface-busy (stopped x) q = refl
+surface-busy (parted r t z) q = refl
+surface-busy (refusing n) q = refl

@@ -1,0 +1,55 @@
+-- What holds of every ray of a run, and what a step needs so that no guard of the definitions acts.
+use Prim.Native.Nat.{ℕ, _+_, _≤_, _<_}
+use mathlib.Core.Path.{_≡_}
+use lib.ListN.{length}
+use Rattle.step.specs.declared.ActiveRay.{ActiveRay}
+use Rattle.step.specs.Rays.{Scene, Step}
+use Rattle.step.specs.Turn.{turnOf}
+use Rattle.report.specs.declared.tallies.Tallies.{Tallies}
+use Rattle.report.specs.declared.NonSeqTraceReport.{NonSeqTraceReport}
+use Rattle.run.specs.declared.stack.Stack.{Stack}
+use Rattle.run.specs.declared.Progress.{Progress}
+use Rattle.run.specs.Stack.{takenOf, pushedIf, popped, afterOf}
+use Rattle.theorems_runs.specs.Sums.{Full}
+
+pub record Housed (a : ActiveRay) : Type 0 where
+  pub deep : a .media .depth ≤ a .«bounce_count» + 8
+  pub long : length (a .media .list) ≡ 24
+  pub reflections : a .«reflection_count» ≤ a .«bounce_count»
+  pub tirs : a .«tir_count» ≤ a .«bounce_count»
+
+-- the ray that the next step takes
+abbrev pub rayOf : (ℕ → ActiveRay) → Progress → ActiveRay
+rayOf given p = takenOf given (p .stack) (p .left) .ray
+
+-- the stack after a step, without a guard
+abbrev pub plainAfter : Stack → Step → Stack
+plainAfter s e = pushedIf (e .second) (pushedIf (e .«first») (popped s) (e .reflected)) (e .transmitted)
+
+-- a ray that goes on has room for one medium more and for one more of every count
+pub record Going (a : ActiveRay) : Type 0 where
+  pub deep : a .media .depth < 24
+  pub bounces : a .«bounce_count» < 16
+  pub reflections : a .«reflection_count» < 16
+  pub tirs : a .«tir_count» < 16
+
+pub record Roomy (S : Scene) (given : ℕ → ActiveRay) (p : Progress) : Type 0 where
+  pub full : Full (p .stack)
+  pub after-full : Full (afterOf (p .stack) (turnOf S (rayOf given p)))
+  pub after-plain : afterOf (p .stack) (turnOf S (rayOf given p)) ≡ plainAfter (p .stack) (turnOf S (rayOf given p))
+  pub long : length (rayOf given p .media .list) ≡ 24
+  pub going : rayOf given p .«bounce_count» < S .optics .config .«max_bounces» → Going (rayOf given p)
+
+-- every count of a report with w more is at most n
+pub record SmallTallies (n w : ℕ) (t : Tallies) : Type 0 where
+  pub made : t .made + w ≤ n
+  pub dim : t .dim + w ≤ n
+  pub spent : t .spent + w ≤ n
+  pub caught : t .caught + w ≤ n
+  pub gone : t .gone + w ≤ n
+  pub surface : t .surface + w ≤ n
+  pub weak : t .weak + w ≤ n
+
+pub record SmallCounts (n w : ℕ) (r : NonSeqTraceReport) : Type 0 where
+  pub tallies : SmallTallies n w (r .tallies)
+  pub interactions : r .«total_interactions» + w ≤ n

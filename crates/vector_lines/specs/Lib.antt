@@ -1,2 +1,0 @@
--- What the parts of a stored line say.
-pub mod Parts

@@ -1,3 +1,0 @@
--- What a stored line says, and counting those that agree.
-pub mod Lines
-pub mod Count
