@@ -23,13 +23,13 @@ use Rattle.detector.specs.declared.DetectorHit.{DetectorHit}
 use Rattle.memory.specs.Memory.{hitsFrom, isHitListOf}
 use Rattle.filter.specs.declared.RayPathFilter.{RayPathFilter}
 use Rattle.filter.specs.declared.RayPathFilter.the-variants.{SignalOnly, StrayLight}
-use Rattle.filter.specs.Filters.{#0, Map, isAllOf, zeros, addedAtOf, plusOf, plusEach, passing, refilledOf}
-use Rattle.filter.specs.Handed.{handed, fromMap, checkPlacedOf, checkFilterOf, refilterPlacedOf, storedPartOf, partPlacedOf, filteredPlacedOf, filteredPixelFluxOf}
+use Rattle.filter.specs.Filters.{#0, Map, isAllOf, zeros, addAtOf, addHitOf, plusEach, passing, refillOf}
+use Rattle.filter.specs.Handed.{handed, fromMap, checkPlaced, checkFilterOf, refilterPlaced, storedPartOf, partPlaced, filteredPlaced, filteredPixelFluxOf}
 use Rattle.report.specs.declared.NonSeqTraceReport.{NonSeqTraceReport}
 use Rattle.report.specs.declared.tallies.Tallies.{Tallies}
 use Rattle.printing.specs.Rows.{rowText}
 use Rattle.printing.proofs.Lengths.{decimal-few, row-short, three-short}
-use Rattle.answer_text.specs.Answer.{Held, bytesOf, ledgerText, talliesText, maxPixels, gridOf, filteredBy, detectorText, pixelText, pixelsFrom, mapText, eachFrom, countOf, countIn, detectorsText, mapsText, answerText, refusalText}
+use Rattle.answer_text.specs.Answer.{Held, bytesOf, ledgerText, talliesText, maxPixels, gridAtOf, shownOf, detectorText, pixelText, pixelsFrom, mapText, eachFrom, detectorCountOf, countIn, detectorsText, mapsText, answerText, refusalText}
 
 -- ---- lines
 
@@ -49,7 +49,7 @@ refusal-short n place = omega (arith, row-short (n ∷ place ∷ []) [])
 
 detector-short : (m : Held) (f : RayPathFilter) (d : ℕ) → length (detectorText m f d) ≤ 101
 unfolding detectorText
-detector-short m f d = row-short (d ∷ filteredBy m f d .count ∷ filteredBy m SignalOnly d .count ∷ filteredBy m StrayLight d .count ∷ []) (filteredBy m f d .total ∷ [])
+detector-short m f d = row-short (d ∷ shownOf m f d .count ∷ shownOf m SignalOnly d .count ∷ shownOf m StrayLight d .count ∷ []) (shownOf m f d .total ∷ [])
 
 pixel-short : (d px py : ℕ) (x : Float) → d < 10 → px < 10000 → py < 10000 → length (pixelText d px py x) ≤ 29
 unfolding pixelText
@@ -72,28 +72,28 @@ pixels-short d w i (x ∷ l) p h =
 -- ---- what a filter hands back
 
 each-length : (d : Detector2D) (m : Map) (b : List DetectorHit) → length (plusEach d m b .flux) ≡ length (m .flux)
-unfolding plusEach plusOf addedAtOf
+unfolding plusEach addHitOf addAtOf
 each-length d m [] = refl
-each-length d m (h ∷ b) = each-length d (plusOf d m h) b ∙ length-set (m .flux) _ _
+each-length d m (h ∷ b) = each-length d (addHitOf d m h) b ∙ length-set (m .flux) _ _
 
-refilled-length : (f : RayPathFilter) (asked : DetectorNo) (d : Detector2D) (n : ℕ) (hits : List DetectorHit) → length (refilledOf f asked d n hits .flux) ≡ n
-unfolding refilledOf
+refilled-length : (f : RayPathFilter) (asked : DetectorNo) (d : Detector2D) (n : ℕ) (hits : List DetectorHit) → length (refillOf f asked d n hits .flux) ≡ n
+unfolding refillOf
 refilled-length f asked d n hits = each-length d (zeros n) (passing f asked hits) ∙ length-replicate n #0
 
 -- no more than the detector's pixels
 part-short : (f : RayPathFilter) (asked : DetectorNo) (stored work : List Float) (hits : List DetectorHit) (p : Placed) → length work ≡ pixelsOf (p .detector)
-    → length (filteredPlacedOf f asked stored work hits (passed p) .map) ≤ pixelsOf (p .detector)
-unfolding filteredPlacedOf refilterPlacedOf partPlacedOf storedPartOf
+    → length (filteredPlaced f asked stored work hits (passed p) .map) ≤ pixelsOf (p .detector)
+unfolding filteredPlaced refilterPlaced partPlaced storedPartOf
 part-short f asked stored work hits p e = go (isAllOf f)
   where
     go : (b : Bool)
-        → length (cond b (take (pixelsOf (p .detector)) (drop (p .first) stored)) (cond b (handed (passed tt) work (p .detector .«total_flux_watts») (p .detector .«total_rays_hit»)) (fromMap (refilledOf f asked (p .detector) (length work) hits)) .map))
+        → length (cond b (take (pixelsOf (p .detector)) (drop (p .first) stored)) (cond b (handed (passed tt) work (p .detector .«total_flux_watts») (p .detector .«total_rays_hit»)) (fromMap (refillOf f asked (p .detector) (length work) hits)) .map))
         ≤ pixelsOf (p .detector)
     go true = rw (length-take (pixelsOf (p .detector)) (drop (p .first) stored)) (min-le-left (pixelsOf (p .detector)) (length (drop (p .first) stored)))
     go false = omega (arith, refilled-length f asked (p .detector) (length work) hits, e)
 
-part-none : (f : RayPathFilter) (asked : DetectorNo) (stored work : List Float) (hits : List DetectorHit) (n place : ℕ) → length (filteredPlacedOf f asked stored work hits (refusedAt n place) .map) ≡ 0
-unfolding filteredPlacedOf partPlacedOf
+part-none : (f : RayPathFilter) (asked : DetectorNo) (stored work : List Float) (hits : List DetectorHit) (n place : ℕ) → length (filteredPlaced f asked stored work hits (refusedAt n place) .map) ≡ 0
+unfolding filteredPlaced partPlaced
 part-none f asked stored work hits n place = refl
 
 -- a map of n pixels that is handed back of detector d, where so many are stored
@@ -111,7 +111,7 @@ module _ (ds : Detectors) (d : ℕ) (f : RayPathFilter) (stored work : List Floa
   asked = record { 0 = d }
 
   abbrev back : Checked Placed → ℕ
-  back c = length (filteredPlacedOf f asked stored work hits c .map)
+  back c = length (filteredPlaced f asked stored work hits c .map)
 
   placed-part : (q : Placed) → findOf ds asked ≡ passed q → length stored ≡ allPixelsOf ds → length work ≡ pixelsOf (q .detector) → Part ds d (length stored) (back (passed q))
   unfolding placedOf
@@ -123,8 +123,8 @@ module _ (ds : Detectors) (d : ℕ) (f : RayPathFilter) (stored work : List Floa
       record { all = a; own = omega arith; most = omega arith }
 
   found-part : (values tags used : ℕ) (c : Checked Placed) → findOf ds asked ≡ c
-      → PartOrNone ds d (length stored) (back (checkPlacedOf ds (length stored) (length work) values tags used c))
-  unfolding checkPlacedOf
+      → PartOrNone ds d (length stored) (back (checkPlaced ds (length stored) (length work) values tags used c))
+  unfolding checkPlaced
   found-part values tags used (refusedAt n place) v = inl (part-none f asked stored work hits n place)
   found-part values tags used (passed q) v = go (eqb (length stored) (allPixelsOf ds)) (eqb (length work) (pixelsOf (q .detector))) (isHitListOf values tags used) refl refl
     where
@@ -135,19 +135,19 @@ module _ (ds : Detectors) (d : ℕ) (f : RayPathFilter) (stored work : List Floa
       go true false z a b = inl (part-none f asked stored work hits 9 0)
       go false y z a b = inl (part-none f asked stored work hits 9 0)
 
-pub held-part : (m : Held) (f : RayPathFilter) (d : ℕ) → PartOrNone (m .detectors) d (length (m .flux)) (length (filteredBy m f d .map))
-unfolding filteredBy filteredPixelFluxOf checkFilterOf
+pub held-part : (m : Held) (f : RayPathFilter) (d : ℕ) → PartOrNone (m .detectors) d (length (m .flux)) (length (shownOf m f d .map))
+unfolding shownOf filteredPixelFluxOf checkFilterOf
 held-part m f d =
-    found-part (m .detectors) d f (m .flux) (take (gridOf (m .detectors) d .pixels) (replicate maxPixels #0)) (hitsFrom (m .values) (m .tags) (m .used) 0) (length (m .values)) (length (m .tags)) (m .used)
+    found-part (m .detectors) d f (m .flux) (take (gridAtOf (m .detectors) d .pixels) (replicate maxPixels #0)) (hitsFrom (m .values) (m .tags) (m .used) 0) (length (m .values)) (length (m .tags)) (m .used)
     (findOf (m .detectors) (record { 0 = d })) refl
 
-map-short : (m : Held) (f : RayPathFilter) (d : ℕ) → d < 10 → length (filteredBy m f d .map) ≤ 10000 → length (mapText m f d) ≤ length (filteredBy m f d .map) * 29
+map-short : (m : Held) (f : RayPathFilter) (d : ℕ) → d < 10 → length (shownOf m f d .map) ≤ 10000 → length (mapText m f d) ≤ length (shownOf m f d .map) * 29
 unfolding mapText
-map-short m f d p h = go (eqb (gridOf (m .detectors) d .columns) 0)
+map-short m f d p h = go (eqb (gridAtOf (m .detectors) d .columns) 0)
   where
-    go : (b : Bool) → length (cond b [] (pixelsFrom d (gridOf (m .detectors) d .columns) 0 (filteredBy m f d .map))) ≤ length (filteredBy m f d .map) * 29
+    go : (b : Bool) → length (cond b [] (pixelsFrom d (gridAtOf (m .detectors) d .columns) 0 (shownOf m f d .map))) ≤ length (shownOf m f d .map) * 29
     go true = omega arith
-    go false = pixels-short d (gridOf (m .detectors) d .columns) 0 (filteredBy m f d .map) p (omega arith)
+    go false = pixels-short d (gridAtOf (m .detectors) d .columns) 0 (shownOf m f d .map) p (omega arith)
 
 -- ---- one text after another: g says how far each may go
 
@@ -160,8 +160,8 @@ each-most text g k h (suc n) d p =
     let q : d + suc n ≡ d + 1 + n = omega arith in
     rw (q, length-append (text d) (eachFrom text n (d + 1))) (omega arith)
 
-count-most : (n : ℕ) → countOf n ≤ 8
-unfolding countOf
+count-most : (n : ℕ) → detectorCountOf n ≤ 8
+unfolding detectorCountOf
 count-most n = go (leb n 8) refl
   where
     go : (b : Bool) → leb n 8 ≡ b → cond b n 0 ≤ 8
@@ -176,8 +176,8 @@ detectors-short f m =
     omega arith
 
 -- the first pixel behind all detectors
-first-all : (ds : Detectors) → firstPixelOf (ds .list) (countOf (ds .count)) ≡ allPixelsOf ds
-unfolding countOf allPixelsOf firstPixelOf
+first-all : (ds : Detectors) → firstPixelOf (ds .list) (detectorCountOf (ds .count)) ≡ allPixelsOf ds
+unfolding detectorCountOf allPixelsOf firstPixelOf
 first-all ds = go (leb (ds .count) maxDetectors)
   where
     go : (b : Bool) → firstPixelOf (ds .list) (cond b (ds .count) 0) ≡ cond b (firstPixelOf (ds .list) (ds .count)) 0
@@ -195,14 +195,14 @@ module _ (f : RayPathFilter) (m : Held) (few : length (m .flux) ≤ maxPixels) w
   some-lines : (d : ℕ) → d < 8 → length (mapText m f d) ≤ pixelsOf (detectorAt list d) * 29
   some-lines d p = go (held-part m f d)
     where
-      go : PartOrNone (m .detectors) d (length (m .flux)) (length (filteredBy m f d .map)) → length (mapText m f d) ≤ pixelsOf (detectorAt list d) * 29
+      go : PartOrNone (m .detectors) d (length (m .flux)) (length (shownOf m f d .map)) → length (mapText m f d) ≤ pixelsOf (detectorAt list d) * 29
       go (inl z) = omega (arith, map-short m f d (omega arith) (omega arith))
       go (inr r) = omega (arith, map-short m f d (omega arith) (omega arith))
 
   no-lines : (d : ℕ) → d < 8 → (length (m .flux) ≡ allPixelsOf (m .detectors) → ⊥) → length (mapText m f d) ≤ 0
   no-lines d p n = go (held-part m f d)
     where
-      go : PartOrNone (m .detectors) d (length (m .flux)) (length (filteredBy m f d .map)) → length (mapText m f d) ≤ 0
+      go : PartOrNone (m .detectors) d (length (m .flux)) (length (shownOf m f d .map)) → length (mapText m f d) ≤ 0
       go (inl z) = omega (arith, map-short m f d (omega arith) (omega arith))
       go (inr r) = absurd (n (r .all))
 

@@ -9,43 +9,43 @@ use Rattle.error.specs.Refusals.{Checked, passed, refusedAt}
 use Rattle.filter.specs.declared.RayPathFilter.{RayPathFilter}
 use Rattle.filter.specs.Filters.{#0}
 use Rattle.filter.specs.declared.filtering.Filtered.{Filtered}
-use Rattle.filter.specs.Handed.{Handed, Numbered, filteredOf, refilterOf, filteredPixelFluxOf, filteredPlacedOf, inNumbersOf, withNumbers}
+use Rattle.filter.specs.Handed.{Handed, Numbered, asHanded, refilterOf, filteredPixelFluxOf, filteredPlaced, inNumbers, withNumbers}
 use Rattle.printing.specs.Printing.{Out, out, putAll}
 use Rattle.answer_text.specs.declared.maps.Grid.{Grid}
-use Rattle.answer_text.specs.Answer.{Held, maxPixels, gridOf, filteredBy, pixelsFrom, mapText}
+use Rattle.answer_text.specs.Answer.{Held, maxPixels, gridAtOf, shownOf, pixelsFrom, mapText}
 
 same-with : (c : Checked Unit) (l : List Float) (t : Float) (n : ℕ) → withNumbers c l t n .part ≡ l
 same-with (passed u) l t n = refl
 same-with (refusedAt k place) l t n = refl
 
-same-part : (h : Handed) → inNumbersOf h .part ≡ h .map
+same-part : (h : Handed) → inNumbers h .part ≡ h .map
 same-part h = same-with (h .check) (h .map) (h .total) (h .count)
 
-module _ (m : Held) (f : RayPathFilter) (d : ℕ) (g : Grid) (e : g ≡ gridOf (m .detectors) d) where
+module _ (m : Held) (f : RayPathFilter) (d : ℕ) (g : Grid) (e : g ≡ gridAtOf (m .detectors) d) where
   -- the work map as it is lent
   abbrev work : List Float
   work = take (g .pixels) (replicate maxPixels #0)
 
-  handed-is : filteredPixelFluxOf (m .detectors) (record { 0 = d }) f (m .flux) work (m .values) (m .tags) (m .used) ≡ filteredBy m f d
-  unfolding filteredBy
+  handed-is : filteredPixelFluxOf (m .detectors) (record { 0 = d }) f (m .flux) work (m .values) (m .tags) (m .used) ≡ shownOf m f d
+  unfolding shownOf
   handed-is = ap (λ (x : Grid). filteredPixelFluxOf (m .detectors) (record { 0 = d }) f (m .flux) (take (x .pixels) (replicate maxPixels #0)) (m .values) (m .tags) (m .used)) e
 
-  module _ (r : Filtered) (l : List Float) (h : filteredOf r l ≡ refilterOf (m .detectors) (record { 0 = d }) f (m .flux) work (m .values) (m .tags) (m .used)) where
-    pub total-shown : r .«total_flux_watts» ≡ filteredBy m f d .total
-    unfolding filteredPixelFluxOf filteredPlacedOf refilterOf
+  module _ (r : Filtered) (l : List Float) (h : asHanded r l ≡ refilterOf (m .detectors) (record { 0 = d }) f (m .flux) work (m .values) (m .tags) (m .used)) where
+    pub total-shown : r .«total_flux_watts» ≡ shownOf m f d .total
+    unfolding filteredPixelFluxOf filteredPlaced refilterOf
     total-shown = ap (λ (x : Handed). x .total) h ∙ ap (λ (x : Handed). x .total) handed-is
 
-    pub count-shown : r .«hit_count» ≡ filteredBy m f d .count
-    unfolding filteredPixelFluxOf filteredPlacedOf refilterOf
+    pub count-shown : r .«hit_count» ≡ shownOf m f d .count
+    unfolding filteredPixelFluxOf filteredPlaced refilterOf
     count-shown = ap (λ (x : Handed). x .count) h ∙ ap (λ (x : Handed). x .count) handed-is
 
   pub map-none : (b : List ℕ) (p : ℕ) → g .columns ≡ 0 → out b p ≡ putAll b p (mapText m f d)
   unfolding mapText putAll
   map-none b p z = rw (← e, eq-eqb (g .columns) 0 z)
 
-  pub map-some : (b : List ℕ) (p : ℕ) (w : Out) (n : Numbered) → (g .columns ≡ 0 → ⊥) → n ≡ inNumbersOf (filteredPixelFluxOf (m .detectors) (record { 0 = d }) f (m .flux) work (m .values) (m .tags) (m .used))
+  pub map-some : (b : List ℕ) (p : ℕ) (w : Out) (n : Numbered) → (g .columns ≡ 0 → ⊥) → n ≡ inNumbers (filteredPixelFluxOf (m .detectors) (record { 0 = d }) f (m .flux) work (m .values) (m .tags) (m .used))
       → w ≡ putAll b p (pixelsFrom d (g .columns) 0 (n .part)) → w ≡ putAll b p (mapText m f d)
   unfolding mapText
   map-some b p w n z q v =
-      let k : n .part ≡ filteredBy m f d .map = ap (λ (x : Numbered). x .part) q ∙ same-part (filteredPixelFluxOf (m .detectors) (record { 0 = d }) f (m .flux) work (m .values) (m .tags) (m .used)) ∙ ap (λ (x : Handed). x .map) handed-is in
+      let k : n .part ≡ shownOf m f d .map = ap (λ (x : Numbered). x .part) q ∙ same-part (filteredPixelFluxOf (m .detectors) (record { 0 = d }) f (m .flux) work (m .values) (m .tags) (m .used)) ∙ ap (λ (x : Handed). x .map) handed-is in
       rw (← e, ne-eqb (g .columns) 0 z) (rw k at v)

@@ -51,8 +51,8 @@ pub record Held : Type 0 where
   pub tags : List ℕ
   pub used : ℕ
 
-abbrev pub heldOf : Detectors → List Float → List Float → List ℕ → ℕ → Held
-heldOf ds f v t n = record { detectors = ds; flux = f; values = v; tags = t; used = n }
+abbrev pub held : Detectors → List Float → List Float → List ℕ → ℕ → Held
+held ds f v t n = record { detectors = ds; flux = f; values = v; tags = t; used = n }
 
 -- the most pixels for which there is room
 abbrev pub maxPixels : ℕ
@@ -67,18 +67,18 @@ unfoldable pub gridFrom : Option Placed → Grid
 gridFrom (some p) = record { pixels = fewOf (pixelsOf (p .detector)); columns = p .detector .«res_x» }
 gridFrom nothing = record { pixels = 0; columns = 0 }
 
-unfoldable pub gridOf : Detectors → ℕ → Grid
-gridOf ds d = gridFrom (atOf ds (record { 0 = d }))
+unfoldable pub gridAtOf : Detectors → ℕ → Grid
+gridAtOf ds d = gridFrom (atOf ds (record { 0 = d }))
 
 -- what a filter hands back of detector d: map, total and count
-unfoldable pub filteredBy : Held → RayPathFilter → ℕ → Handed
-filteredBy m f d =
-    filteredPixelFluxOf (m .detectors) (record { 0 = d }) f (m .flux) (take (gridOf (m .detectors) d .pixels) (replicate maxPixels #0)) (m .values) (m .tags) (m .used)
+unfoldable pub shownOf : Held → RayPathFilter → ℕ → Handed
+shownOf m f d =
+    filteredPixelFluxOf (m .detectors) (record { 0 = d }) f (m .flux) (take (gridAtOf (m .detectors) d .pixels) (replicate maxPixels #0)) (m .values) (m .tags) (m .used)
 
 -- hits and flux are under the filter, signal and stray are always the full counts
 unfoldable pub detectorText : Held → RayPathFilter → ℕ → List ℕ
 detectorText m f d =
-    rowText (d ∷ filteredBy m f d .count ∷ filteredBy m SignalOnly d .count ∷ filteredBy m StrayLight d .count ∷ []) (filteredBy m f d .total ∷ [])
+    rowText (d ∷ shownOf m f d .count ∷ shownOf m SignalOnly d .count ∷ shownOf m StrayLight d .count ∷ []) (shownOf m f d .total ∷ [])
 
 -- ---- pixels
 
@@ -94,8 +94,8 @@ pixelsFrom d w i (x ∷ l) = pixelText d (i % w) (i / w) x ++ pixelsFrom d w (i 
 -- the map of detector d under the filter
 unfoldable pub mapText : Held → RayPathFilter → ℕ → List ℕ
 mapText m f d =
-    let w = gridOf (m .detectors) d .columns in
-    cond (eqb w 0) [] (pixelsFrom d w 0 (filteredBy m f d .map))
+    let w = gridAtOf (m .detectors) d .columns in
+    cond (eqb w 0) [] (pixelsFrom d w 0 (shownOf m f d .map))
 
 -- ---- all of it
 
@@ -105,11 +105,11 @@ eachFrom text zero d = []
 eachFrom text (suc n) d = text d ++ eachFrom text n (d + 1)
 
 -- a count that 3 refuses is no count
-unfoldable pub countOf : ℕ → ℕ
-countOf n = cond (leb n maxDetectors) n 0
+unfoldable pub detectorCountOf : ℕ → ℕ
+detectorCountOf n = cond (leb n maxDetectors) n 0
 
 abbrev pub countIn : Held → ℕ
-countIn m = countOf (m .detectors .count)
+countIn m = detectorCountOf (m .detectors .count)
 
 unfoldable pub detectorsText : RayPathFilter → Held → List ℕ
 detectorsText f m = named "detector hits signal stray flux" ++ eachFrom (detectorText m f) (countIn m) 0

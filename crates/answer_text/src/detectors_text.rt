@@ -4,11 +4,11 @@ use detectors::Detectors;
 use filter::RayPathFilter;
 ghost use mathlib.Core.Path.{_≡_};
 ghost use Rattle.printing.specs.Printing.{out, putAll};
-ghost use Rattle.answer_text.specs.Answer.{heldOf, detectorText, mapText, eachFrom, countOf};
+ghost use Rattle.answer_text.specs.Answer.{held, detectorText, mapText, eachFrom, detectorCountOf};
 
 // A count that is refused (3) is no count.
 fn count_of(count: u32) -> u32
-    ensures { λ r. ⌜ r ≡ countOf count ⌝ }
+    ensures { λ r. ⌜ r ≡ detectorCountOf count ⌝ }
 {
     if count <= Detectors::MAX {
         return count;
@@ -27,7 +27,7 @@ pub(crate) fn put_detectors(
     used: usize,
 ) -> usize
     ensures { λ r. ⌜ out (now (buf .exit)) r ≡ putAll (now (buf .entry)) at
-        (eachFrom (detectorText (heldOf detectors (now (flux .entry)) (now (values .entry)) (now (tags .entry)) used) filter) (countOf (detectors .count)) 0) ⌝ }
+        (eachFrom (detectorText (held detectors (now (flux .entry)) (now (values .entry)) (now (tags .entry)) used) filter) (detectorCountOf (detectors .count)) 0) ⌝ }
 {
     let n = count_of(detectors.count);
     let mut p = at;
@@ -50,7 +50,7 @@ pub(crate) fn put_maps(
     used: usize,
 ) -> usize
     ensures { λ r. ⌜ out (now (buf .exit)) r ≡ putAll (now (buf .entry)) at
-        (eachFrom (mapText (heldOf detectors (now (flux .entry)) (now (values .entry)) (now (tags .entry)) used) filter) (countOf (detectors .count)) 0) ⌝ }
+        (eachFrom (mapText (held detectors (now (flux .entry)) (now (values .entry)) (now (tags .entry)) used) filter) (detectorCountOf (detectors .count)) 0) ⌝ }
 {
     let n = count_of(detectors.count);
     let mut p = at;

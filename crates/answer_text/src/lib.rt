@@ -11,7 +11,7 @@ use report::NonSeqTraceReport;
 use report::Tallies;
 ghost use mathlib.Core.Path.{_≡_};
 ghost use Rattle.printing.specs.Printing.{out, putAll};
-ghost use Rattle.answer_text.specs.Answer.{heldOf, ledgerText, talliesText, detectorsText, mapsText, answerText, refusalText};
+ghost use Rattle.answer_text.specs.Answer.{held, ledgerText, talliesText, detectorsText, mapsText, answerText, refusalText};
 
 fn wide(n: u32) -> u64
     ensures { λ r. ⌜ r ≡ n ⌝ }
@@ -79,7 +79,7 @@ fn put_detectors(
     used: usize,
 ) -> usize
     ensures { λ r. ⌜ out (now (buf .exit)) r ≡ putAll (now (buf .entry)) at
-        (detectorsText filter (heldOf detectors (now (flux .entry)) (now (values .entry)) (now (tags .entry)) used)) ⌝ }
+        (detectorsText filter (held detectors (now (flux .entry)) (now (values .entry)) (now (tags .entry)) used)) ⌝ }
 {
     let p = printing::put_all(buf, at, b"detector hits signal stray flux\n");
     detectors_text::put_detectors(buf, p, detectors, filter, flux, values, tags, used)
@@ -96,7 +96,7 @@ fn put_maps(
     used: usize,
 ) -> usize
     ensures { λ r. ⌜ out (now (buf .exit)) r ≡ putAll (now (buf .entry)) at
-        (mapsText filter (heldOf detectors (now (flux .entry)) (now (values .entry)) (now (tags .entry)) used)) ⌝ }
+        (mapsText filter (held detectors (now (flux .entry)) (now (values .entry)) (now (tags .entry)) used)) ⌝ }
 {
     let p = printing::put_all(buf, at, b"detector px py flux\n");
     detectors_text::put_maps(buf, p, detectors, filter, flux, values, tags, used)
@@ -115,7 +115,7 @@ pub fn put_answer(
     used: usize,
 ) -> usize
     ensures { λ r. ⌜ out (now (buf .exit)) r ≡ putAll (now (buf .entry)) at
-        (answerText report filter (heldOf detectors (now (flux .entry)) (now (values .entry)) (now (tags .entry)) used)) ⌝ }
+        (answerText report filter (held detectors (now (flux .entry)) (now (values .entry)) (now (tags .entry)) used)) ⌝ }
 {
     let tallies = report.tallies;
     let p = put_ledger(buf, at, report);

@@ -8,7 +8,7 @@ use filter::Filtered;
 ghost use mathlib.Core.Path.{_≡_};
 ghost use Prim.Native.Nat.{_≤_};
 ghost use Rattle.printing.specs.Printing.{out, putAll};
-ghost use Rattle.answer_text.specs.Answer.{heldOf, fewOf, gridOf, filteredBy, detectorText, mapText};
+ghost use Rattle.answer_text.specs.Answer.{held, fewOf, gridAtOf, shownOf, detectorText, mapText};
 
 // How many pixels a detector has, and how many columns.
 pub struct Grid {
@@ -27,7 +27,7 @@ pub fn few(n: usize) -> usize
 }
 
 fn grid_at(detectors: Detectors, d: u32) -> Grid
-    ensures { λ r. ⌜ (r ≡ gridOf detectors d) × (r .pixels ≤ 4096) ⌝ }
+    ensures { λ r. ⌜ (r ≡ gridAtOf detectors d) × (r .pixels ≤ 4096) ⌝ }
 {
     match detectors.at(DetectorNo(d)) {
         Spot::There(p) => {
@@ -54,8 +54,8 @@ fn shown(
     tags: &[u32],
     used: usize,
 ) -> Filtered
-    ensures { λ r. ⌜ (r .«total_flux_watts» ≡ filteredBy (heldOf detectors (now (flux .entry)) (now (values .entry)) (now (tags .entry)) used) filter d .total)
-        × (r .«hit_count» ≡ filteredBy (heldOf detectors (now (flux .entry)) (now (values .entry)) (now (tags .entry)) used) filter d .count) ⌝ }
+    ensures { λ r. ⌜ (r .«total_flux_watts» ≡ shownOf (held detectors (now (flux .entry)) (now (values .entry)) (now (tags .entry)) used) filter d .total)
+        × (r .«hit_count» ≡ shownOf (held detectors (now (flux .entry)) (now (values .entry)) (now (tags .entry)) used) filter d .count) ⌝ }
 {
     let g = grid_at(detectors, d);
     let n = g.pixels;
@@ -85,7 +85,7 @@ pub(crate) fn put_detector(
     used: usize,
 ) -> usize
     ensures { λ r. ⌜ out (now (buf .exit)) r ≡ putAll (now (buf .entry)) at
-        (detectorText (heldOf detectors (now (flux .entry)) (now (values .entry)) (now (tags .entry)) used) filter d) ⌝ }
+        (detectorText (held detectors (now (flux .entry)) (now (values .entry)) (now (tags .entry)) used) filter d) ⌝ }
 {
     let a = shown(detectors, d, filter, flux, values, tags, used);
     let s = shown(
@@ -129,7 +129,7 @@ pub(crate) fn put_map(
     used: usize,
 ) -> usize
     ensures { λ r. ⌜ out (now (buf .exit)) r ≡ putAll (now (buf .entry)) at
-        (mapText (heldOf detectors (now (flux .entry)) (now (values .entry)) (now (tags .entry)) used) filter d) ⌝ }
+        (mapText (held detectors (now (flux .entry)) (now (values .entry)) (now (tags .entry)) used) filter d) ⌝ }
 {
     let g = grid_at(detectors, d);
     let n = g.pixels;

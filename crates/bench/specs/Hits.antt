@@ -11,8 +11,8 @@ abbrev #0 : Float
 #0 = ofBits binary64 0
 
 -- 550 nm and 1 W
-unfoldable pub rayOf : Float → Float → Float → Float → Float → Float → Ray
-rayOf ox oy oz dx dy dz =
+unfoldable pub benchRay : Float → Float → Float → Float → Float → Float → Ray
+benchRay ox oy oz dx dy dz =
     record { origin = vec3 ox oy oz; direction = vec3 dx dy dz; «wavelength_nm» = ofBits binary64 0x4081300000000000; energy = ofBits binary64 0x3ff0000000000000 }
 
 unfoldable pub metOf : NonSeqHit → BenchHit

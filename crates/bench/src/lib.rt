@@ -6,11 +6,11 @@ use scene::NonSeqHit;
 ghost use mathlib.Core.Path.{_≡_};
 ghost use mathlib.Core.Bool.{cond};
 ghost use lib.Ieee.{ofBits, binary64};
-ghost use Rattle.scene.specs.Objects.{hitOf};
-ghost use Rattle.scene.specs.Solids.{solidAt};
-ghost use Rattle.scene.specs.Closest.{closestOf};
-ghost use Rattle.bench.specs.Loops.{rootSumOf, rootChainOf};
-ghost use Rattle.bench.specs.Hits.{rayOf, metOf, missedOf, benchHitOf};
+ghost use Rattle.scene.specs.Objects.{asHit};
+ghost use Rattle.scene.specs.Solids.{objectAtOf};
+ghost use Rattle.scene.specs.Closest.{closestObjectOf};
+ghost use Rattle.bench.specs.Loops.{benchRootSumOf, benchRootChainOf};
+ghost use Rattle.bench.specs.Hits.{benchRay, metOf, missedOf, benchHitOf};
 
 // A hit in plain numbers; all zero but for `met` where there is none.
 #[repr(C)]
@@ -33,7 +33,7 @@ pub struct BenchHit {
 // The sum of the roots: no root waits for another.
 #[no_mangle]
 pub extern "C" fn bench_root_sum(xs: &[f64]) -> f64
-    ensures { λ r. ⌜ r ≡ rootSumOf (ofBits binary64 0) (now (xs .entry)) ⌝ }
+    ensures { λ r. ⌜ r ≡ benchRootSumOf (ofBits binary64 0) (now (xs .entry)) ⌝ }
 {
     let mut t = 0.0;
     let mut i: usize = 0;
@@ -47,7 +47,7 @@ pub extern "C" fn bench_root_sum(xs: &[f64]) -> f64
 // Each root waits for the one before.
 #[no_mangle]
 pub extern "C" fn bench_root_chain(xs: &[f64]) -> f64
-    ensures { λ r. ⌜ r ≡ rootChainOf (ofBits binary64 0) (now (xs .entry)) ⌝ }
+    ensures { λ r. ⌜ r ≡ benchRootChainOf (ofBits binary64 0) (now (xs .entry)) ⌝ }
 {
     let mut t = 0.0;
     let mut i: usize = 0;
@@ -112,7 +112,7 @@ fn missed() -> BenchHit
 }
 
 fn bench_hit(h: Intersection) -> BenchHit
-    ensures { λ r. ⌜ r ≡ benchHitOf (hitOf h) ⌝ }
+    ensures { λ r. ⌜ r ≡ benchHitOf (asHit h) ⌝ }
 {
     match h {
         Intersection::Hit(m) => met(m),
@@ -133,7 +133,7 @@ pub extern "C" fn bench_closest(
     dy: f64,
     dz: f64,
 ) -> BenchHit
-    ensures { λ r. ⌜ r ≡ benchHitOf (closestOf (solidAt (now (values .entry)) (now (tags .entry))) count (rayOf ox oy oz dx dy dz)) ⌝ }
+    ensures { λ r. ⌜ r ≡ benchHitOf (closestObjectOf (objectAtOf (now (values .entry)) (now (tags .entry))) count (benchRay ox oy oz dx dy dz)) ⌝ }
 {
     let ray = Ray {
         origin: Vec3 {

@@ -3,7 +3,7 @@ use Prim.Native.Nat.{ℕ}
 use mathlib.Core.Bool.{Bool, cond, _&&_, _||_}
 use lib.Dec.{eqb, leb}
 use lib.Ieee.{Float, binary64, ofBits, lt}
-use Rattle.doubles.specs.Doubles.{absOf, finiteOf}
+use Rattle.doubles.specs.Doubles.{absOf, isFiniteOf}
 use Rattle.error.specs.Refusals.{numberOf, Checked, passed, refusedAt, after}
 use Rattle.rays.specs.declared.vector.Vec3.{Vec3}
 use Rattle.rays.specs.Vectors.{dotOf, normalizeOf}
@@ -13,7 +13,7 @@ use Rattle.detector.specs.declared.checks.NewDetector.the-variants.{Made
 
 -- above 0 and finite
 unfoldable pub isSizeOf : Float → Bool
-isSizeOf x = lt (ofBits binary64 0) x && finiteOf x
+isSizeOf x = lt (ofBits binary64 0) x && isFiniteOf x
 
 abbrev pub maxRes : ℕ
 maxRes = 4096
@@ -39,6 +39,6 @@ newDetectorOf c n u w h resx resy =
     after (checkDetectorOf d 0) (passed d)
 
 -- what the code's answer says
-abbrev pub newAnswerOf : NewDetector → Checked Detector2D
-newAnswerOf (Made d) = passed d
-newAnswerOf (Refused e place) = refusedAt (numberOf e) place
+abbrev pub asDetector : NewDetector → Checked Detector2D
+asDetector (Made d) = passed d
+asDetector (Refused e place) = refusedAt (numberOf e) place

@@ -7,7 +7,7 @@ use Rattle.error.specs.Refusals.{numberOf, Checked, passed, refusedAt, after}
 use Rattle.rays.specs.declared.vector.Vec3.{Vec3}
 use Rattle.rays.specs.declared.Ray.{Ray}
 use Rattle.rays.specs.Vectors.{dotOf, crossOf, minusOf, scaleOf, normalizeOf}
-use Rattle.rays.specs.Rays.{minLocalDistance, atOf, validRayOf}
+use Rattle.rays.specs.Rays.{minLocalDistance, atOf, isValidRayOf}
 use Rattle.detector.specs.declared.Detector2D.{Detector2D}
 use Rattle.detector.specs.declared.face.Face.{Face}
 use Rattle.detector.specs.declared.face.Crossing.{Crossing}
@@ -44,21 +44,21 @@ abbrev parallel : Float
 parallel = ofBits binary64 0x3d719799812dea11
 
 -- both sides count; the distance is above 1e-9
-unfoldable pub crossingOf : Face → Ray → Option Crossing
-crossingOf f r =
+unfoldable pub faceIntersectRayOf : Face → Ray → Option Crossing
+faceIntersectRayOf f r =
     let along = dotOf (r .direction) (f .normal) in
     let t = div binary64 (dotOf (minusOf (f .center) (r .origin)) (f .normal)) along in
     cond (lt (absOf along) parallel) none (cond (le t minLocalDistance) none (acrossOf f r t))
 
 -- what the code's answer says
-abbrev pub crossedOf : Crossed → Option Crossing
-crossedOf (At c) = some c
-crossedOf Miss = none
+abbrev pub asCrossing : Crossed → Option Crossing
+asCrossing (At c) = some c
+asCrossing Miss = none
 
 -- 5 to 8, then 10, then the crossing
 unfoldable pub intersectRayOf : Detector2D → Ray → Checked (Option Crossing)
-intersectRayOf d r = after (checkDetectorOf d 0) (cond (validRayOf r) (passed (crossingOf (faceOf d) r)) (refusedAt 10 0))
+intersectRayOf d r = after (checkDetectorOf d 0) (cond (isValidRayOf r) (passed (faceIntersectRayOf (faceOf d) r)) (refusedAt 10 0))
 
-abbrev pub rayCrossingOf : RayCrossing → Checked (Option Crossing)
-rayCrossingOf (Found c) = passed (crossedOf c)
-rayCrossingOf (Refused e place) = refusedAt (numberOf e) place
+abbrev pub asRayCrossing : RayCrossing → Checked (Option Crossing)
+asRayCrossing (Found c) = passed (asCrossing c)
+asRayCrossing (Refused e place) = refusedAt (numberOf e) place

@@ -39,14 +39,14 @@ areaOf d =
     mul binary64 (div binary64 (mul binary64 (d .«width_mm») metres) (real (d .«res_x»))) (div binary64 (mul binary64 (d .«height_mm») metres) (real (d .«res_y»)))
 
 -- 5 to 8, then the area
-unfoldable pub pixelAreaOf : Detector2D → Checked Float
-pixelAreaOf d = after (checkDetectorOf d 0) (passed (areaOf d))
+unfoldable pub pixelAreaM2Of : Detector2D → Checked Float
+pixelAreaM2Of d = after (checkDetectorOf d 0) (passed (areaOf d))
 
 -- flux by area, or 0 where the area is at most 0
 unfoldable pub irradianceOf : Detector2D → Float → Float
 irradianceOf d flux = cond (le (areaOf d) #0) #0 (div binary64 flux (areaOf d))
 
 -- what the code's answer says
-abbrev pub readingOf : Reading → Checked Float
-readingOf (Value x) = passed x
-readingOf (Refused e place) = refusedAt (numberOf e) place
+abbrev pub asReading : Reading → Checked Float
+asReading (Value x) = passed x
+asReading (Refused e place) = refusedAt (numberOf e) place

@@ -4,8 +4,8 @@ use error::Check;
 use error::NonSeqError;
 use rays::Vec3;
 ghost use mathlib.Core.Path.{_≡_};
-ghost use Rattle.error.specs.Refusals.{checkOf};
-ghost use Rattle.detector.specs.Checks.{isSizeOf, isParallelOf, checkGridOf, checkDetectorOf, newDetectorOf, newAnswerOf};
+ghost use Rattle.error.specs.Refusals.{asChecked};
+ghost use Rattle.detector.specs.Checks.{isSizeOf, isParallelOf, checkGridOf, checkDetectorOf, newDetectorOf, asDetector};
 
 pub enum NewDetector {
     Made(Detector2D),
@@ -32,7 +32,7 @@ fn is_parallel(normal: Vec3, up: Vec3) -> bool
 impl Detector2D {
     // 6, 7 and 8, after the sizes.
     fn check_grid(self, place: u32) -> Check
-        ensures { λ r. ⌜ checkOf r ≡ checkGridOf self place ⌝ }
+        ensures { λ r. ⌜ asChecked r ≡ checkGridOf self place ⌝ }
     {
         if self.res_x == 0 {
             return Check::Refused {
@@ -65,7 +65,7 @@ impl Detector2D {
 
     // Whether this is a detector, as the one at a place in a list: 5, 6, 7, 8 in this order.
     pub fn check(self, place: u32) -> Check
-        ensures { λ r. ⌜ checkOf r ≡ checkDetectorOf self place ⌝ }
+        ensures { λ r. ⌜ asChecked r ≡ checkDetectorOf self place ⌝ }
     {
         if is_size(self.width_mm) {
             if is_size(self.height_mm) {
@@ -88,7 +88,7 @@ impl Detector2D {
         res_x: u32,
         res_y: u32,
     ) -> NewDetector
-        ensures { λ r. ⌜ newAnswerOf r ≡ newDetectorOf center normal up «width_mm» «height_mm» «res_x» «res_y» ⌝ }
+        ensures { λ r. ⌜ asDetector r ≡ newDetectorOf center normal up «width_mm» «height_mm» «res_x» «res_y» ⌝ }
     {
         let d = Detector2D {
             center,

@@ -5,7 +5,7 @@ use error::NonSeqError;
 use rays::Ray;
 use rays::Vec3;
 ghost use mathlib.Core.Path.{_≡_};
-ghost use Rattle.detector.specs.Faces.{orthogonalOf, faceOf, crossedOf, acrossOf, crossingOf, rayCrossingOf, intersectRayOf};
+ghost use Rattle.detector.specs.Faces.{orthogonalOf, faceOf, asCrossing, acrossOf, faceIntersectRayOf, asRayCrossing, intersectRayOf};
 
 // The axes of a detector and its half sizes, worked out once a call.
 pub struct Face {
@@ -45,7 +45,7 @@ fn orthogonal(n: Vec3, up: Vec3) -> Vec3
 impl Face {
     // What a ray that meets the plane at a distance crosses of the face. Exactly half a size is inside.
     fn across(self, ray: Ray, t: f64) -> Crossed
-        ensures { λ r. ⌜ crossedOf r ≡ acrossOf self ray t ⌝ }
+        ensures { λ r. ⌜ asCrossing r ≡ acrossOf self ray t ⌝ }
     {
         let offset = ray.at(t).minus(self.center);
         let local_x = offset.dot(self.right);
@@ -64,7 +64,7 @@ impl Face {
 
     // Where any ray crosses the face, from either side.
     pub fn intersect_ray(self, ray: Ray) -> Crossed
-        ensures { λ r. ⌜ crossedOf r ≡ crossingOf self ray ⌝ }
+        ensures { λ r. ⌜ asCrossing r ≡ faceIntersectRayOf self ray ⌝ }
     {
         let direction = ray.direction;
         let center = self.center;
@@ -100,7 +100,7 @@ impl Detector2D {
 
     // Where a ray crosses the detector. The detector is refused by 5 to 8, then the ray by 10.
     pub fn intersect_ray(self, ray: Ray) -> RayCrossing
-        ensures { λ r. ⌜ rayCrossingOf r ≡ intersectRayOf self ray ⌝ }
+        ensures { λ r. ⌜ asRayCrossing r ≡ intersectRayOf self ray ⌝ }
     {
         match self.check(0) {
             Check::Refused { error, place } => RayCrossing::Refused { error, place },

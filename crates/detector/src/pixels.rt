@@ -4,7 +4,7 @@ use error::Check;
 use error::NonSeqError;
 ghost use mathlib.Core.Path.{_≡_};
 ghost use Prim.Native.Nat.{_*_, _≤_};
-ghost use Rattle.detector.specs.Pixels.{indexAlongOf, pixelAtOf, pixelsOf, areaOf, readingOf, pixelAreaOf, irradianceOf};
+ghost use Rattle.detector.specs.Pixels.{indexAlongOf, pixelAtOf, pixelsOf, areaOf, asReading, pixelAreaM2Of, irradianceOf};
 
 // A double that was asked for, or the refusal and its place.
 pub enum Reading {
@@ -54,7 +54,7 @@ impl Detector2D {
 
     // The area of a pixel in square metres. The detector is refused by 5 to 8.
     pub fn pixel_area_m2(self) -> Reading
-        ensures { λ r. ⌜ readingOf r ≡ pixelAreaOf self ⌝ }
+        ensures { λ r. ⌜ asReading r ≡ pixelAreaM2Of self ⌝ }
     {
         match self.check(0) {
             Check::Refused { error, place } => Reading::Refused { error, place },

@@ -11,7 +11,7 @@ use borrow.Author.Tests.{leb-true, ltb-true}
 use Rattle.error.specs.declared.Check.{Check}
 use Rattle.error.specs.declared.Check.the-variants.{Passed, Refused}
 use Rattle.error.specs.declared.NonSeqError.{NonSeqError}
-use Rattle.error.specs.Refusals.{numberOf, Checked, passed, refusedAt, checkOf, after}
+use Rattle.error.specs.Refusals.{numberOf, Checked, passed, refusedAt, asChecked, after}
 use Rattle.detector.specs.declared.DetectorNo.{DetectorNo}
 use Rattle.detector.specs.declared.Detector2D.{Detector2D}
 use Rattle.detector.specs.Checks.{checkDetectorOf}
@@ -21,23 +21,23 @@ use Rattle.detectors.specs.declared.Detectors.{Detectors}
 use Rattle.detectors.specs.declared.Placed.{Placed}
 use Rattle.detectors.specs.declared.Spot.{Spot}
 use Rattle.detectors.specs.declared.Spot.the-variants as Spot
-use Rattle.detectors.specs.Detectors.{detectorAt, firstPixelOf, placedOf, atOf, spotOf, checkFromOf, checkDetectorsOf}
+use Rattle.detectors.specs.Detectors.{detectorAt, firstPixelOf, placedOf, atOf, asSpot, checkListOf, checkDetectorsOf}
 
 -- ---- the check; r is what the check of detector i answered
 
-module _ (l : List Detector2D) (n i : ℕ) (r : Check) (z : Checked Unit) (p : i < n) (f : checkOf r ≡ checkDetectorOf (detectorAt l i) i) (e : checkFromOf l (n - i) i ≡ z) where
-  one : after (checkOf r) (checkFromOf l (n - (i + 1)) (i + 1)) ≡ z
-  unfolding checkFromOf
+module _ (l : List Detector2D) (n i : ℕ) (r : Check) (z : Checked Unit) (p : i < n) (f : asChecked r ≡ checkDetectorOf (detectorAt l i) i) (e : checkListOf l (n - i) i ≡ z) where
+  one : after (asChecked r) (checkListOf l (n - (i + 1)) (i + 1)) ≡ z
+  unfolding checkListOf
   one = let q : n - i ≡ suc (n - (i + 1)) = omega arith in rw f (rw q at e)
 
-  pub check-turn : r ≡ Passed → checkFromOf l (n - (i + 1)) (i + 1) ≡ z
+  pub check-turn : r ≡ Passed → checkListOf l (n - (i + 1)) (i + 1) ≡ z
   check-turn g = rw g at one
 
   pub check-refused : (x : NonSeqError) (place : ℕ) → r ≡ Refused x place → refusedAt (numberOf x) place ≡ z
   check-refused x place g = rw g at one
 
-pub check-end : (l : List Detector2D) (n i : ℕ) (z : Checked Unit) → n ≤ i → checkFromOf l (n - i) i ≡ z → passed tt ≡ z
-unfolding checkFromOf
+pub check-end : (l : List Detector2D) (n i : ℕ) (z : Checked Unit) → n ≤ i → checkListOf l (n - i) i ≡ z → passed tt ≡ z
+unfolding checkListOf
 check-end l n i z p e = let q : n - i ≡ 0 = omega arith in rw q at e
 
 -- ---- pixels
@@ -63,11 +63,11 @@ first-end l n i sum a b e = let q : i ≡ n = omega arith in rw q at e
 
 -- ---- a list that passed has at most 8
 
-pub count-most : (ds : Detectors) (r : Check) → checkOf r ≡ checkDetectorsOf ds → r ≡ Passed → ds .count ≤ 8
+pub count-most : (ds : Detectors) (r : Check) → asChecked r ≡ checkDetectorsOf ds → r ≡ Passed → ds .count ≤ 8
 unfolding checkDetectorsOf
-count-most ds r f g = go (leb (ds .count) 8) refl (sym f ∙ ap checkOf g)
+count-most ds r f g = go (leb (ds .count) 8) refl (sym f ∙ ap asChecked g)
   where
-    go : (b : Bool) → leb (ds .count) 8 ≡ b → cond b (checkFromOf (ds .list) (ds .count) 0) (refusedAt 3 0) ≡ passed tt → ds .count ≤ 8
+    go : (b : Bool) → leb (ds .count) 8 ≡ b → cond b (checkListOf (ds .list) (ds .count) 0) (refusedAt 3 0) ≡ passed tt → ds .count ≤ 8
     go true e k = leb-true _ _ e
     go false e k = never 3 0 tt k
 
@@ -98,11 +98,11 @@ nowhere ds d e = go (ltb (d .0) 8) e
     go false e = refl
 
 -- its first pixel is not far
-pub there-first : (ds : Detectors) (d : DetectorNo) (p : Placed) (r : Spot) → spotOf r ≡ atOf ds d → r ≡ Spot.There p → p .first ≤ 8 * 2 ^ 24
+pub there-first : (ds : Detectors) (d : DetectorNo) (p : Placed) (r : Spot) → asSpot r ≡ atOf ds d → r ≡ Spot.There p → p .first ≤ 8 * 2 ^ 24
 unfolding placedOf
 there-first ds d p r e k =
-    let t = there ds d p (sym e ∙ ap spotOf k) in
+    let t = there ds d p (sym e ∙ ap asSpot k) in
     omega (arith, first-most (ds .list) (d .0) (p .first) (ap (λ x. x .first) (t .1)), t .0)
 
-pub there-below : (ds : Detectors) (d : DetectorNo) (p : Placed) (r : Spot) → spotOf r ≡ atOf ds d → r ≡ Spot.There p → d .0 < 8
-there-below ds d p r e k = there ds d p (sym e ∙ ap spotOf k) .0
+pub there-below : (ds : Detectors) (d : DetectorNo) (p : Placed) (r : Spot) → asSpot r ≡ atOf ds d → r ≡ Spot.There p → d .0 < 8
+there-below ds d p r e k = there ds d p (sym e ∙ ap asSpot k) .0

@@ -18,7 +18,7 @@ use Rattle.detector.specs.Pixels.{pixelsOf}
 use Rattle.detector.proofs.Grid.{never, Gridded, passed-grid, pixels-are, in-grid}
 use Rattle.detectors.specs.declared.Detectors.{Detectors}
 use Rattle.detectors.specs.declared.Placed.{Placed}
-use Rattle.detectors.specs.Detectors.{maxDetectors, detectorAt, firstPixelOf, allPixelsOf, checkFromOf, checkDetectorsOf, checkAskedOf, placedOf, findOf}
+use Rattle.detectors.specs.Detectors.{maxDetectors, detectorAt, firstPixelOf, allPixelsOf, checkListOf, checkDetectorsOf, checkAsked, placedOf, findOf}
 
 -- ---- what passed
 
@@ -30,24 +30,24 @@ both-passed : {A : Type 0} (a : A) (c : Checked Unit) (x : Checked A) → after 
 both-passed a (passed tt) x e = (refl, e)
 both-passed a (refusedAt n p) x e = never n p a e
 
-each-passed : (l : List Detector2D) (n i j : ℕ) → checkFromOf l n i ≡ passed tt → j < n → Gridded (detectorAt l (i + j))
-unfolding checkFromOf
+each-passed : (l : List Detector2D) (n i j : ℕ) → checkListOf l n i ≡ passed tt → j < n → Gridded (detectorAt l (i + j))
+unfolding checkListOf
 each-passed l zero i j e k = absurd (omega arith)
-each-passed l (suc n) i zero e k = rw add-zero (passed-grid (detectorAt l i) i (both-passed tt (checkDetectorOf (detectorAt l i) i) (checkFromOf l n (i + 1)) e .0))
+each-passed l (suc n) i zero e k = rw add-zero (passed-grid (detectorAt l i) i (both-passed tt (checkDetectorOf (detectorAt l i) i) (checkListOf l n (i + 1)) e .0))
 each-passed l (suc n) i (suc j) e k =
     let q : i + suc j ≡ i + 1 + j = omega arith in
-    rw q (each-passed l n (i + 1) j (both-passed tt (checkDetectorOf (detectorAt l i) i) (checkFromOf l n (i + 1)) e .1) (omega arith))
+    rw q (each-passed l n (i + 1) j (both-passed tt (checkDetectorOf (detectorAt l i) i) (checkListOf l n (i + 1)) e .1) (omega arith))
 
 pub sound : (ds : Detectors) → checkDetectorsOf ds ≡ passed tt → Sound ds
 unfolding checkDetectorsOf
 sound ds e = go (leb (ds .count) maxDetectors) refl e
   where
-    go : (b : Bool) → leb (ds .count) maxDetectors ≡ b → cond b (checkFromOf (ds .list) (ds .count) 0) (refusedAt 3 0) ≡ passed tt → Sound ds
+    go : (b : Bool) → leb (ds .count) maxDetectors ≡ b → cond b (checkListOf (ds .list) (ds .count) 0) (refusedAt 3 0) ≡ passed tt → Sound ds
     go true t e = record { most = leb-true _ _ t; each = λ i k. rw zero-add at (each-passed (ds .list) (ds .count) 0 i e k) }
     go false t e = never 3 0 tt e
 
-pub asked-sound : (ds : Detectors) (d : DetectorNo) → checkAskedOf ds d ≡ passed tt → Sound ds × (d .0 < ds .count)
-unfolding checkAskedOf
+pub asked-sound : (ds : Detectors) (d : DetectorNo) → checkAsked ds d ≡ passed tt → Sound ds × (d .0 < ds .count)
+unfolding checkAsked
 asked-sound ds d e =
     let b = both-passed tt (checkDetectorsOf ds) _ e in
     (sound ds (b .0), go (ltb (d .0) (ds .count)) refl (b .1))
@@ -66,7 +66,7 @@ inside a b e = ap (λ c. held a c) e
 pub asked-there : (ds : Detectors) (d : DetectorNo) (p : Placed) → findOf ds d ≡ passed p → Sound ds × (d .0 < ds .count) × (p ≡ placedOf (ds .list) (d .0))
 unfolding findOf
 asked-there ds d p e =
-    let b = both-passed p (checkAskedOf ds d) _ e in
+    let b = both-passed p (checkAsked ds d) _ e in
     let s = asked-sound ds d (b .0) in
     (s .0, s .1, sym (inside _ _ (b .1)))
 

@@ -50,17 +50,17 @@ unfoldable pub allPixelsOf : Detectors → ℕ
 allPixelsOf ds = cond (leb (ds .count) maxDetectors) (firstPixelOf (ds .list) (ds .count)) 0
 
 -- the n detectors from place i on, in list order
-unfoldable pub checkFromOf : List Detector2D → ℕ → ℕ → Checked Unit
-checkFromOf l zero i = passed tt
-checkFromOf l (suc n) i = after (checkDetectorOf (detectorAt l i) i) (checkFromOf l n (i + 1))
+unfoldable pub checkListOf : List Detector2D → ℕ → ℕ → Checked Unit
+checkListOf l zero i = passed tt
+checkListOf l (suc n) i = after (checkDetectorOf (detectorAt l i) i) (checkListOf l n (i + 1))
 
 -- 3, then 5 to 8 of each
 unfoldable pub checkDetectorsOf : Detectors → Checked Unit
-checkDetectorsOf ds = cond (leb (ds .count) maxDetectors) (checkFromOf (ds .list) (ds .count) 0) (refusedAt 3 0)
+checkDetectorsOf ds = cond (leb (ds .count) maxDetectors) (checkListOf (ds .list) (ds .count) 0) (refusedAt 3 0)
 
 -- these, then 4
-unfoldable pub checkAskedOf : Detectors → DetectorNo → Checked Unit
-checkAskedOf ds d = after (checkDetectorsOf ds) (cond (ltb (d .0) (ds .count)) (passed tt) (refusedAt 4 0))
+unfoldable pub checkAsked : Detectors → DetectorNo → Checked Unit
+checkAsked ds d = after (checkDetectorsOf ds) (cond (ltb (d .0) (ds .count)) (passed tt) (refusedAt 4 0))
 
 -- a detector and its first pixel
 unfoldable pub placedOf : List Detector2D → ℕ → Placed
@@ -72,13 +72,13 @@ atOf ds d = cond (ltb (d .0) maxDetectors) (some (placedOf (ds .list) (d .0))) n
 
 -- the asked one
 unfoldable pub findOf : Detectors → DetectorNo → Checked Placed
-findOf ds d = after (checkAskedOf ds d) (passed (placedOf (ds .list) (d .0)))
+findOf ds d = after (checkAsked ds d) (passed (placedOf (ds .list) (d .0)))
 
 -- what the code's answer says
-abbrev pub foundOf : Found → Checked Placed
-foundOf (Found.There p) = passed p
-foundOf (Found.Refused e place) = refusedAt (numberOf e) place
+abbrev pub asFound : Found → Checked Placed
+asFound (Found.There p) = passed p
+asFound (Found.Refused e place) = refusedAt (numberOf e) place
 
-abbrev pub spotOf : Spot → Option Placed
-spotOf (There p) = some p
-spotOf Nowhere = none
+abbrev pub asSpot : Spot → Option Placed
+asSpot (There p) = some p
+asSpot Nowhere = none

@@ -9,8 +9,8 @@ use error::NonSeqError;
 pub use reading::irradiance_at;
 ghost use mathlib.Core.Path.{_≡_};
 ghost use Prim.Native.Nat.{_≤_, _<_};
-ghost use Rattle.error.specs.Refusals.{checkOf};
-ghost use Rattle.detectors.specs.Detectors.{firstPixelOf, allPixelsOf, placedOf, checkFromOf, checkDetectorsOf, findOf, foundOf, atOf, spotOf};
+ghost use Rattle.error.specs.Refusals.{asChecked};
+ghost use Rattle.detectors.specs.Detectors.{firstPixelOf, allPixelsOf, placedOf, checkListOf, checkDetectorsOf, findOf, asFound, atOf, asSpot};
 
 #[repr(C)]
 pub struct Detectors {
@@ -38,7 +38,7 @@ pub enum Spot {
 // The first detector that is refused, by 5 to 8.
 fn check_list(list: [Detector2D; 8], count: u32) -> Check
     requires { ⌜ count ≤ 8 ⌝ }
-    ensures { λ r. ⌜ checkOf r ≡ checkFromOf list count 0 ⌝ }
+    ensures { λ r. ⌜ asChecked r ≡ checkListOf list count 0 ⌝ }
 {
     let mut i: u32 = 0;
     while i < count {
@@ -76,7 +76,7 @@ impl Detectors {
 
     // 3 for more than 8, then 5 to 8 of each in list order.
     pub fn check(self) -> Check
-        ensures { λ r. ⌜ checkOf r ≡ checkDetectorsOf self ⌝ }
+        ensures { λ r. ⌜ asChecked r ≡ checkDetectorsOf self ⌝ }
     {
         if self.count <= Detectors::MAX {
             let list = self.list;
@@ -90,7 +90,7 @@ impl Detectors {
 
     // The asked detector: the same checks, then 4 for one that is not there.
     pub fn find(self, asked: DetectorNo) -> Found
-        ensures { λ r. ⌜ foundOf r ≡ findOf self asked ⌝ }
+        ensures { λ r. ⌜ asFound r ≡ findOf self asked ⌝ }
     {
         match self.check() {
             Check::Refused { error, place } => Found::Refused { error, place },
@@ -121,7 +121,7 @@ impl Detectors {
 
     // Detector d with the place of its first pixel, whatever the count: for callers that have checked.
     pub fn at(self, d: DetectorNo) -> Spot
-        ensures { λ r. ⌜ spotOf r ≡ atOf self d ⌝ }
+        ensures { λ r. ⌜ asSpot r ≡ atOf self d ⌝ }
     {
         if d.0 < Detectors::MAX {
             return Spot::There(self.placed(d.0 as usize));

@@ -6,15 +6,15 @@ use detector::DetectorNo;
 use detector::Reading;
 use error::NonSeqError;
 ghost use mathlib.Core.Path.{_≡_};
-ghost use Rattle.detector.specs.Pixels.{readingOf};
+ghost use Rattle.detector.specs.Pixels.{asReading};
 ghost use Prim.Native.Nat.{_+_, _*_, _≤_};
 ghost use lib.ListN.{length};
-ghost use Rattle.detectors.specs.Readings.{irradianceIn, irradianceAtOf};
+ghost use Rattle.detectors.specs.Readings.{irradianceInOf, irradianceAtOf};
 
 // The irradiance of pixel (px, py) of a detector whose pixels lie in the map.
 fn irradiance_in(p: Placed, flux: &[f64], px: u32, py: u32) -> f64
     requires { ⌜ p .first + p .detector .«res_x» * p .detector .«res_y» ≤ length (now flux) ⌝ }
-    ensures { λ r. ⌜ r ≡ irradianceIn p (now (flux .entry)) px py ⌝ }
+    ensures { λ r. ⌜ r ≡ irradianceInOf p (now (flux .entry)) px py ⌝ }
 {
     let d = p.detector;
     if px < d.res_x {
@@ -35,7 +35,7 @@ pub fn irradiance_at(
     px: u32,
     py: u32,
 ) -> Reading
-    ensures { λ r. ⌜ readingOf r ≡ irradianceAtOf detectors asked (now (flux .entry)) px py ⌝ }
+    ensures { λ r. ⌜ asReading r ≡ irradianceAtOf detectors asked (now (flux .entry)) px py ⌝ }
 {
     match detectors.find(asked) {
         Found::Refused { error, place } => Reading::Refused { error, place },

@@ -6,7 +6,7 @@ use native.Mathlib.Omega.{arith}
 use mathlib.Core.Bool.{Bool, true, false, not}
 use lib.Dec.{T, ltb, ltb→lt, nltb→le}
 use lib.Ieee.{Float, binary64, ofBits}
-use Rattle.doubles.specs.Root.{sqrtOf, nearestRoot}
+use Rattle.doubles.specs.Root.{sqrtOf, nearestRootOf}
 use Rattle.doubles.proofs.Squares.{NearRoot, product-lt, square-of}
 use Rattle.doubles.proofs.Whole.{nearest-of}
 use Rattle.doubles.proofs.Roots.{normal-root}

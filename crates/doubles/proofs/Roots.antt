@@ -12,7 +12,7 @@ use lib.Ieee.{Float, nan, inf, fin, binary64, odd, ofFields, ofBits, toBits, fit
 use lib.Ieee.Bits.{is-true, cond-no, ofBits-toBits}
 use lib.Ieee.Fits.{eq→eqb}
 use lib.Ieee.Exact.{HasValue, odd-sign}
-use Rattle.doubles.specs.Root.{rootRound, sqrtIn, sqrtOf, nearestRoot}
+use Rattle.doubles.specs.Root.{rootRound, sqrtIn, sqrtOf, nearestRootOf}
 use Rattle.doubles.proofs.Squares.{Root53}
 use Rattle.doubles.proofs.Whole.{rounded, root53}
 use Rattle.doubles.proofs.Patterns.{ofBits-is, under-ones, at-zero, plus, normal, subnormal, pattern-is, positive-root, negative-root}
@@ -49,11 +49,11 @@ module _ (d t : ℕ) (lo : 2 ^ 52 ≤ d) (hi : d < 2 ^ 53) (bit : t < 2) where
   pub evened-in : (2 ^ 52 ≤ (d * 2 ^ t) % 2 ^ 64) × ((d * 2 ^ t) % 2 ^ 64 + 1 < 2 ^ 54)
   evened-in = subst (λ (m : ℕ). (2 ^ 52 ≤ m) × (m + 1 < 2 ^ 54)) (sym evened-fits) (evened-least, evened-most)
 
-  pub root-most : (r : ℕ) → r ≡ nearestRoot ((d * 2 ^ t) % 2 ^ 64 * 2 ^ 52) → r < 2 ^ 53
+  pub root-most : (r : ℕ) → r ≡ nearestRootOf ((d * 2 ^ t) % 2 ^ 64 * 2 ^ 52) → r < 2 ^ 53
   root-most r near = root53 ((d * 2 ^ t) % 2 ^ 64) r (evened-in .0) (evened-in .1) near .most
 
   -- the rounded root
-  pub root-at : (k r a : ℕ) → k < 2045 → r ≡ nearestRoot (d * 2 ^ t * 2 ^ 52) → a ≡ d * 2 ^ t * 2 ^ 52 * (2 ^ k * 2 ^ k) → rootRound binary64 a ≡ ofBits binary64 (k * 2 ^ 52 + r)
+  pub root-at : (k r a : ℕ) → k < 2045 → r ≡ nearestRootOf (d * 2 ^ t * 2 ^ 52) → a ≡ d * 2 ^ t * 2 ^ 52 * (2 ^ k * 2 ^ k) → rootRound binary64 a ≡ ofBits binary64 (k * 2 ^ 52 + r)
   root-at k r a K near e =
       let is = root53 (d * 2 ^ t) r evened-least evened-most near in
       ap (rootRound binary64) e
@@ -98,7 +98,7 @@ module _ (b : ℕ) (lo : 2 ^ 52 ≤ b) (hi : b < 0x7ff0_0000_0000_0000) where
       (sym (normal b lo hi ∙ ap (λ (x : ℕ). odd 53 false x (b / 2 ^ 52 - 1) 1074) (add-comm (2 ^ 52) (b % 2 ^ 52))))
       (odd-sign 53 false (b % 2 ^ 52 + 2 ^ 52) (b / 2 ^ 52 - 1) 1074)
 
-  pub normal-root : (r : ℕ) → r ≡ nearestRoot (((b % 2 ^ 52 + 2 ^ 52) * 2 ^ ((b / 2 ^ 52 + 1) % 2)) % 2 ^ 64 * 2 ^ 52)
+  pub normal-root : (r : ℕ) → r ≡ nearestRootOf (((b % 2 ^ 52 + 2 ^ 52) * 2 ^ ((b / 2 ^ 52 + 1) % 2)) % 2 ^ 64 * 2 ^ 52)
       → ofBits binary64 ((b / 2 ^ 52 + 1021) / 2 * 2 ^ 52 + r) ≡ sqrtOf (ofBits binary64 b)
   normal-root r is =
       let d = b % 2 ^ 52 + 2 ^ 52 in
@@ -108,7 +108,7 @@ module _ (b : ℕ) (lo : 2 ^ 52 ≤ b) (hi : b < 0x7ff0_0000_0000_0000) where
       (sqrtOf-is (ofBits binary64 b)
       ∙ positive-root binary64 (ofBits binary64 b) (d * 2 ^ (b / 2 ^ 52 - 1)) value (mul-pos some (pow-pos (b / 2 ^ 52 - 1)))
       ∙ root-at d t digits-least digits-most even-most k r (d * 2 ^ (b / 2 ^ 52 - 1) * 2 ^ 1074) exponent-most
-      (subst (λ (m : ℕ). r ≡ nearestRoot (m * 2 ^ 52)) (evened-fits d t digits-least digits-most even-most) is)
+      (subst (λ (m : ℕ). r ≡ nearestRootOf (m * 2 ^ 52)) (evened-fits d t digits-least digits-most even-most) is)
       (powers d (b / 2 ^ 52 - 1) 1074 t k exponents))
 
 -- ---- a subnormal float
@@ -180,7 +180,7 @@ module _ (b s : ℕ) (some : 0 < b) (low : b < 2 ^ 52) (lo : 2 ^ 52 ≤ b * 2 ^ 
   sub-value : HasValue (ofBits binary64 b) false (b * 2 ^ 0) (2 ^ 1074)
   sub-value = subst (λ (x : Float). HasValue x false (b * 2 ^ 0) (2 ^ 1074)) (sym (subnormal b low)) (odd-sign 53 false b 0 1074)
 
-  pub subnormal-root : (r : ℕ) → r ≡ nearestRoot ((b * 2 ^ s * 2 ^ (s % 2)) % 2 ^ 64 * 2 ^ 52) → ofBits binary64 ((1022 - s) / 2 * 2 ^ 52 + r) ≡ sqrtOf (ofBits binary64 b)
+  pub subnormal-root : (r : ℕ) → r ≡ nearestRootOf ((b * 2 ^ s * 2 ^ (s % 2)) % 2 ^ 64 * 2 ^ 52) → ofBits binary64 ((1022 - s) / 2 * 2 ^ 52 + r) ≡ sqrtOf (ofBits binary64 b)
   subnormal-root r is =
       let t = s % 2 in
       let k = (1022 - s) / 2 in
@@ -188,7 +188,7 @@ module _ (b s : ℕ) (some : 0 < b) (low : b < 2 ^ 52) (lo : 2 ^ 52 ≤ b * 2 ^ 
       (sqrtOf-is (ofBits binary64 b)
       ∙ positive-root binary64 (ofBits binary64 b) (b * 2 ^ 0) sub-value (mul-pos some (pow-pos 0))
       ∙ root-at (b * 2 ^ s) t lo hi sub-even k r (b * 2 ^ 0 * 2 ^ 1074) sub-exponent
-      (subst (λ (m : ℕ). r ≡ nearestRoot (m * 2 ^ 52)) (evened-fits (b * 2 ^ s) t lo hi sub-even) is)
+      (subst (λ (m : ℕ). r ≡ nearestRootOf (m * 2 ^ 52)) (evened-fits (b * 2 ^ s) t lo hi sub-even) is)
       (powers b 0 1074 (s + t) k sub-exponents ∙ ap (λ (x : ℕ). x * 2 ^ 52 * (2 ^ k * 2 ^ k)) (split-power b s t)))
 
 -- ---- the other floats

@@ -5,7 +5,7 @@ use native.Mathlib.Nat.{pow-suc}
 use native.Mathlib.Numerals.{add-one}
 use native.Mathlib.Omega.{arith}
 use lib.Pow.{pow-mono}
-use Rattle.doubles.specs.Root.{nearestRoot}
+use Rattle.doubles.specs.Root.{nearestRootOf}
 use Rattle.doubles.proofs.Squares.{NearRoot}
 use Rattle.doubles.proofs.Whole.{nearest-of}
 
@@ -87,8 +87,8 @@ module _ (m n q r j : ℕ) (k : Kept m n q r j) (l : 53 ≤ j) (lo : 2 ^ 52 ≤ 
   some : 0 < m * 2 ^ 52
   some = omega arith
 
-  pub end-down : r ≤ q → q ≡ nearestRoot (m * 2 ^ 52)
+  pub end-down : r ≤ q → q ≡ nearestRootOf (m * 2 ^ 52)
   end-down h = nearest-of (m * 2 ^ 52) q (near-down q r (m * 2 ^ 52) whole h some)
 
-  pub end-up : q < r → q + 1 ≡ nearestRoot (m * 2 ^ 52)
+  pub end-up : q < r → q + 1 ≡ nearestRootOf (m * 2 ^ 52)
   end-up h = nearest-of (m * 2 ^ 52) (q + 1) (near-up q r (m * 2 ^ 52) whole (k .left) h)

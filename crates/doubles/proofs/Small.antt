@@ -13,7 +13,7 @@ use lib.Pow.{pow-pos}
 use lib.Ieee.Fits.{down-pos}
 use lib.Ieee.Exact.{HasValue, round-exact}
 use lib.Ieee.Scale.{round-same}
-use Rattle.doubles.specs.Doubles.{absOf, finiteOf}
+use Rattle.doubles.specs.Doubles.{absOf, isFiniteOf}
 use Rattle.doubles.proofs.Floats.{clash}
 
 clash' : false ≡ true → ⊥
@@ -154,8 +154,8 @@ unfolding sum
 same-sum true a c = cond-false (ltb a a) (round binary64 false (a - a) c) (round binary64 (ltb a a) (a - a) c) (le-ltb a a (le-refl a))
 same-sum false a c = cond-false (ltb a a) (round binary64 true (a - a) c) (round binary64 false (a - a) c) (le-ltb a a (le-refl a))
 
-pub finite-is : (x : Float) → eq (sub binary64 x x) (ofBits binary64 0) ≡ finiteOf x
-unfolding sub add neg eq finiteOf ofBits
+pub finite-is : (x : Float) → eq (sub binary64 x x) (ofBits binary64 0) ≡ isFiniteOf x
+unfolding sub add neg eq isFiniteOf ofBits
 finite-is nan = refl
 finite-is (inf true) = refl
 finite-is (inf false) = refl
@@ -172,8 +172,8 @@ zero-round : (s : Bool) (a c : ℕ) → 0 < c → round binary64 (s && ltb a a) 
 zero-round s a c p = rw (sub-self a, le-ltb a a (le-refl a), and-false s) (round-same binary64 false 0 c 0 1 p (pow-pos 0) (sym (zero-mul c)) ∙ zero-is)
 
 -- x - x is +0 for a finite x, and not a number for any other
-pub difference-of-itself : (x : Float) → sub binary64 x x ≡ cond (finiteOf x) (ofBits binary64 0) nan
-unfolding sub add neg finiteOf ofBits
+pub difference-of-itself : (x : Float) → sub binary64 x x ≡ cond (isFiniteOf x) (ofBits binary64 0) nan
+unfolding sub add neg isFiniteOf ofBits
 difference-of-itself nan = refl
 difference-of-itself (inf true) = refl
 difference-of-itself (inf false) = refl

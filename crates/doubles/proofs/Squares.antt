@@ -8,7 +8,7 @@ use lib.Dec.{T, ltb, leb, lt→ltb, le→leb, ltb→lt, leb→le, not-T}
 use lib.Pow.{pow-add, pow-pos}
 use lib.Ieee.Bits.{is-true, is-false}
 use lib.Ieee.Fits.{and-i, and-l, and-r}
-use Rattle.doubles.specs.Root.{isNearestRoot}
+use Rattle.doubles.specs.Root.{isNearestRootOf}
 
 -- q is the whole number nearest to √w: (q - 1/2) ^ 2 < w < (q + 1/2) ^ 2
 pub record NearRoot (w q : ℕ) : Type 0 where
@@ -21,12 +21,12 @@ pub record Root53 (m r : ℕ) : Type 0 where
   pub least : 2 ^ 52 ≤ r
   pub most : r < 2 ^ 53
 
-pub near-true : {w q : ℕ} → NearRoot w q → true ≡ isNearestRoot w q
-unfolding isNearestRoot
+pub near-true : {w q : ℕ} → NearRoot w q → true ≡ isNearestRootOf w q
+unfolding isNearestRootOf
 near-true {w} {q} n = sym (is-true _ (and-i (ltb (q * q) (w + q)) (leb w (q * q + q)) (lt→ltb _ _ (n .over)) (le→leb _ _ (n .under))))
 
-pub near-of-true : (w q : ℕ) → isNearestRoot w q ≡ true → NearRoot w q
-unfolding isNearestRoot
+pub near-of-true : (w q : ℕ) → isNearestRootOf w q ≡ true → NearRoot w q
+unfolding isNearestRootOf
 near-of-true w q e =
     let t = subst T (sym e) tt in
     record {
@@ -34,8 +34,8 @@ near-of-true w q e =
       under = leb→le w (q * q + q) (and-r (ltb (q * q) (w + q)) (leb w (q * q + q)) t);
     }
 
-pub near-false : {w q : ℕ} → (NearRoot w q → ⊥) → false ≡ isNearestRoot w q
-near-false {w} {q} refuted = sym (is-false (isNearestRoot w q) (not-T (isNearestRoot w q) (λ t. refuted (near-of-true w q (is-true (isNearestRoot w q) t)))))
+pub near-false : {w q : ℕ} → (NearRoot w q → ⊥) → false ≡ isNearestRootOf w q
+near-false {w} {q} refuted = sym (is-false (isNearestRootOf w q) (not-T (isNearestRootOf w q) (λ t. refuted (near-of-true w q (is-true (isNearestRootOf w q) t)))))
 
 pub product-lt : (i j : ℕ) {a b : ℕ} → a < 2 ^ i → b < 2 ^ j → a * b < 2 ^ (i + j)
 product-lt i j {a} {b} ha hb =
@@ -100,11 +100,11 @@ module _ (m q qq hh hl ll : ℕ) (s : qq ≡ hh * (2 ^ 27 * 2 ^ 27) + hl * (2 ^ 
 -- each answer of `pins`
 module _ (m q h l : ℕ) (k : Halves q h l) where
   abbrev is : Type 0
-  is = false ≡ isNearestRoot (m * 2 ^ 52) q
+  is = false ≡ isNearestRootOf (m * 2 ^ 52) q
 
   pub pinned : h * h * 4 ≤ m + 4 → h * l ≤ (m + 4 - h * h * 4) * 2 ^ 24 → l * l + 2 ^ 54 < ((m + 4 - h * h * 4) * 2 ^ 24 - h * l) * 2 ^ 28 + q
       → ((m + 4 - h * h * 4) * 2 ^ 24 - h * l) * 2 ^ 28 + q - (l * l + 2 ^ 54) ≤ q + q
-      → true ≡ isNearestRoot (m * 2 ^ 52) q
+      → true ≡ isNearestRootOf (m * 2 ^ 52) q
   pinned a b c d =
       let r = all-pass m q (q * q) (h * h) (h * l) (l * l) (k .square) a b c d in
       near-true (record { over = r .0; under = r .1 })

@@ -1,4 +1,4 @@
--- `wholeRoot n` is the largest r with r * r ≤ n. A q that is near the root of w (`NearRoot`) is `nearestRoot w`, and what `rootRound` rounds w * 4 ^ k to. Assumes nothing.
+-- `wholeRoot n` is the largest r with r * r ≤ n. A q that is near the root of w (`NearRoot`) is `nearestRootOf w`, and what `rootRound` rounds w * 4 ^ k to. Assumes nothing.
 use mathlib.Core.Path.{_≡_, refl, sym, ap, _∙_, subst}
 use Prim.Native.Nat.{ℕ, zero, suc, _+_, _-_, _*_, _/_, _%_, _^_, _≤_, _<_, compare, Ordering, Ordering·lt, Ordering·eq, Ordering·gt}
 use native.Mathlib.Nat.{le-refl, le-trans, le-of-eq, le-of-lt, le-suc, le-antisymm, le-of-suc-le-suc, lt-of-le-of-lt, lt-of-lt-of-le, lt-of-not-le, not-le-of-lt, lt-suc-self, mul-le-mul, mul-le-mul-left, mul-le-mul-right, mul-assoc, mul-mul-mul-comm, mul-pos, mul-lt-mul-of-pos-right, le-of-mul-le-mul-right, lt-of-mul-lt-mul-right, eq-of-mul-eq-mul-right, div-mul-le-self, div-lt-iff-lt-mul, pow-suc, pow-succ'}
@@ -10,7 +10,7 @@ use lib.Pow.{pow-pos, pow-add, pow-mono}
 use lib.Ieee.{Float, Format, prec, size, nearest, units}
 use lib.Ieee.Digits.{size-lt, size-le, size-reaches}
 use lib.Ieee.Fits.{two}
-use Rattle.doubles.specs.Root.{rootIn, wholeRoot, rootRound, nearestRoot}
+use Rattle.doubles.specs.Root.{rootIn, wholeRoot, rootRound, nearestRootOf}
 use Rattle.doubles.proofs.Squares.{NearRoot, Root53}
 
 -- ---- the whole part of a root
@@ -97,7 +97,7 @@ above-half w q v n a b = le-antisymm (le-of-suc-le-suc (lt-of-not-le not-more)) 
     not-less : q ≤ v → ⊥
     not-less g = less (n .under) (mul-le-mul g g) g
 
--- ---- `nearestRoot` is the one number that is near
+-- ---- `nearestRootOf` is the one number that is near
 
 near-low : (w v : ℕ) → 0 < w → v * v ≤ w → w ≤ v * v + v → NearRoot w v
 near-low w v p a b = record { over = fine v p a b; under = b }
@@ -113,8 +113,8 @@ near-pick : (w v : ℕ) (t : Bool) → 0 < w → (T t → w ≤ v * v + v) → (
 near-pick w v true p h k is = near-low w v p (is .0) (h tt)
 near-pick w v false p h k is = near-high w v (k tt) (is .1)
 
-pub near-nearest : (w : ℕ) → 0 < w → NearRoot w (nearestRoot w)
-unfolding nearestRoot
+pub near-nearest : (w : ℕ) → 0 < w → NearRoot w (nearestRootOf w)
+unfolding nearestRootOf
 near-nearest w p =
     let v = wholeRoot w in
     near-pick w v (leb w (v * v + v)) p (leb→le w (v * v + v)) (nleb→lt w (v * v + v)) (wholeRoot-is w)
@@ -123,14 +123,14 @@ pick-is : (w q v : ℕ) (t : Bool) → NearRoot w q → (T t → w ≤ v * v + v
 pick-is w q v true n h k is = below-half w q v n (is .0) (h tt)
 pick-is w q v false n h k is = above-half w q v n (k tt) (is .1)
 
-pub nearest-of : (w q : ℕ) → NearRoot w q → q ≡ nearestRoot w
-unfolding nearestRoot
+pub nearest-of : (w q : ℕ) → NearRoot w q → q ≡ nearestRootOf w
+unfolding nearestRootOf
 nearest-of w q n =
     let v = wholeRoot w in
     pick-is w q v (leb w (v * v + v)) n (leb→le w (v * v + v)) (nleb→lt w (v * v + v)) (wholeRoot-is w)
 
 -- with 53 digits where m has 53 or 54 and is not the last of them
-pub root53 : (m r : ℕ) → 2 ^ 52 ≤ m → m + 1 < 2 ^ 54 → r ≡ nearestRoot (m * 2 ^ 52) → Root53 m r
+pub root53 : (m r : ℕ) → 2 ^ 52 ≤ m → m + 1 < 2 ^ 54 → r ≡ nearestRootOf (m * 2 ^ 52) → Root53 m r
 root53 m r lo hi e =
     let n : NearRoot (m * 2 ^ 52) r = subst (NearRoot (m * 2 ^ 52)) (sym e) (near-nearest (m * 2 ^ 52) (some m lo)) in
     record {

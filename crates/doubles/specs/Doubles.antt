@@ -18,7 +18,7 @@ unfoldable pub maxZeroOf : Float → Float
 maxZeroOf x = cond (lt (ofBits binary64 0) x) x (ofBits binary64 0)
 
 -- IEEE 754 `isFinite`: neither NaN nor infinite
-unfoldable pub finiteOf : Float → Bool
-finiteOf nan = false
-finiteOf (inf s) = false
-finiteOf (fin s m e) = true
+unfoldable pub isFiniteOf : Float → Bool
+isFiniteOf nan = false
+isFiniteOf (inf s) = false
+isFiniteOf (fin s m e) = true

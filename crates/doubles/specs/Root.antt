@@ -41,10 +41,10 @@ sqrtOf x = sqrtIn binary64 x
 -- ---- on whole numbers: what the functions that `sqrt` calls answer
 
 -- the whole number nearest to √w, which never lies halfway between two: the whole part q, or one more from (q + 1/2) ^ 2 on
-unfoldable pub nearestRoot : ℕ → ℕ
+unfoldable pub nearestRootOf : ℕ → ℕ
 unfolding wholeRoot
-nearestRoot w = let q = wholeRoot w in cond (leb w (q * q + q)) q (suc q)
+nearestRootOf w = let q = wholeRoot w in cond (leb w (q * q + q)) q (suc q)
 
 -- whether q is that number, for a q above 0: (q - 1/2) ^ 2 < w < (q + 1/2) ^ 2
-unfoldable pub isNearestRoot : ℕ → ℕ → Bool
-isNearestRoot w q = ltb (q * q) (w + q) && leb w (q * q + q)
+unfoldable pub isNearestRootOf : ℕ → ℕ → Bool
+isNearestRootOf w q = ltb (q * q) (w + q) && leb w (q * q + q)

@@ -7,7 +7,7 @@ pub use root::sqrt;
 ghost use mathlib.Core.Path.{_≡_};
 ghost use mathlib.Core.Bool.{false};
 ghost use lib.Ieee.{inf, binary64, lt, le, ofBits, toBits, toUnsigned};
-ghost use Rattle.doubles.specs.Doubles.{absOf, clampOf, maxZeroOf, finiteOf};
+ghost use Rattle.doubles.specs.Doubles.{absOf, clampOf, maxZeroOf, isFiniteOf};
 
 // The double of a bit pattern. Every NaN pattern gives the one NaN.
 pub fn from_bits(b: u64) -> f64
@@ -95,7 +95,7 @@ pub fn max_zero(x: f64) -> f64
 
 // `x.is_finite()`.
 pub fn is_finite(x: f64) -> bool
-    ensures { λ r. ⌜ r ≡ finiteOf x ⌝ }
+    ensures { λ r. ⌜ r ≡ isFiniteOf x ⌝ }
 {
     x - x == 0.0
 }

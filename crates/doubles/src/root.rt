@@ -3,7 +3,7 @@
 ghost use mathlib.Core.Path.{_≡_};
 ghost use Prim.Native.Nat.{_+_, _*_, _^_, _≤_, _<_};
 ghost use lib.Ieee.{ofBits, binary64};
-ghost use Rattle.doubles.specs.Root.{sqrtOf, nearestRoot, isNearestRoot};
+ghost use Rattle.doubles.specs.Root.{sqrtOf, nearestRootOf, isNearestRootOf};
 ghost use Rattle.doubles.specs.Guess.{guessOf};
 
 // Whether q is the whole number nearest to the root of m * 2^52.
@@ -11,7 +11,7 @@ ghost use Rattle.doubles.specs.Guess.{guessOf};
 // and 2^54 is added on the way so that no difference is negative.
 fn pins(m: u64, q: u64) -> bool
     requires { ⌜ (m < 2 ^ 54) × (q < 2 ^ 53) ⌝ }
-    ensures { λ r. ⌜ r ≡ isNearestRoot (m * 2 ^ 52) q ⌝ }
+    ensures { λ r. ⌜ r ≡ isNearestRootOf (m * 2 ^ 52) q ⌝ }
 {
     let h = q / 0x800_0000;
     let l = q % 0x800_0000;
@@ -73,7 +73,7 @@ fn guess(b: u64) -> f64
 // fails.
 fn slow_root(m: u64) -> u64
     requires { ⌜ (2 ^ 52 ≤ m) × (m + 1 < 2 ^ 54) ⌝ }
-    ensures { λ r. ⌜ r ≡ nearestRoot (m * 2 ^ 52) ⌝ }
+    ensures { λ r. ⌜ r ≡ nearestRootOf (m * 2 ^ 52) ⌝ }
 {
     let mut n = m;
     let mut q: u64 = 0;

@@ -36,9 +36,9 @@ pub data Checked (A : Type 0) : Type 0 where
   refusedAt : ℕ → ℕ → Checked A
 
 -- what the code's check says
-abbrev pub checkOf : Check → Checked Unit
-checkOf Passed = passed tt
-checkOf (Refused e place) = refusedAt (numberOf e) place
+abbrev pub asChecked : Check → Checked Unit
+asChecked Passed = passed tt
+asChecked (Refused e place) = refusedAt (numberOf e) place
 
 -- the second answer, unless the check before it refuses
 abbrev pub after : {A : Type 0} → Checked Unit → Checked A → Checked A

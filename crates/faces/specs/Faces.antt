@@ -8,11 +8,11 @@ use lib.Ieee.{Float, nan}
 use lib.ListN.{getD}
 use Rattle.rays.specs.declared.Ray.{Ray}
 use Rattle.rays.specs.Vectors.{vec3}
-use Rattle.nearest.specs.Nearest.{nearerOf, nearestOf}
+use Rattle.nearest.specs.Nearest.{nearerOf, nearestAmong}
 use Rattle.detector.specs.declared.Detector2D.{Detector2D}
 use Rattle.detector.specs.declared.face.Face.{Face}
 use Rattle.detector.specs.declared.face.Crossing.{Crossing}
-use Rattle.detector.specs.Faces.{faceOf, crossingOf}
+use Rattle.detector.specs.Faces.{faceOf, faceIntersectRayOf}
 use Rattle.detectors.specs.declared.Detectors.{Detectors}
 use Rattle.detectors.specs.Detectors.{maxDetectors, detectorAt}
 use Rattle.faces.specs.declared.Faces.{Faces}
@@ -35,8 +35,8 @@ noFace =
 abbrev faceIn : List Detector2D → ℕ → Face
 faceIn l i = faceOf (detectorAt l i)
 
-unfoldable pub facesOf : Detectors → Faces
-facesOf ds =
+unfoldable pub newFacesOf : Detectors → Faces
+newFacesOf ds =
     let l = ds .list in
     record {
       list = faceIn l 0 ∷ faceIn l 1 ∷ faceIn l 2 ∷ faceIn l 3 ∷ faceIn l 4 ∷ faceIn l 5 ∷ faceIn l 6 ∷ faceIn l 7 ∷ [];
@@ -51,21 +51,21 @@ unfoldable pub sightFrom : ℕ → Option Crossing → Option Sight
 sightFrom i (some c) = some (record { detector = record { 0 = i }; crossing = c })
 sightFrom i none = none
 
-abbrev pub sightsOf : List Face → Ray → ℕ → Option Sight
-sightsOf l r i = sightFrom i (crossingOf (getD l i noFace) r)
+abbrev pub sights : List Face → Ray → ℕ → Option Sight
+sights l r i = sightFrom i (faceIntersectRayOf (getD l i noFace) r)
 
 -- the best so far, or what detector i offers if that is one of the first n
 unfoldable pub seenOf : ℕ → ℕ → Option Sight → Option Sight → Option Sight
 seenOf i n best offer = cond (ltb i n) (nearerOf Sight sightDistance best offer) best
 
 -- how many faces there are; a list that 3 refuses has 8
-unfoldable pub shownOf : ℕ → ℕ
-shownOf n = cond (leb n maxDetectors) n maxDetectors
+unfoldable pub faceCountOf : ℕ → ℕ
+faceCountOf n = cond (leb n maxDetectors) n maxDetectors
 
 unfoldable pub nearestDetectorOf : Faces → Ray → Option Sight
-nearestDetectorOf fs r = nearestOf Sight sightDistance (sightsOf (fs .list) r) (shownOf (fs .count))
+nearestDetectorOf fs r = nearestAmong Sight sightDistance (sights (fs .list) r) (faceCountOf (fs .count))
 
 -- what the code's answer says
-abbrev pub sightOf : Sighting → Option Sight
-sightOf (Seen s) = some s
-sightOf Nothing = none
+abbrev pub asSight : Sighting → Option Sight
+asSight (Seen s) = some s
+asSight Nothing = none

@@ -9,9 +9,9 @@ use rays::Ray;
 ghost use mathlib.Core.Path.{_≡_};
 ghost use Prim.Native.Nat.{_≤_};
 ghost use Rattle.nearest.specs.Nearest.{distanceOf, nearerOf};
-ghost use Rattle.detector.specs.Faces.{crossingOf};
+ghost use Rattle.detector.specs.Faces.{faceIntersectRayOf};
 ghost use Rattle.faces.specs.declared.Sight.{Sight};
-ghost use Rattle.faces.specs.Faces.{facesOf, sightDistance, sightFrom, seenOf, shownOf, nearestDetectorOf, sightOf};
+ghost use Rattle.faces.specs.Faces.{newFacesOf, sightDistance, sightFrom, seenOf, faceCountOf, nearestDetectorOf, asSight};
 
 pub struct Faces {
     pub list: [Face; 8],
@@ -31,7 +31,7 @@ pub enum Sighting {
 
 // Infinite for nothing.
 fn distance(best: Sighting) -> f64
-    ensures { λ r. ⌜ r ≡ distanceOf Sight sightDistance (sightOf best) ⌝ }
+    ensures { λ r. ⌜ r ≡ distanceOf Sight sightDistance (asSight best) ⌝ }
 {
     match best {
         Sighting::Seen(s) => s.crossing.t,
@@ -41,7 +41,7 @@ fn distance(best: Sighting) -> f64
 
 // The best so far, or the crossing of detector i.
 fn nearer(face: Face, i: u32, ray: Ray, best: Sighting) -> Sighting
-    ensures { λ r. ⌜ sightOf r ≡ nearerOf Sight sightDistance (sightOf best) (sightFrom i (crossingOf face ray)) ⌝ }
+    ensures { λ r. ⌜ asSight r ≡ nearerOf Sight sightDistance (asSight best) (sightFrom i (faceIntersectRayOf face ray)) ⌝ }
 {
     match face.intersect_ray(ray) {
         Crossed::At(crossing) => {
@@ -59,7 +59,7 @@ fn nearer(face: Face, i: u32, ray: Ray, best: Sighting) -> Sighting
 
 // The best so far, or the crossing of detector i if that is one of the first n.
 fn seen(face: Face, i: u32, n: u32, ray: Ray, best: Sighting) -> Sighting
-    ensures { λ r. ⌜ sightOf r ≡ seenOf i n (sightOf best) (sightFrom i (crossingOf face ray)) ⌝ }
+    ensures { λ r. ⌜ asSight r ≡ seenOf i n (asSight best) (sightFrom i (faceIntersectRayOf face ray)) ⌝ }
 {
     if i < n {
         return nearer(face, i, ray, best);
@@ -69,7 +69,7 @@ fn seen(face: Face, i: u32, n: u32, ray: Ray, best: Sighting) -> Sighting
 
 // At most the 8 that the list has.
 fn shown(count: u32) -> u32
-    ensures { λ r. ⌜ (r ≡ shownOf count) × (r ≤ 8) ⌝ }
+    ensures { λ r. ⌜ (r ≡ faceCountOf count) × (r ≤ 8) ⌝ }
 {
     if count <= Detectors::MAX {
         return count;
@@ -79,7 +79,7 @@ fn shown(count: u32) -> u32
 
 impl Faces {
     pub fn new(detectors: Detectors) -> Faces
-        ensures { λ r. ⌜ r ≡ facesOf detectors ⌝ }
+        ensures { λ r. ⌜ r ≡ newFacesOf detectors ⌝ }
     {
         let l = detectors.list;
         let d0 = l[0];
@@ -108,7 +108,7 @@ impl Faces {
     // The nearest detector that a ray crosses; the first listed wins ties. Written out eight times, so that
     // each face is read where it stands: an index that is worked out would have the list copied first.
     pub fn nearest(self, ray: Ray) -> Sighting
-        ensures { λ r. ⌜ sightOf r ≡ nearestDetectorOf self ray ⌝ }
+        ensures { λ r. ⌜ asSight r ≡ nearestDetectorOf self ray ⌝ }
     {
         let list = self.list;
         let n = shown(self.count);

@@ -10,7 +10,7 @@ use lib.Dec.{T, eqb, ltb}
 use lib.ListN.{length, drop, getD, drop-of-length-le}
 use lib.Seq.{drop-cons}
 use borrow.Author.Tests.{lt-ltb, le-ltb, eq-eqb, ne-eqb, ltb-true, ltb-false}
-use Rattle.fields.specs.Number.{Read, number, malformed, digitOf, isHex, hexPad, digitAtOf, bitsOf, isDecimal, decimalFrom, ledBy, wholeOf}
+use Rattle.fields.specs.Number.{Read, number, malformed, digitOf, isHexOf, hexPadOf, digitAtOf, readBitsOf, isDecimal, decimalFrom, isLedByZeroOf, readWholeOf}
 
 clash : false ≡ true → ⊥
 clash e = subst T (sym e) tt
@@ -24,35 +24,35 @@ pub pow-fits : (v i d : ℕ) → v < 16 ^ i → i < 16 → d < 16 → v * 16 + d
 pow-fits v i d p h q = lt-of-lt-of-le (pow-turn v i d p q) (let k : i + 1 ≤ 16 = omega arith in let z : 0 < 16 = omega arith in pow-le-pow-right z {i = i + 1} {j = 16} k)
 
 module _ (t : List ℕ) (i : ℕ) (h : i < length t) where
-  pub hex-turn : (z : Bool) → digitOf (getD t i 0) < 16 → isHex (drop i t) ≡ z → isHex (drop (i + 1) t) ≡ z
-  unfolding isHex
+  pub hex-turn : (z : Bool) → digitOf (getD t i 0) < 16 → isHexOf (drop i t) ≡ z → isHexOf (drop (i + 1) t) ≡ z
+  unfolding isHexOf
   hex-turn z q e = let e2 = rw (drop-cons t i 0 h) at e in rw add-one (simp (lt-ltb _ _ q) at e2)
 
-  pub hex-stop : (z : Bool) → 16 ≤ digitOf (getD t i 0) → isHex (drop i t) ≡ z → false ≡ z
-  unfolding isHex
+  pub hex-stop : (z : Bool) → 16 ≤ digitOf (getD t i 0) → isHexOf (drop i t) ≡ z → false ≡ z
+  unfolding isHexOf
   hex-stop z q e = let e2 = rw (drop-cons t i 0 h) at e in simp (le-ltb _ _ q) at e2
 
-  hex-here : isHex (drop i t) ≡ true → digitOf (getD t i 0) < 16
-  unfolding isHex
+  hex-here : isHexOf (drop i t) ≡ true → digitOf (getD t i 0) < 16
+  unfolding isHexOf
   hex-here e = go (ltb (digitOf (getD t i 0)) 16) refl (rw (drop-cons t i 0 h) at e)
     where
-      go : (b : Bool) → ltb (digitOf (getD t i 0)) 16 ≡ b → cond (ltb (digitOf (getD t i 0)) 16) (isHex (drop (suc i) t)) false ≡ true → digitOf (getD t i 0) < 16
+      go : (b : Bool) → ltb (digitOf (getD t i 0)) 16 ≡ b → cond (ltb (digitOf (getD t i 0)) 16) (isHexOf (drop (suc i) t)) false ≡ true → digitOf (getD t i 0) < 16
       go true q e = ltb-true _ _ q
       go false q e = absurd (clash (simp q at e))
 
-  pad-turn : (v w : ℕ) → i < 16 → hexPad v (16 - i) (drop i t) ≡ w → hexPad (v * 16 + digitOf (getD t i 0)) (16 - (i + 1)) (drop (i + 1) t) ≡ w
-  unfolding hexPad
+  pad-turn : (v w : ℕ) → i < 16 → hexPadOf v (16 - i) (drop i t) ≡ w → hexPadOf (v * 16 + digitOf (getD t i 0)) (16 - (i + 1)) (drop (i + 1) t) ≡ w
+  unfolding hexPadOf
   pad-turn v w p e =
       let q : 16 - i ≡ suc (16 - (i + 1)) = omega arith in
       let e2 = rw (drop-cons t i 0 h, q) at e in
       rw (add-one i) (rw (add-one i) at e2)
 
-pub hex-end : (t : List ℕ) (i : ℕ) (z : Bool) → length t ≤ i → isHex (drop i t) ≡ z → true ≡ z
-unfolding isHex
+pub hex-end : (t : List ℕ) (i : ℕ) (z : Bool) → length t ≤ i → isHexOf (drop i t) ≡ z → true ≡ z
+unfolding isHexOf
 hex-end t i z h e = rw (drop-of-length-le t h) at e
 
-pad-zeros : (t : List ℕ) (v i w : ℕ) → length t ≤ i → i < 16 → hexPad v (16 - i) (drop i t) ≡ w → hexPad (v * 16 + 0) (16 - (i + 1)) (drop (i + 1) t) ≡ w
-unfolding hexPad
+pad-zeros : (t : List ℕ) (v i w : ℕ) → length t ≤ i → i < 16 → hexPadOf v (16 - i) (drop i t) ≡ w → hexPadOf (v * 16 + 0) (16 - (i + 1)) (drop (i + 1) t) ≡ w
+unfolding hexPadOf
 pad-zeros t v i w h p e =
     let q : 16 - i ≡ suc (16 - (i + 1)) = omega arith in
     let k : length t ≤ i + 1 = omega arith in
@@ -60,33 +60,33 @@ pad-zeros t v i w h p e =
     rw (drop-of-length-le t k, z) (rw (drop-of-length-le t h, q) at e)
 
 -- the same at any place, past the end too
-pub pad-step : (t : List ℕ) (v i w : ℕ) → i < 16 → hexPad v (16 - i) (drop i t) ≡ w → hexPad (v * 16 + digitAtOf t i) (16 - (i + 1)) (drop (i + 1) t) ≡ w
+pub pad-step : (t : List ℕ) (v i w : ℕ) → i < 16 → hexPadOf v (16 - i) (drop i t) ≡ w → hexPadOf (v * 16 + digitAtOf t i) (16 - (i + 1)) (drop (i + 1) t) ≡ w
 unfolding digitAtOf
 pad-step t v i w p e = go (ltb i (length t)) refl
   where
-    go : (b : Bool) → ltb i (length t) ≡ b → hexPad (v * 16 + cond (ltb i (length t)) (digitOf (getD t i 0)) 0) (16 - (i + 1)) (drop (i + 1) t) ≡ w
+    go : (b : Bool) → ltb i (length t) ≡ b → hexPadOf (v * 16 + cond (ltb i (length t)) (digitOf (getD t i 0)) 0) (16 - (i + 1)) (drop (i + 1) t) ≡ w
     go true q = rw q (pad-turn t i (ltb-true _ _ q) v w p e)
     go false q = rw q (pad-zeros t v i w (ltb-false _ _ q) p e)
 
-pub pad-done : (t : List ℕ) (v i w : ℕ) → 16 ≤ i → hexPad v (16 - i) (drop i t) ≡ w → v ≡ w
-unfolding hexPad
+pub pad-done : (t : List ℕ) (v i w : ℕ) → 16 ≤ i → hexPadOf v (16 - i) (drop i t) ≡ w → v ≡ w
+unfolding hexPadOf
 pad-done t v i w h e = let q : 16 - i ≡ 0 = omega arith in rw q at e
 
 -- every digit of a hex text is below 16, and so are the zeros behind it
-hex-tail : (b : ℕ) (t : List ℕ) → isHex (b ∷ t) ≡ true → isHex t ≡ true
-unfolding isHex
+hex-tail : (b : ℕ) (t : List ℕ) → isHexOf (b ∷ t) ≡ true → isHexOf t ≡ true
+unfolding isHexOf
 hex-tail b t e = go (ltb (digitOf b) 16) e
   where
-    go : (x : Bool) → cond x (isHex t) false ≡ true → isHex t ≡ true
+    go : (x : Bool) → cond x (isHexOf t) false ≡ true → isHexOf t ≡ true
     go true e = e
     go false e = absurd (clash e)
 
-hex-drop : (t : List ℕ) (i : ℕ) → isHex t ≡ true → isHex (drop i t) ≡ true
+hex-drop : (t : List ℕ) (i : ℕ) → isHexOf t ≡ true → isHexOf (drop i t) ≡ true
 hex-drop t zero e = e
 hex-drop [] (suc i) e = e
 hex-drop (b ∷ t) (suc i) e = hex-drop t i (hex-tail b t e)
 
-pub digit-at-lt : (t : List ℕ) (i : ℕ) → isHex t ≡ true → digitAtOf t i < 16
+pub digit-at-lt : (t : List ℕ) (i : ℕ) → isHexOf t ≡ true → digitAtOf t i < 16
 unfolding digitAtOf
 digit-at-lt t i e = go (ltb i (length t)) refl
   where
@@ -125,28 +125,28 @@ from-end t i v w h e = rw (drop-of-length-le t h) at e
 -- ---- each answer of `read_whole`
 
 module _ (t : List ℕ) where
-  pub whole-none : length t ≡ 0 → malformed ≡ wholeOf t
-  unfolding wholeOf
+  pub whole-none : length t ≡ 0 → malformed ≡ readWholeOf t
+  unfolding readWholeOf
   whole-none e = simp (eq-eqb _ _ e)
 
   module _ (n : length t ≡ 0 → ⊥) where
-    pub whole-led : ledBy t ≡ true → malformed ≡ wholeOf t
-    unfolding wholeOf
+    pub whole-led : isLedByZeroOf t ≡ true → malformed ≡ readWholeOf t
+    unfolding readWholeOf
     whole-led l = simp (ne-eqb _ _ n, l)
 
-    module _ (l : ledBy t ≡ false) where
-      pub whole-bad : isDecimal t ≡ false → malformed ≡ wholeOf t
-      unfolding wholeOf
+    module _ (l : isLedByZeroOf t ≡ false) where
+      pub whole-bad : isDecimal t ≡ false → malformed ≡ readWholeOf t
+      unfolding readWholeOf
       whole-bad e = simp (ne-eqb _ _ n, l, e)
 
-      pub whole-big : 2 ^ 32 ≤ decimalFrom 0 t → malformed ≡ wholeOf t
-      unfolding wholeOf
+      pub whole-big : 2 ^ 32 ≤ decimalFrom 0 t → malformed ≡ readWholeOf t
+      unfolding readWholeOf
       whole-big e = simp (ne-eqb _ _ n, l, le-ltb _ _ e) (same (isDecimal t))
         where
           same : (b : Bool) → malformed ≡ cond b malformed malformed
           same true = refl
           same false = refl
 
-      pub whole-is : (v : ℕ) → isDecimal t ≡ true → v ≡ decimalFrom 0 t → v < 2 ^ 32 → number v ≡ wholeOf t
-      unfolding wholeOf
+      pub whole-is : (v : ℕ) → isDecimal t ≡ true → v ≡ decimalFrom 0 t → v < 2 ^ 32 → number v ≡ readWholeOf t
+      unfolding readWholeOf
       whole-is v e w b = let b2 : decimalFrom 0 t < 2 ^ 32 = rw w at b in simp (ne-eqb _ _ n, l, e, lt-ltb _ _ b2, w)

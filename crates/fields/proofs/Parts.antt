@@ -10,7 +10,7 @@ use lib.Dec.{eqb, ltb}
 use lib.ListN.{length, take, drop, getD, length-drop, drop-of-length-le}
 use lib.Seq.{drop-cons, drop-drop}
 use borrow.Author.Tests.{lt-ltb, le-ltb, eq-eqb, ne-eqb, ltb-true, ltb-false, eqb-true, eqb-false}
-use Rattle.fields.specs.Split.{before, later, split, ended, linesOf, endOf, afterOf, partsAt}
+use Rattle.fields.specs.Split.{before, later, split, ended, textLines, endAtOf, afterOf, partsAt}
 
 -- ---- what stands before the first b
 
@@ -85,18 +85,18 @@ module _ (s : List ℕ) (b i e : ℕ) where
 -- ---- the end of a part
 
 module _ (s : List ℕ) (at b : ℕ) where
-  pub end-le : at ≤ length s → endOf s at b ≤ length s
-  unfolding endOf
+  pub end-le : at ≤ length s → endAtOf s at b ≤ length s
+  unfolding endAtOf
   end-le h =
       let k : length (before b (drop at s)) ≤ length s - at = rw (length-drop at s) at (before-le b (drop at s)) in
       omega arith
 
-  pub end-ge : at ≤ endOf s at b
-  unfolding endOf
+  pub end-ge : at ≤ endAtOf s at b
+  unfolding endAtOf
   end-ge = omega arith
 
-  pub end-part : take (endOf s at b - at) (drop at s) ≡ before b (drop at s)
-  unfolding endOf
+  pub end-part : take (endAtOf s at b - at) (drop at s) ≡ before b (drop at s)
+  unfolding endAtOf
   end-part = rw (back at (length (before b (drop at s)))) (before-take b (drop at s))
     where
       back : (a n : ℕ) → a + n - a ≡ n
@@ -146,8 +146,8 @@ parts-drop b s at k h = go (ltb (length s) (at + k)) refl
         let m : k ≤ length (drop at s) = rw (length-drop at s) (omega arith) in
         simp (e, le-ltb _ _ m, drop-drop)
 
-pub later-after : (s : List ℕ) (at b : ℕ) → at ≤ length s → later b (drop at s) ≡ partsAt b s (endOf s at b + 1)
-unfolding endOf
+pub later-after : (s : List ℕ) (at b : ℕ) → at ≤ length s → later b (drop at s) ≡ partsAt b s (endAtOf s at b + 1)
+unfolding endAtOf
 later-after s at b h =
     later-parts b (drop at s)
     ∙ parts-drop b s at (suc (length (before b (drop at s)))) h
@@ -161,7 +161,7 @@ pub after-turn : (s : List ℕ) (at b n : ℕ) → getD (partsAt b s (afterOf s 
 unfolding afterOf split
 after-turn s at b n = go (ltb (length s) at) refl
   where
-    go : (t : Bool) → ltb (length s) at ≡ t → getD (partsAt b s (cond (ltb (length s) at) at (endOf s at b + 1))) n [] ≡ getD (partsAt b s at) (suc n) []
+    go : (t : Bool) → ltb (length s) at ≡ t → getD (partsAt b s (cond (ltb (length s) at) at (endAtOf s at b + 1))) n [] ≡ getD (partsAt b s at) (suc n) []
     go true e =
         let h : length s < at = ltb-true _ _ e in
         simp (e, parts-past b s at h)
@@ -173,16 +173,16 @@ pub after-le : (s : List ℕ) (at b : ℕ) → at ≤ length s + 1 → afterOf s
 unfolding afterOf
 after-le s at b h = go (ltb (length s) at) refl
   where
-    go : (t : Bool) → ltb (length s) at ≡ t → cond (ltb (length s) at) at (endOf s at b + 1) ≤ length s + 1
+    go : (t : Bool) → ltb (length s) at ≡ t → cond (ltb (length s) at) at (endAtOf s at b + 1) ≤ length s + 1
     go true e = simp e h
     go false e = let k = end-le s at b (ltb-false _ _ e) in simp e (omega arith)
 
 -- ---- what `after`, `part_at` and `part` lean on
 
-pub end-in : (s : List ℕ) (at b e : ℕ) → e ≡ endOf s at b → at ≤ length s → (at ≤ e) × (e ≤ length s)
+pub end-in : (s : List ℕ) (at b e : ℕ) → e ≡ endAtOf s at b → at ≤ length s → (at ≤ e) × (e ≤ length s)
 end-in s at b e q h = rw q (end-ge s at b, end-le s at b h)
 
-pub part-is : (s : List ℕ) (at b e : ℕ) → e ≡ endOf s at b → at ≤ length s → take (e - at) (drop at s) ≡ getD (partsAt b s at) 0 []
+pub part-is : (s : List ℕ) (at b e : ℕ) → e ≡ endAtOf s at b → at ≤ length s → take (e - at) (drop at s) ≡ getD (partsAt b s at) 0 []
 unfolding split
 part-is s at b e q h = rw (q, parts-in b s at h) (end-part s at b)
 
@@ -210,13 +210,13 @@ unfolding ended split
 ended-more [] b m = refl
 ended-more (x ∷ l) b m = refl
 
-pub lines-none : linesOf [] ≡ []
-unfolding linesOf split ended before later
+pub lines-none : textLines [] ≡ []
+unfolding textLines split ended before later
 lines-none = refl
 
 -- the last line, where no LF follows
-last-line : (s : List ℕ) (at : ℕ) → at < length s → length s ≤ endOf s at 10 → ended (before 10 (drop at s) ∷ []) ≡ before 10 (drop at s) ∷ []
-unfolding endOf
+last-line : (s : List ℕ) (at : ℕ) → at < length s → length s ≤ endAtOf s at 10 → ended (before 10 (drop at s) ∷ []) ≡ before 10 (drop at s) ∷ []
+unfolding endAtOf
 last-line s at h k = go (eqb (getD s at 0) 10) refl
   where
     go : (t : Bool) → eqb (getD s at 0) 10 ≡ t → ended (before 10 (drop at s) ∷ []) ≡ before 10 (drop at s) ∷ []
@@ -226,17 +226,17 @@ last-line s at h k = go (eqb (getD s at 0) 10) refl
     go false e = rw (before-turn s at 10 h (eqb-false _ _ e)) (ended-cons _ _)
 
 -- a text that is not at its end has a line first, and then the lines after it
-pub lines-turn : (s : List ℕ) (at : ℕ) → at < length s → linesOf (drop at s) ≡ take (endOf s at 10 - at) (drop at s) ∷ linesOf (drop (endOf s at 10 + 1) s)
-unfolding linesOf split
+pub lines-turn : (s : List ℕ) (at : ℕ) → at < length s → textLines (drop at s) ≡ take (endAtOf s at 10 - at) (drop at s) ∷ textLines (drop (endAtOf s at 10 + 1) s)
+unfolding textLines split
 lines-turn s at h =
-    let e = endOf s at 10 in
+    let e = endAtOf s at 10 in
     let k : at ≤ length s = omega arith in
     rw (end-part s at 10) (go (ltb (length s) (e + 1)) refl (later-after s at 10 k))
   where
-    go : (t : Bool) → ltb (length s) (endOf s at 10 + 1) ≡ t → later 10 (drop at s) ≡ partsAt 10 s (endOf s at 10 + 1) → ended (before 10 (drop at s) ∷ later 10 (drop at s)) ≡ before 10 (drop at s) ∷ linesOf (drop (endOf s at 10 + 1) s)
+    go : (t : Bool) → ltb (length s) (endAtOf s at 10 + 1) ≡ t → later 10 (drop at s) ≡ partsAt 10 s (endAtOf s at 10 + 1) → ended (before 10 (drop at s) ∷ later 10 (drop at s)) ≡ before 10 (drop at s) ∷ textLines (drop (endAtOf s at 10 + 1) s)
     go true q p =
-        let f : length s < endOf s at 10 + 1 = ltb-true _ _ q in
-        let g : length s ≤ endOf s at 10 = omega arith in
-        let g2 : length s ≤ endOf s at 10 + 1 = omega arith in
-        rw (p ∙ parts-past 10 s (endOf s at 10 + 1) f, drop-of-length-le s g2, lines-none) (last-line s at h g)
-    go false q p = rw (p ∙ parts-in 10 s (endOf s at 10 + 1) (ltb-false _ _ q)) (ended-more (before 10 (drop at s)) 10 (drop (endOf s at 10 + 1) s))
+        let f : length s < endAtOf s at 10 + 1 = ltb-true _ _ q in
+        let g : length s ≤ endAtOf s at 10 = omega arith in
+        let g2 : length s ≤ endAtOf s at 10 + 1 = omega arith in
+        rw (p ∙ parts-past 10 s (endAtOf s at 10 + 1) f, drop-of-length-le s g2, lines-none) (last-line s at h g)
+    go false q p = rw (p ∙ parts-in 10 s (endAtOf s at 10 + 1) (ltb-false _ _ q)) (ended-more (before 10 (drop at s)) 10 (drop (endAtOf s at 10 + 1) s))

@@ -27,16 +27,16 @@ ended ((x ∷ l) ∷ []) = (x ∷ l) ∷ []
 ended (l ∷ m ∷ ls) = l ∷ ended (m ∷ ls)
 
 -- the lines of a text: what stands before each LF, and what follows the last one if there is anything
-unfoldable pub linesOf : List ℕ → List (List ℕ)
-linesOf t = ended (split 10 t)
+unfoldable pub textLines : List ℕ → List (List ℕ)
+textLines t = ended (split 10 t)
 
 -- the first place from `at` on that holds b, or the length; `at` itself if that lies past the length
-unfoldable pub endOf : List ℕ → ℕ → ℕ → ℕ
-endOf s at b = at + length (before b (drop at s))
+unfoldable pub endAtOf : List ℕ → ℕ → ℕ → ℕ
+endAtOf s at b = at + length (before b (drop at s))
 
 -- where the part after the one at `at` starts; past the length if there is none
 unfoldable pub afterOf : List ℕ → ℕ → ℕ → ℕ
-afterOf s at b = cond (ltb (length s) at) at (endOf s at b + 1)
+afterOf s at b = cond (ltb (length s) at) at (endAtOf s at b + 1)
 
 -- the parts from place `at` on
 unfoldable pub partsAt : ℕ → List ℕ → ℕ → List (List ℕ)

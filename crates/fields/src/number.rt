@@ -3,7 +3,7 @@ ghost use mathlib.Core.Path.{_≡_};
 ghost use mathlib.Core.Bool.{true};
 ghost use Prim.Native.Nat.{_≤_};
 ghost use lib.ListN.{length};
-ghost use Rattle.fields.specs.Number.{digitOf, digitAtOf, isHex, hexPad, bitsOf, readBitsOf, ledBy, wholeOf, readWholeOf};
+ghost use Rattle.fields.specs.Number.{digitOf, digitAtOf, isHexOf, hexPadOf, readBitsOf, asBits, isLedByZeroOf, readWholeOf, asWhole};
 
 pub enum ReadBits {
     Bits(u64),
@@ -35,7 +35,7 @@ fn digit(b: u8) -> u64
 }
 
 fn is_hex(t: &[u8]) -> bool
-    ensures { λ r. ⌜ r ≡ isHex (now (t .entry)) ⌝ }
+    ensures { λ r. ⌜ r ≡ isHexOf (now (t .entry)) ⌝ }
 {
     let mut i: usize = 0;
     while i < t.len() {
@@ -59,8 +59,8 @@ fn digit_at(t: &[u8], i: usize) -> u64
 
 // Sixteen digits, zeros understood on the right.
 fn hex_pad(t: &[u8]) -> u64
-    requires { ⌜ isHex (now t) ≡ true ⌝ }
-    ensures { λ r. ⌜ r ≡ hexPad 0 16 (now (t .entry)) ⌝ }
+    requires { ⌜ isHexOf (now t) ≡ true ⌝ }
+    ensures { λ r. ⌜ r ≡ hexPadOf 0 16 (now (t .entry)) ⌝ }
 {
     let mut v: u64 = 0;
     let mut i: usize = 0;
@@ -73,7 +73,7 @@ fn hex_pad(t: &[u8]) -> u64
 
 // The bits of a double: 1 to 16 lower-case hex digits, zeros understood on the right.
 pub fn read_bits(t: &[u8]) -> ReadBits
-    ensures { λ r. ⌜ readBitsOf r ≡ bitsOf (now (t .entry)) ⌝ }
+    ensures { λ r. ⌜ asBits r ≡ readBitsOf (now (t .entry)) ⌝ }
 {
     let n = t.len();
     if n == 0 {
@@ -90,7 +90,7 @@ pub fn read_bits(t: &[u8]) -> ReadBits
 
 // Whether a 0 stands before another byte.
 fn is_led_by_zero(t: &[u8]) -> bool
-    ensures { λ r. ⌜ r ≡ ledBy (now (t .entry)) ⌝ }
+    ensures { λ r. ⌜ r ≡ isLedByZeroOf (now (t .entry)) ⌝ }
 {
     if t.len() < 2 {
         return false;
@@ -100,7 +100,7 @@ fn is_led_by_zero(t: &[u8]) -> bool
 
 // A decimal below 2^32 without leading zeros.
 pub fn read_whole(t: &[u8]) -> ReadWhole
-    ensures { λ r. ⌜ readWholeOf r ≡ wholeOf (now (t .entry)) ⌝ }
+    ensures { λ r. ⌜ asWhole r ≡ readWholeOf (now (t .entry)) ⌝ }
 {
     let n = t.len();
     if n == 0 {

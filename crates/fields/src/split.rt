@@ -3,11 +3,11 @@ ghost use mathlib.Core.Path.{_≡_};
 ghost use mathlib.Core.List.{List, [], _∷_};
 ghost use Prim.Native.Nat.{_+_, _<_};
 ghost use lib.ListN.{length, getD, drop};
-ghost use Rattle.fields.specs.Split.{split, endOf, afterOf, partsAt, isByteOf};
+ghost use Rattle.fields.specs.Split.{split, endAtOf, afterOf, partsAt, isByteOf};
 
 // The first place from `at` on that holds b, or the text's length where there is none.
 pub fn end_of(s: &[u8], at: usize, b: u8) -> usize
-    ensures { λ r. ⌜ r ≡ endOf (now (s .entry)) at b ⌝ }
+    ensures { λ r. ⌜ r ≡ endAtOf (now (s .entry)) at b ⌝ }
 {
     let mut i = at;
     while i < s.len() {

@@ -14,19 +14,19 @@ use Rattle.detector.specs.Pixels.{pixelsOf, pixelAtOf}
 use Rattle.detector.specs.declared.DetectorHit.{DetectorHit}
 use Rattle.detectors.specs.Detectors.{detectorAt, firstPixelOf}
 use Rattle.memory.specs.Memory.{Memory, listed}
-use Rattle.memory.specs.Plain.{Empty, View, partOf, viewOf, plusHit, plusAll}
+use Rattle.memory.specs.Plain.{Empty, View, partIn, viewIn, plusHit, plusAll}
 use Rattle.memory.proofs.Booked.{Booked, booked-view, booked-pixels, booked-pixel}
 use Rattle.filter.specs.declared.RayPathFilter.{RayPathFilter}
 use Rattle.filter.specs.declared.RayPathFilter.the-variants.{All}
-use Rattle.filter.specs.Filters.{#0, Map, zeros, addedAtOf, plusOf, plusEach, passesOf, passing, refilledOf}
+use Rattle.filter.specs.Filters.{#0, Map, zeros, addAtOf, addHitOf, plusEach, passesOf, passing, refillOf}
 
 -- ---- a detector's view without its hit counts
 
 abbrev pub fluxOf : View → Map
 fluxOf v = record { flux = v .flux; total = v .total; count = v .count }
 
-plus-flux : (e : Detector2D) (v : View) (h : DetectorHit) → fluxOf (plusHit e v h) ≡ plusOf e (fluxOf v) h
-unfolding plusHit plusOf addedAtOf
+plus-flux : (e : Detector2D) (v : View) (h : DetectorHit) → fluxOf (plusHit e v h) ≡ addHitOf e (fluxOf v) h
+unfolding plusHit addHitOf addAtOf
 plus-flux e v h = refl
 
 and-true : (x : Bool) → (x && true) ≡ x
@@ -59,7 +59,7 @@ zero-part z (suc b) n (x ∷ l) k e = zero-part z b n l (omega arith) (λ p q. e
 -- ---- only a hit's place is read of the detector
 
 each-same : (e e′ : Detector2D) → ((x y : Float) → pixelAtOf e′ x y ≡ pixelAtOf e x y) → (b : List DetectorHit) (m : Map) → plusEach e′ m b ≡ plusEach e m b
-unfolding plusEach plusOf
+unfolding plusEach addHitOf
 each-same e e′ f [] m = refl
 each-same e e′ f (h ∷ b) m = rw (f (h .«local_x») (h .«local_y»)) (each-same e e′ f b _)
 
@@ -68,21 +68,21 @@ module _ (s : Memory) (eight : length (s .detectors .list) ≡ 8) (empty : Empty
   abbrev own : Detector2D
   own = detectorAt (m .detectors .list) (d .0)
 
-  start : fluxOf (viewOf s (d .0)) ≡ zeros (pixelsOf (detectorAt (s .detectors .list) (d .0)))
-  unfolding viewOf partOf
+  start : fluxOf (viewIn s (d .0)) ≡ zeros (pixelsOf (detectorAt (s .detectors .list) (d .0)))
+  unfolding viewIn partIn
   start = rw (empty .totals (d .0) there, empty .counts (d .0) there, zero-part #0 (firstPixelOf (s .detectors .list) (d .0)) (pixelsOf (detectorAt (s .detectors .list) (d .0))) (s .flux) within (empty .flux))
 
   -- the stored map, total and count are those that All would make anew
-  pub all-agrees : fluxOf (viewOf m (d .0)) ≡ refilledOf All d own (pixelsOf own) (listed m)
-  unfolding refilledOf
+  pub all-agrees : fluxOf (viewIn m (d .0)) ≡ refillOf All d own (pixelsOf own) (listed m)
+  unfolding refillOf
   all-agrees =
       ap fluxOf (booked-view s eight empty m (d .0) booked)
-      ∙ views-flux (detectorAt (s .detectors .list) (d .0)) d (listed m) (viewOf s (d .0))
+      ∙ views-flux (detectorAt (s .detectors .list) (d .0)) d (listed m) (viewIn s (d .0))
       ∙ ap (λ z. plusEach (detectorAt (s .detectors .list) (d .0)) z (passing All d (listed m))) start
       ∙ sym (each-same (detectorAt (s .detectors .list) (d .0)) own (booked-pixel s eight empty m (d .0) booked) (passing All d (listed m)) _)
       ∙ ap (λ n. plusEach own (zeros n) (passing All d (listed m))) (sym (booked-pixels s eight empty m (d .0) booked))
 
   -- so are those of any filter that lets all of the detector's hits through
-  pub full-agrees : (f : RayPathFilter) → passing f d (listed m) ≡ passing All d (listed m) → refilledOf f d own (pixelsOf own) (listed m) ≡ fluxOf (viewOf m (d .0))
-  unfolding refilledOf
+  pub full-agrees : (f : RayPathFilter) → passing f d (listed m) ≡ passing All d (listed m) → refillOf f d own (pixelsOf own) (listed m) ≡ fluxOf (viewIn m (d .0))
+  unfolding refillOf
   full-agrees f e = ap (plusEach own (zeros (pixelsOf own))) e ∙ sym all-agrees

@@ -19,12 +19,12 @@ use Rattle.detectors.specs.declared.Placed.{Placed}
 use Rattle.detectors.specs.declared.Found.{Found}
 use Rattle.detectors.specs.declared.Found.the-variants.{There, Refused}
 use Rattle.detector.specs.declared.DetectorHit.{DetectorHit}
-use Rattle.detectors.specs.Detectors.{allPixelsOf, placedOf, findOf, foundOf}
+use Rattle.detectors.specs.Detectors.{allPixelsOf, placedOf, findOf, asFound}
 use Rattle.memory.specs.Memory.{hitsFrom, isHitListOf}
 use Rattle.detectors.proofs.Passed.{asked-there, part-in}
 use Rattle.filter.specs.declared.RayPathFilter.{RayPathFilter}
-use Rattle.filter.specs.Filters.{#0, Map, isAllOf, refilledOf}
-use Rattle.filter.specs.Handed.{handed, fromMap, checkPlacedOf, checkFilterOf, refilterPlacedOf, refilterOf, storedPartOf, partPlacedOf, filteredPartOf, filteredPlacedOf, filteredPixelFluxOf, numbered, inNumbersOf}
+use Rattle.filter.specs.Filters.{#0, Map, isAllOf, refillOf}
+use Rattle.filter.specs.Handed.{handed, fromMap, checkPlaced, checkFilterOf, refilterPlaced, refilterOf, storedPartOf, partPlaced, filteredPartOf, filteredPlaced, filteredPixelFluxOf, numbered, inNumbers}
 
 -- ---- which of the two slices is handed back: what cannot be where a return stands
 
@@ -34,52 +34,52 @@ not-other b z e t f = absurd (clash (sym t ∙ e ∙ f))
 pub not-all : {A : Type 0} (b z : Bool) → b ≡ z → b ≡ false → z ≡ true → A
 not-all b z e f t = absurd (clash (sym t ∙ sym e ∙ f))
 
-pub not-passed : {A : Type 0} (a : Found) (c : Checked Placed) (x : NonSeqError) (place : ℕ) (p : Placed) → foundOf a ≡ c → a ≡ Refused x place → c ≡ passed p → A
-not-passed a c x place p said k e = never (numberOf x) place p (sym (ap foundOf k) ∙ said ∙ e)
+pub not-passed : {A : Type 0} (a : Found) (c : Checked Placed) (x : NonSeqError) (place : ℕ) (p : Placed) → asFound a ≡ c → a ≡ Refused x place → c ≡ passed p → A
+not-passed a c x place p said k e = never (numberOf x) place p (sym (ap asFound k) ∙ said ∙ e)
 
 -- ---- the returns; a is what the check answered
 module _ (ds : Detectors) (asked : DetectorNo) (f : RayPathFilter) (stored work values : List Float) (tags : List ℕ) (used : ℕ) (a : Found)
-    (said : foundOf a ≡ checkFilterOf ds asked (length stored) (length work) (length values) (length tags) used) where
+    (said : asFound a ≡ checkFilterOf ds asked (length stored) (length work) (length values) (length tags) used) where
   abbrev hits : List DetectorHit
   hits = hitsFrom values tags used 0
 
   module _ (x : NonSeqError) (place : ℕ) (k : a ≡ Refused x place) where
     pub refilter-refused : handed (refusedAt (numberOf x) place) work #0 0 ≡ refilterOf ds asked f stored work values tags used
-    unfolding refilterOf refilterPlacedOf
+    unfolding refilterOf refilterPlaced
     refilter-refused = rw (← said, k)
 
     pub part-refused : [] ≡ filteredPartOf ds asked f stored work values tags used
-    unfolding filteredPartOf partPlacedOf
+    unfolding filteredPartOf partPlaced
     part-refused = rw (← said, k)
 
-    pub flux-refused : (n : ℕ) → n ≡ numberOf x → numbered n place [] #0 0 ≡ inNumbersOf (filteredPixelFluxOf ds asked f stored work values tags used)
-    unfolding filteredPixelFluxOf filteredPlacedOf refilterPlacedOf partPlacedOf
+    pub flux-refused : (n : ℕ) → n ≡ numberOf x → numbered n place [] #0 0 ≡ inNumbers (filteredPixelFluxOf ds asked f stored work values tags used)
+    unfolding filteredPixelFluxOf filteredPlaced refilterPlaced partPlaced
     flux-refused n e = rw (← said, k, e)
 
   module _ (p : Placed) (k : a ≡ There p) (b : Bool) (told : b ≡ isAllOf f) where
     pub refilter-all : b ≡ true → handed (passed tt) work (p .detector .«total_flux_watts») (p .detector .«total_rays_hit») ≡ refilterOf ds asked f stored work values tags used
-    unfolding refilterOf refilterPlacedOf
+    unfolding refilterOf refilterPlaced
     refilter-all t = rw (← said, k, ← told, t)
 
-    pub refilter-sifted : b ≡ false → (m : Map) → m ≡ refilledOf f asked (p .detector) (length work) hits → fromMap m ≡ refilterOf ds asked f stored work values tags used
-    unfolding refilterOf refilterPlacedOf
+    pub refilter-sifted : b ≡ false → (m : Map) → m ≡ refillOf f asked (p .detector) (length work) hits → fromMap m ≡ refilterOf ds asked f stored work values tags used
+    unfolding refilterOf refilterPlaced
     refilter-sifted t m e = rw (← said, k, ← told, t, e)
 
     pub part-all : b ≡ true → (w : List Float) → w ≡ storedPartOf p stored → w ≡ filteredPartOf ds asked f stored work values tags used
-    unfolding filteredPartOf partPlacedOf
+    unfolding filteredPartOf partPlaced
     part-all t w e = rw (e, ← said, k, ← told, t)
 
     pub part-work : b ≡ false → work ≡ filteredPartOf ds asked f stored work values tags used
-    unfolding filteredPartOf partPlacedOf
+    unfolding filteredPartOf partPlaced
     part-work t = rw (← said, k, ← told, t)
 
     pub flux-all : b ≡ true → (w : List Float) → w ≡ storedPartOf p stored
         → handed (passed tt) w (p .detector .«total_flux_watts») (p .detector .«total_rays_hit») ≡ filteredPixelFluxOf ds asked f stored work values tags used
-    unfolding filteredPixelFluxOf filteredPlacedOf refilterPlacedOf partPlacedOf
+    unfolding filteredPixelFluxOf filteredPlaced refilterPlaced partPlaced
     flux-all t w e = rw (e, ← said, k, ← told, t)
 
-    pub flux-sifted : b ≡ false → (m : Map) → m ≡ refilledOf f asked (p .detector) (length work) hits → fromMap m ≡ filteredPixelFluxOf ds asked f stored work values tags used
-    unfolding filteredPixelFluxOf filteredPlacedOf refilterPlacedOf partPlacedOf
+    pub flux-sifted : b ≡ false → (m : Map) → m ≡ refillOf f asked (p .detector) (length work) hits → fromMap m ≡ filteredPixelFluxOf ds asked f stored work values tags used
+    unfolding filteredPixelFluxOf filteredPlaced refilterPlaced partPlaced
     flux-sifted t m e = rw (← said, k, ← told, t, e)
 
 -- the code's end of the part
@@ -89,9 +89,9 @@ part-ends p n stored e = let q : p .first + n - p .first ≡ pixelsOf (p .detect
 
 -- the part of the asked detector lies in the stored map
 pub part-fits : (ds : Detectors) (asked : DetectorNo) (stored work values tags used : ℕ) (a : Found) (p : Placed)
-    → foundOf a ≡ checkFilterOf ds asked stored work values tags used → a ≡ There p → p .first + pixelsOf (p .detector) ≤ stored
-unfolding checkFilterOf checkPlacedOf placedOf
-part-fits ds asked stored work values tags used a p said k = go (findOf ds asked) refl (sym said ∙ ap foundOf k)
+    → asFound a ≡ checkFilterOf ds asked stored work values tags used → a ≡ There p → p .first + pixelsOf (p .detector) ≤ stored
+unfolding checkFilterOf checkPlaced placedOf
+part-fits ds asked stored work values tags used a p said k = go (findOf ds asked) refl (sym said ∙ ap asFound k)
   where
     inner : (x y : Bool) (q : Placed) → eqb stored (allPixelsOf ds) ≡ x → findOf ds asked ≡ passed q → cond (x && y) (passed q) (refusedAt 9 0) ≡ passed p → p .first + pixelsOf (p .detector) ≤ stored
     inner false y q u v r = never 9 0 p r
@@ -101,6 +101,6 @@ part-fits ds asked stored work values tags used a p said k = go (findOf ds asked
         let z = part-in ds (asked .0) stored (t .0) (t .1) (eqb-true stored (allPixelsOf ds) u) in
         rw (t .2) z
 
-    go : (c : Checked Placed) → findOf ds asked ≡ c → checkPlacedOf ds stored work values tags used c ≡ passed p → p .first + pixelsOf (p .detector) ≤ stored
+    go : (c : Checked Placed) → findOf ds asked ≡ c → checkPlaced ds stored work values tags used c ≡ passed p → p .first + pixelsOf (p .detector) ≤ stored
     go (passed q) v r = inner (eqb stored (allPixelsOf ds)) (eqb work (pixelsOf (q .detector)) && isHitListOf values tags used) q refl v r
     go (refusedAt m place) v r = never m place p r

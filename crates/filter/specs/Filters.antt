@@ -17,8 +17,8 @@ abbrev pub lastFilter : ℕ
 lastFilter = 4
 
 -- numbers 0 to 4 in this order
-unfoldable pub filterOf : ℕ → RayPathFilter
-filterOf n = cond (eqb n 0) All (cond (eqb n 1) SignalOnly (cond (eqb n 2) GhostsOnly (cond (eqb n 3) TirOnly StrayLight)))
+unfoldable pub numberedFilterOf : ℕ → RayPathFilter
+numberedFilterOf n = cond (eqb n 0) All (cond (eqb n 1) SignalOnly (cond (eqb n 2) GhostsOnly (cond (eqb n 3) TirOnly StrayLight)))
 
 abbrev pub isAllOf : RayPathFilter → Bool
 isAllOf All = true
@@ -44,25 +44,25 @@ pub record Map : Type 0 where
   pub total : Float
   pub count : ℕ
 
-abbrev pub mapOf : Tally → List Float → Map
-mapOf t m = record { flux = m; total = t .total; count = t .count }
+abbrev pub asMap : Tally → List Float → Map
+asMap t m = record { flux = m; total = t .total; count = t .count }
 
 abbrev pub zeros : ℕ → Map
 zeros n = record { flux = replicate n #0; total = #0; count = 0 }
 
 -- a flux added at a place
-unfoldable pub addedAtOf : List Float → ℕ → Float → List Float
-addedAtOf m p x = set m p (add binary64 (getD m p nan) x)
+unfoldable pub addAtOf : List Float → ℕ → Float → List Float
+addAtOf m p x = set m p (add binary64 (getD m p nan) x)
 
 -- a hit of detector d added: to its pixel, to the total, to the count
-unfoldable pub plusOf : Detector2D → Map → DetectorHit → Map
-plusOf d m h =
+unfoldable pub addHitOf : Detector2D → Map → DetectorHit → Map
+addHitOf d m h =
     let p = pixelAtOf d (h .«local_x») (h .«local_y») in
-    record { flux = addedAtOf (m .flux) p (h .«flux_watts»); total = add binary64 (m .total) (h .«flux_watts»); count = m .count + 1 }
+    record { flux = addAtOf (m .flux) p (h .«flux_watts»); total = add binary64 (m .total) (h .«flux_watts»); count = m .count + 1 }
 
 unfoldable pub plusEach : Detector2D → Map → List DetectorHit → Map
 plusEach d m [] = m
-plusEach d m (h ∷ b) = plusEach d (plusOf d m h) b
+plusEach d m (h ∷ b) = plusEach d (addHitOf d m h) b
 
 -- of detector `asked`, and let through
 unfoldable pub passesOf : RayPathFilter → DetectorNo → DetectorHit → Bool
@@ -74,9 +74,9 @@ passing f asked [] = []
 passing f asked (h ∷ b) = cond (passesOf f asked h) (h ∷ passing f asked b) (passing f asked b)
 
 -- n zeros, and those that pass added in list order
-unfoldable pub refilledOf : RayPathFilter → DetectorNo → Detector2D → ℕ → List DetectorHit → Map
-refilledOf f asked d n hits = plusEach d (zeros n) (passing f asked hits)
+unfoldable pub refillOf : RayPathFilter → DetectorNo → Detector2D → ℕ → List DetectorHit → Map
+refillOf f asked d n hits = plusEach d (zeros n) (passing f asked hits)
 
 -- one hit on the way
-unfoldable pub turnOf : RayPathFilter → DetectorNo → Detector2D → Map → DetectorHit → Map
-turnOf f asked d m h = cond (passesOf f asked h) (plusOf d m h) m
+unfoldable pub siftHitOf : RayPathFilter → DetectorNo → Detector2D → Map → DetectorHit → Map
+siftHitOf f asked d m h = cond (passesOf f asked h) (addHitOf d m h) m

@@ -5,7 +5,7 @@ use mathlib.Core.List.{List, []}
 use lib.Dec.{eqb}
 use lib.Ieee.{Float}
 use lib.ListN.{length, take, drop}
-use Rattle.error.specs.Refusals.{Checked, passed, refusedAt, checkOf}
+use Rattle.error.specs.Refusals.{Checked, passed, refusedAt, asChecked}
 use Rattle.detector.specs.declared.DetectorNo.{DetectorNo}
 use Rattle.detector.specs.Pixels.{pixelsOf}
 use Rattle.detectors.specs.declared.Detectors.{Detectors}
@@ -15,18 +15,18 @@ use Rattle.detectors.specs.Detectors.{allPixelsOf, findOf}
 use Rattle.memory.specs.Memory.{hitsFrom, isHitListOf}
 use Rattle.filter.specs.declared.RayPathFilter.{RayPathFilter}
 use Rattle.filter.specs.declared.filtering.Filtered.{Filtered}
-use Rattle.filter.specs.Filters.{#0, Map, isAllOf, refilledOf}
+use Rattle.filter.specs.Filters.{#0, Map, isAllOf, refillOf}
 
 -- ---- the checks: 3, 5 to 8, 4, then 9, also for All
 
-unfoldable pub checkPlacedOf : Detectors → ℕ → ℕ → ℕ → ℕ → ℕ → Checked Placed → Checked Placed
-checkPlacedOf ds stored work values tags used (passed p) =
+unfoldable pub checkPlaced : Detectors → ℕ → ℕ → ℕ → ℕ → ℕ → Checked Placed → Checked Placed
+checkPlaced ds stored work values tags used (passed p) =
     cond (eqb stored (allPixelsOf ds) && (eqb work (pixelsOf (p .detector)) && isHitListOf values tags used)) (passed p) (refusedAt 9 0)
-checkPlacedOf ds stored work values tags used (refusedAt n place) = refusedAt n place
+checkPlaced ds stored work values tags used (refusedAt n place) = refusedAt n place
 
 -- the asked detector, if slices of these lengths are its stored map, work map and hit list
 unfoldable pub checkFilterOf : Detectors → DetectorNo → ℕ → ℕ → ℕ → ℕ → ℕ → Checked Placed
-checkFilterOf ds asked stored work values tags used = checkPlacedOf ds stored work values tags used (findOf ds asked)
+checkFilterOf ds asked stored work values tags used = checkPlaced ds stored work values tags used (findOf ds asked)
 
 -- ---- what is handed back: the check's word, a map or a part of one, its total and its count
 
@@ -44,42 +44,42 @@ fromMap m = handed (passed tt) (m .flux) (m .total) (m .count)
 
 -- ---- the work map afterwards: All and a refusal leave it
 
-unfoldable pub refilterPlacedOf : RayPathFilter → DetectorNo → List Float → List DetectorHit → Checked Placed → Handed
-refilterPlacedOf f asked work hits (passed p) =
-    cond (isAllOf f) (handed (passed tt) work (p .detector .«total_flux_watts») (p .detector .«total_rays_hit»)) (fromMap (refilledOf f asked (p .detector) (length work) hits))
-refilterPlacedOf f asked work hits (refusedAt n place) = handed (refusedAt n place) work #0 0
+unfoldable pub refilterPlaced : RayPathFilter → DetectorNo → List Float → List DetectorHit → Checked Placed → Handed
+refilterPlaced f asked work hits (passed p) =
+    cond (isAllOf f) (handed (passed tt) work (p .detector .«total_flux_watts») (p .detector .«total_rays_hit»)) (fromMap (refillOf f asked (p .detector) (length work) hits))
+refilterPlaced f asked work hits (refusedAt n place) = handed (refusedAt n place) work #0 0
 
 unfoldable pub refilterOf : Detectors → DetectorNo → RayPathFilter → List Float → List Float → List Float → List ℕ → ℕ → Handed
 refilterOf ds asked f stored work values tags used =
-    refilterPlacedOf f asked work (hitsFrom values tags used 0) (checkFilterOf ds asked (length stored) (length work) (length values) (length tags) used)
+    refilterPlaced f asked work (hitsFrom values tags used 0) (checkFilterOf ds asked (length stored) (length work) (length values) (length tags) used)
 
 -- ---- the part that is handed back: of the stored map for All, else the work map; an empty one where the call is refused
 
 unfoldable pub storedPartOf : Placed → List Float → List Float
 storedPartOf p stored = take (pixelsOf (p .detector)) (drop (p .first) stored)
 
-unfoldable pub partPlacedOf : RayPathFilter → List Float → List Float → Checked Placed → List Float
-partPlacedOf f stored work (passed p) = cond (isAllOf f) (storedPartOf p stored) work
-partPlacedOf f stored work (refusedAt n place) = []
+unfoldable pub partPlaced : RayPathFilter → List Float → List Float → Checked Placed → List Float
+partPlaced f stored work (passed p) = cond (isAllOf f) (storedPartOf p stored) work
+partPlaced f stored work (refusedAt n place) = []
 
 unfoldable pub filteredPartOf : Detectors → DetectorNo → RayPathFilter → List Float → List Float → List Float → List ℕ → ℕ → List Float
 filteredPartOf ds asked f stored work values tags used =
-    partPlacedOf f stored work (checkFilterOf ds asked (length stored) (length work) (length values) (length tags) used)
+    partPlaced f stored work (checkFilterOf ds asked (length stored) (length work) (length values) (length tags) used)
 
 -- ---- both in one call
 
-unfoldable pub filteredPlacedOf : RayPathFilter → DetectorNo → List Float → List Float → List DetectorHit → Checked Placed → Handed
-filteredPlacedOf f asked stored work hits c =
-    let r = refilterPlacedOf f asked work hits c in
-    handed (r .check) (partPlacedOf f stored (r .map) c) (r .total) (r .count)
+unfoldable pub filteredPlaced : RayPathFilter → DetectorNo → List Float → List Float → List DetectorHit → Checked Placed → Handed
+filteredPlaced f asked stored work hits c =
+    let r = refilterPlaced f asked work hits c in
+    handed (r .check) (partPlaced f stored (r .map) c) (r .total) (r .count)
 
 unfoldable pub filteredPixelFluxOf : Detectors → DetectorNo → RayPathFilter → List Float → List Float → List Float → List ℕ → ℕ → Handed
 filteredPixelFluxOf ds asked f stored work values tags used =
-    filteredPlacedOf f asked stored work (hitsFrom values tags used 0) (checkFilterOf ds asked (length stored) (length work) (length values) (length tags) used)
+    filteredPlaced f asked stored work (hitsFrom values tags used 0) (checkFilterOf ds asked (length stored) (length work) (length values) (length tags) used)
 
 -- what the code's answer says
-abbrev pub filteredOf : Filtered → List Float → Handed
-filteredOf r m = handed (checkOf (r .check)) m (r .«total_flux_watts») (r .«hit_count»)
+abbrev pub asHanded : Filtered → List Float → Handed
+asHanded r m = handed (asChecked (r .check)) m (r .«total_flux_watts») (r .«hit_count»)
 
 -- the same with the check's word as two numbers: 0 and 0 where nothing is refused
 pub record Numbered : Type 0 where
@@ -96,5 +96,5 @@ abbrev pub withNumbers : Checked Unit → List Float → Float → ℕ → Numbe
 withNumbers (passed u) m t c = numbered 0 0 m t c
 withNumbers (refusedAt n place) m t c = numbered n place m t c
 
-abbrev pub inNumbersOf : Handed → Numbered
-inNumbersOf h = withNumbers (h .check) (h .map) (h .total) (h .count)
+abbrev pub inNumbers : Handed → Numbered
+inNumbers h = withNumbers (h .check) (h .map) (h .total) (h .count)

@@ -16,9 +16,9 @@ ghost use lib.ListN.{length};
 ghost use Rattle.error.specs.Refusals.{passed};
 ghost use Rattle.detector.specs.Pixels.{pixelsOf};
 ghost use Rattle.detectors.specs.declared.Placed.{Placed};
-ghost use Rattle.detectors.specs.Detectors.{foundOf};
+ghost use Rattle.detectors.specs.Detectors.{asFound};
 ghost use Rattle.filter.specs.Filters.{isAllOf};
-ghost use Rattle.filter.specs.Handed.{checkFilterOf, filteredOf, refilterOf, storedPartOf, filteredPartOf, numbered, inNumbersOf, filteredPixelFluxOf};
+ghost use Rattle.filter.specs.Handed.{checkFilterOf, asHanded, refilterOf, storedPartOf, filteredPartOf, numbered, inNumbers, filteredPixelFluxOf};
 
 // The refusal or none, and the total and the count of the hits under the filter; 0 and 0 where refused.
 pub struct Filtered {
@@ -38,7 +38,7 @@ fn check_filter(
     tags: usize,
     used: usize,
 ) -> Found
-    ensures { λ r. ⌜ foundOf r ≡ checkFilterOf detectors asked stored work values tags used ⌝ }
+    ensures { λ r. ⌜ asFound r ≡ checkFilterOf detectors asked stored work values tags used ⌝ }
 {
     match detectors.find(asked) {
         Found::Refused { error, place } => Found::Refused { error, place },
@@ -71,7 +71,7 @@ pub fn refilter(
     tags: &[u32],
     used: usize,
 ) -> Filtered
-    ensures { λ r. ⌜ filteredOf r (now (work .exit))
+    ensures { λ r. ⌜ asHanded r (now (work .exit))
         ≡ refilterOf detectors asked filter (now (stored .entry)) (now (work .entry)) (now (values .entry)) (now (tags .entry)) used ⌝ }
 {
     match check_filter(
@@ -174,7 +174,7 @@ pub fn filtered_pixel_flux<'a>(
     count: &mut usize,
 ) -> &'a [f64]
     ensures { λ r. ⌜ numbered (now (refusal .exit)) (now (at .exit)) (now r) (now (total .exit)) (now (count .exit))
-        ≡ inNumbersOf (filteredPixelFluxOf detectors asked filter (now (stored .entry)) (now (work .entry)) (now (values .entry)) (now (tags .entry)) used) ⌝ }
+        ≡ inNumbers (filteredPixelFluxOf detectors asked filter (now (stored .entry)) (now (work .entry)) (now (values .entry)) (now (tags .entry)) used) ⌝ }
     ensures { λ r. ⌜ (isAllOf filter ≡ true → r .ptr .0 ≡ stored .entry .ptr .0) ⌝ }
     ensures { λ r. ⌜ ((p : Placed) → isAllOf filter ≡ false
         → checkFilterOf detectors asked (length (now (stored .entry))) (length (now (work .entry))) (length (now (values .entry))) (length (now (tags .entry))) used

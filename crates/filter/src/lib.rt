@@ -17,7 +17,7 @@ pub use filtering::refilter;
 pub use sifting::Tally;
 pub use sifting::refill;
 ghost use mathlib.Core.Path.{_≡_};
-ghost use Rattle.filter.specs.Filters.{filterOf, isAllOf, letsOf};
+ghost use Rattle.filter.specs.Filters.{numberedFilterOf, isAllOf, letsOf};
 
 pub enum RayPathFilter {
     All,
@@ -33,7 +33,7 @@ impl RayPathFilter {
 
     // The filter of a number; a number beyond the last is the last.
     pub fn numbered(number: u32) -> RayPathFilter
-        ensures { λ r. ⌜ r ≡ filterOf number ⌝ }
+        ensures { λ r. ⌜ r ≡ numberedFilterOf number ⌝ }
     {
         if number == 0 {
             return RayPathFilter::All;

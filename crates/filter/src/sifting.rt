@@ -8,7 +8,7 @@ ghost use mathlib.Core.Path.{_≡_};
 ghost use Prim.Native.Nat.{_+_, _^_, _<_};
 ghost use lib.ListN.{length, replicate};
 ghost use Rattle.memory.specs.Memory.{hitsFrom};
-ghost use Rattle.filter.specs.Filters.{#0, mapOf, addedAtOf, passesOf, plusOf, turnOf, refilledOf};
+ghost use Rattle.filter.specs.Filters.{#0, asMap, addAtOf, passesOf, addHitOf, siftHitOf, refillOf};
 
 // The sum of the fluxes that were added to a map, in their order, and their number.
 pub struct Tally {
@@ -38,7 +38,7 @@ fn passes(filter: RayPathFilter, asked: DetectorNo, h: DetectorHit) -> bool
 
 // A flux added to the pixel at a place, if the map has one there.
 fn add_at(work: &mut [f64], p: usize, flux: f64)
-    ensures { λ _. ⌜ now (work .exit) ≡ addedAtOf (now (work .entry)) p flux ⌝ }
+    ensures { λ _. ⌜ now (work .exit) ≡ addAtOf (now (work .entry)) p flux ⌝ }
 {
     if p < work.len() {
         work[p] = work[p] + flux;
@@ -49,7 +49,7 @@ fn add_at(work: &mut [f64], p: usize, flux: f64)
 // One hit added to its pixel, to the total and to the count.
 fn add_hit(d: Detector2D, work: &mut [f64], t: Tally, h: DetectorHit) -> Tally
     requires { ⌜ t .count + 1 < 2 ^ 64 ⌝ }
-    ensures { λ r. ⌜ mapOf r (now (work .exit)) ≡ plusOf d (mapOf t (now (work .entry))) h ⌝ }
+    ensures { λ r. ⌜ asMap r (now (work .exit)) ≡ addHitOf d (asMap t (now (work .entry))) h ⌝ }
 {
     add_at(work, d.pixel_at(h.local_x, h.local_y), h.flux_watts);
     Tally {
@@ -68,7 +68,7 @@ fn sift_hit(
     h: DetectorHit,
 ) -> Tally
     requires { ⌜ t .count + 1 < 2 ^ 64 ⌝ }
-    ensures { λ r. ⌜ mapOf r (now (work .exit)) ≡ turnOf filter asked d (mapOf t (now (work .entry))) h ⌝ }
+    ensures { λ r. ⌜ asMap r (now (work .exit)) ≡ siftHitOf filter asked d (asMap t (now (work .entry))) h ⌝ }
 {
     if passes(filter, asked, h) {
         return add_hit(d, work, t, h);
@@ -86,8 +86,8 @@ pub fn refill(
     tags: &[u32],
     used: usize,
 ) -> Tally
-    ensures { λ r. ⌜ mapOf r (now (work .exit))
-        ≡ refilledOf filter asked d (length (now (work .entry))) (hitsFrom (now (values .entry)) (now (tags .entry)) used 0) ⌝ }
+    ensures { λ r. ⌜ asMap r (now (work .exit))
+        ≡ refillOf filter asked d (length (now (work .entry))) (hitsFrom (now (values .entry)) (now (tags .entry)) used 0) ⌝ }
 {
     clear(work);
     let mut t = Tally {

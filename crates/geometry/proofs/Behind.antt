@@ -11,14 +11,14 @@ use lib.Ieee.{Float, nan, inf, fin, binary64, up, down, round, sub, mul, div, ne
 use lib.Ieee.Fits.{div-fits}
 use lib.Ieee.Positive.{positive}
 use Rattle.doubles.proofs.Floats.{clash}
-use Rattle.doubles.specs.Doubles.{absOf, finiteOf}
+use Rattle.doubles.specs.Doubles.{absOf, isFiniteOf}
 use Rattle.error.specs.Refusals.{Answer, value, refusal}
 use Rattle.rays.specs.declared.vector.Vec3.{Vec3}
 use Rattle.rays.specs.declared.matrix.Mat4.{Mat4}
 use Rattle.rays.specs.declared.Ray.{Ray}
-use Rattle.rays.specs.Vectors.{normOf, divideOf, finiteVecOf}
+use Rattle.rays.specs.Vectors.{normOf, divideOf, isFiniteVecOf}
 use Rattle.rays.specs.Matrices.{transformPointOf, transformDirectionOf}
-use Rattle.rays.specs.Rays.{minLocalDistance, finiteRayOf, newRayOf}
+use Rattle.rays.specs.Rays.{minLocalDistance, isFiniteRayOf, newRayOf}
 use Rattle.geometry.specs.declared.LocalHit.{LocalHit}
 use Rattle.geometry.specs.declared.PrimitiveGeometry.{PrimitiveGeometry}
 use Rattle.geometry.specs.declared.PrimitiveGeometry.the-variants.{Plane, Disk, Sphere, Cylinder, Box}
@@ -27,13 +27,13 @@ use Rattle.geometry.specs.declared.flat.Distance.the-variants.{At, Nowhe
 use Rattle.geometry.specs.declared.slab.Side.{Side}
 use Rattle.geometry.specs.declared.meeting.Meeting.{Meeting}
 use Rattle.geometry.specs.Hits.{#0, #1, parallel}
-use Rattle.geometry.specs.Flat.{flatDistanceOf, planeFromOf, diskFromOf, intersectPlaneOf, intersectDiskOf}
-use Rattle.geometry.specs.Slabs.{Interval, fromOf, toOf, cutOf, wholeOf, outsideOf, insideOf, sideHitOf, hitOf, intersectBoxOf}
+use Rattle.geometry.specs.Flat.{flatDistanceOf, planeFrom, diskFrom, intersectPlaneOf, intersectDiskOf}
+use Rattle.geometry.specs.Slabs.{Interval, movedNear, movedFar, cutBy, wholeRay, outsideOf, insideOf, sideHitOf, hitWithin, intersectBoxOf}
 use Rattle.geometry.specs.declared.slab.Side.the-variants.{MinusX, PlusX, MinusY, PlusY, MinusZ, PlusZ}
 use Rattle.geometry.specs.Shapes.{intersectLocalOf}
-use Rattle.geometry.specs.Transforms.{unitOf, madeOf}
-use Rattle.geometry.specs.Behind.{recedesOf, leavesOf, behindOf}
-use Rattle.geometry.specs.Meetings.{rayByOf, rayFromOf, meetByOf, meetAlongOf, meetOf}
+use Rattle.geometry.specs.Transforms.{unitOf, madeRay}
+use Rattle.geometry.specs.Behind.{recedesOf, leavesOf, isBehindOf}
+use Rattle.geometry.specs.Meetings.{rayBy, rayFromOf, meetBy, meetAlongOf, meetOf}
 use Rattle.geometry.proofs.Signs.{Signed, under, Alike, round-signed, signed-under, under-le, below-under, not-below-under, product-alike, quotient-signed, length-positive, difference-signed, mirrored-signed, opposed-under, inverse-counts, inverse-signed, zero-le-above, zero-le-below, opposed-quotient, zero-below}
 
 -- 1e-9 and 1e-15
@@ -50,7 +50,7 @@ under-near x h = subst (λ (l : Float). le x l ≡ true) (sym near-is) (under-le
 
 -- what a finite ray's parts are along one axis
 abbrev Finite : Float → Type 0
-Finite x = finiteOf x ≡ true
+Finite x = isFiniteOf x ≡ true
 
 -- ---- Plane and Disk
 
@@ -72,7 +72,7 @@ near-quotient : (s : Bool) (m : ℕ) (e : ℤ) (n : ℕ) (k : ℤ) → le (div b
 near-quotient s m e n k = under-near (div binary64 (fin (not s) m e) (fin s (suc n) k)) (opposed-quotient s m e n k)
 
 flat-none : (s : Bool) (o d : Float) → Signed s o → Signed s d → Finite o → Finite d → cond (lt (absOf d) parallel) Nowhere (cond (le (div binary64 (neg o) d) minLocalDistance) Nowhere (At (div binary64 (neg o) d))) ≡ Nowhere
-unfolding finiteOf absOf neg
+unfolding isFiniteOf absOf neg
 flat-none s nan d p q f g = absurd p
 flat-none s (inf u) d p q f g = absurd (clash (sym f))
 flat-none s (fin u m e) nan p q f g = absurd q
@@ -94,33 +94,33 @@ unfolding flatDistanceOf
 flat-nowhere r (s, (p, q)) f g = flat-none s (r .origin .z) (r .direction .z) p q f g
 
 plane-none : (w h : Float) (r : Ray) → AlikeZ r → Finite (r .origin .z) → Finite (r .direction .z) → intersectPlaneOf w h r ≡ none
-unfolding intersectPlaneOf planeFromOf
-plane-none w h r a f g = ap (planeFromOf w h r) (flat-nowhere r a f g)
+unfolding intersectPlaneOf planeFrom
+plane-none w h r a f g = ap (planeFrom w h r) (flat-nowhere r a f g)
 
 disk-none : (outer inner : Float) (r : Ray) → AlikeZ r → Finite (r .origin .z) → Finite (r .direction .z) → intersectDiskOf outer inner r ≡ none
-unfolding intersectDiskOf diskFromOf
-disk-none outer inner r a f g = ap (diskFromOf outer inner r) (flat-nowhere r a f g)
+unfolding intersectDiskOf diskFrom
+disk-none outer inner r a f g = ap (diskFrom outer inner r) (flat-nowhere r a f g)
 
 -- ---- Box: the far end only moves down, and one axis moves it to at most 0
 
-to-keeps : (Q : Float → Type 0) → ((t x : Float) → lt t x ≡ true → Q x → Q t) → (s : Interval) (t : Float) (side : Side) → Q (s .far) → Q (toOf s t side .far)
-unfolding toOf
+to-keeps : (Q : Float → Type 0) → ((t x : Float) → lt t x ≡ true → Q x → Q t) → (s : Interval) (t : Float) (side : Side) → Q (s .far) → Q (movedFar s t side .far)
+unfolding movedFar
 to-keeps Q low s t side q = go (lt t (s .far)) refl
   where
     go : (b : Bool) → lt t (s .far) ≡ b → Q (cond b (record { near = s .near; far = t; «near_side» = s .«near_side»; «far_side» = side }) s .far)
     go true e = low t (s .far) e q
     go false e = q
 
-from-far : (s : Interval) (t : Float) (side : Side) → s .far ≡ fromOf s t side .far
-unfolding fromOf
+from-far : (s : Interval) (t : Float) (side : Side) → s .far ≡ movedNear s t side .far
+unfolding movedNear
 from-far s t side = go (lt (s .near) t)
   where
     go : (b : Bool) → s .far ≡ cond b (record { near = t; far = s .far; «near_side» = side; «far_side» = s .«far_side» }) s .far
     go true = refl
     go false = refl
 
-cut-keeps : (Q : Float → Type 0) → ((t x : Float) → lt t x ≡ true → Q x → Q t) → (s : Interval) (o d h : Float) (minus plus : Side) → Q (s .far) → Q (cutOf s o d h minus plus .far)
-unfolding cutOf
+cut-keeps : (Q : Float → Type 0) → ((t x : Float) → lt t x ≡ true → Q x → Q t) → (s : Interval) (o d h : Float) (minus plus : Side) → Q (s .far) → Q (cutBy s o d h minus plus .far)
+unfolding cutBy
 cut-keeps Q low s o d h minus plus q = go (lt parallel (absOf d)) (le #0 i)
   where
     i : Float
@@ -132,9 +132,9 @@ cut-keeps Q low s o d h minus plus q = go (lt parallel (absOf d)) (le #0 i)
     t2 : Float
     t2 = mul binary64 (sub binary64 h o) i
 
-    go : (b c : Bool) → Q (cond b (cond c (toOf (fromOf s t1 minus) t2 plus) (toOf (fromOf s t2 plus) t1 minus)) s .far)
-    go true true = to-keeps Q low (fromOf s t1 minus) t2 plus (subst Q (from-far s t1 minus) q)
-    go true false = to-keeps Q low (fromOf s t2 plus) t1 minus (subst Q (from-far s t2 plus) q)
+    go : (b c : Bool) → Q (cond b (cond c (movedFar (movedNear s t1 minus) t2 plus) (movedFar (movedNear s t2 plus) t1 minus)) s .far)
+    go true true = to-keeps Q low (movedNear s t1 minus) t2 plus (subst Q (from-far s t1 minus) q)
+    go true false = to-keeps Q low (movedNear s t2 plus) t1 minus (subst Q (from-far s t2 plus) q)
     go false c = q
 
 abbrev Number : Float → Type 0
@@ -149,8 +149,8 @@ below-number nan x e n = absurd (clash (sym e))
 below-number (inf s) x e n = tt
 below-number (fin s m k) x e n = tt
 
-to-under : (s : Interval) (t : Float) (side : Side) → Number (s .far) → Under t → Under (toOf s t side .far)
-unfolding toOf
+to-under : (s : Interval) (t : Float) (side : Side) → Number (s .far) → Under t → Under (movedFar s t side .far)
+unfolding movedFar
 to-under s t side n h = go (lt t (s .far)) refl
   where
     go : (b : Bool) → lt t (s .far) ≡ b → Under (cond b (record { near = s .near; far = t; «near_side» = s .«near_side»; «far_side» = side }) s .far)
@@ -161,8 +161,8 @@ to-under s t side n h = go (lt t (s .far)) refl
 abbrev Leaves : Float → Float → Float → Type 0
 Leaves o d h = (Finite o × Finite d) × (T (fits binary64 d) × (Alike o d × (lt h (absOf o) ≡ true)))
 
-cut-under : (s : Interval) (sign : Bool) (o d h : Float) (minus plus : Side) → Number (s .far) → Finite o → Finite d → T (fits binary64 d) → Signed sign o → Signed sign d → lt h (absOf o) ≡ true → lt parallel (absOf d) ≡ true → Under (cutOf s o d h minus plus .far)
-unfolding cutOf finiteOf absOf
+cut-under : (s : Interval) (sign : Bool) (o d h : Float) (minus plus : Side) → Number (s .far) → Finite o → Finite d → T (fits binary64 d) → Signed sign o → Signed sign d → lt h (absOf o) ≡ true → lt parallel (absOf d) ≡ true → Under (cutBy s o d h minus plus .far)
+unfolding cutBy isFiniteOf absOf
 cut-under s sign nan d h minus plus n f g fd p q b k = absurd p
 cut-under s sign (inf u) d h minus plus n f g fd p q b k = absurd (clash (sym f))
 cut-under s true (fin false m e) d h minus plus n f g fd p q b k = absurd (clash (sym p))
@@ -172,7 +172,7 @@ cut-under s true (fin true m e) d h minus plus n f g fd p q b k =
     let j = inverse-signed true d q g k in
     let t2 = mul binary64 (sub binary64 h (fin true m e)) i in
     rw (k, zero-le-below i j c)
-    (to-under (fromOf s t2 plus) _ minus (subst Number (from-far s t2 plus) n)
+    (to-under (movedNear s t2 plus) _ minus (subst Number (from-far s t2 plus) n)
     (opposed-under true (sub binary64 (neg h) (fin true m e)) i (mirrored-signed h m e b) j c))
 cut-under s false (fin true m e) d h minus plus n f g fd p q b k = absurd (clash p)
 cut-under s false (fin false m e) d h minus plus n f g fd p q b k =
@@ -181,36 +181,36 @@ cut-under s false (fin false m e) d h minus plus n f g fd p q b k =
     let j = inverse-signed false d q g k in
     let t1 = mul binary64 (sub binary64 (neg h) (fin false m e)) i in
     rw (k, zero-le-above i j c)
-    (to-under (fromOf s t1 minus) _ plus (subst Number (from-far s t1 minus) n)
+    (to-under (movedNear s t1 minus) _ plus (subst Number (from-far s t1 minus) n)
     (opposed-under false (sub binary64 h (fin false m e)) i (difference-signed h m e b) j c))
 
 -- such an axis is outside, or it leaves nothing of the ray
-axis : (s : Interval) (o d h : Float) (minus plus : Side) → Number (s .far) → Leaves o d h → (outsideOf o d h ≡ true) ⊎ Under (cutOf s o d h minus plus .far)
+axis : (s : Interval) (o d h : Float) (minus plus : Side) → Number (s .far) → Leaves o d h → (outsideOf o d h ≡ true) ⊎ Under (cutBy s o d h minus plus .far)
 unfolding outsideOf
 axis s o d h minus plus n ((f, g), (fd, ((sign, (p, q)), b))) = go (lt parallel (absOf d)) refl
   where
-    go : (c : Bool) → lt parallel (absOf d) ≡ c → (cond c false (lt h (absOf o)) ≡ true) ⊎ Under (cutOf s o d h minus plus .far)
+    go : (c : Bool) → lt parallel (absOf d) ≡ c → (cond c false (lt h (absOf o)) ≡ true) ⊎ Under (cutBy s o d h minus plus .far)
     go true k = inr (cut-under s sign o d h minus plus n f g fd p q b k)
     go false k = inl b
 
-hit-none : (s : Interval) → Under (s .far) → hitOf s ≡ none
-unfolding hitOf
+hit-none : (s : Interval) → Under (s .far) → hitWithin s ≡ none
+unfolding hitWithin
 hit-none s h = go (lt (s .far) (s .near))
   where
     go : (b : Bool) → cond b none (cond (le (s .far) minLocalDistance) none (cond (lt minLocalDistance (s .near)) (sideHitOf (s .near) (s .«near_side»)) (sideHitOf (s .far) (s .«far_side»)))) ≡ none
     go true = refl
     go false = rw (under-near (s .far) h)
 
-box-none : (a b c : Bool) (s : Interval) → ((a || (b || c)) ≡ true) ⊎ Under (s .far) → cond (a || (b || c)) none (hitOf s) ≡ none
+box-none : (a b c : Bool) (s : Interval) → ((a || (b || c)) ≡ true) ⊎ Under (s .far) → cond (a || (b || c)) none (hitWithin s) ≡ none
 box-none a b c s (inl e) = rw e
 box-none a b c s (inr h) = go (a || (b || c))
   where
-    go : (t : Bool) → cond t none (hitOf s) ≡ none
+    go : (t : Bool) → cond t none (hitWithin s) ≡ none
     go true = refl
     go false = hit-none s h
 
-whole-number : Number (wholeOf .far)
-unfolding wholeOf isNan
+whole-number : Number (wholeRay .far)
+unfolding wholeRay isNan
 whole-number = tt
 
 or-1 : (a b c : Bool) → a ≡ true → (a || (b || c)) ≡ true
@@ -227,13 +227,13 @@ or-3 false false c e = e
 
 -- the interval after one axis, two, three
 abbrev cut-x : Float → Ray → Interval
-cut-x h r = cutOf wholeOf (r .origin .x) (r .direction .x) h MinusX PlusX
+cut-x h r = cutBy wholeRay (r .origin .x) (r .direction .x) h MinusX PlusX
 
 abbrev cut-y : Interval → Float → Ray → Interval
-cut-y s h r = cutOf s (r .origin .y) (r .direction .y) h MinusY PlusY
+cut-y s h r = cutBy s (r .origin .y) (r .direction .y) h MinusY PlusY
 
 abbrev cut-z : Interval → Float → Ray → Interval
-cut-z s h r = cutOf s (r .origin .z) (r .direction .z) h MinusZ PlusZ
+cut-z s h r = cutBy s (r .origin .z) (r .direction .z) h MinusZ PlusZ
 
 abbrev out-x : Float → Ray → Bool
 out-x h r = outsideOf (r .origin .x) (r .direction .x) h
@@ -255,7 +255,7 @@ keep-z : (s : Interval) (h : Float) (r : Ray) → Under (s .far) → Under (cut-
 keep-z s h r q = cut-keeps Under below-under s (r .origin .z) (r .direction .z) h MinusZ PlusZ q
 
 number-x : (h : Float) (r : Ray) → Number (cut-x h r .far)
-number-x h r = cut-keeps Number below-number wholeOf (r .origin .x) (r .direction .x) h MinusX PlusX whole-number
+number-x h r = cut-keeps Number below-number wholeRay (r .origin .x) (r .direction .x) h MinusX PlusX whole-number
 
 left-x : (hx hy hz : Float) (r : Ray) → (out-x hx r ≡ true) ⊎ Under (cut-x hx r .far) → Out hx hy hz r
 left-x hx hy hz r (inl e) = inl (or-1 (out-x hx r) (out-y hy r) (out-z hz r) e)
@@ -274,7 +274,7 @@ unfolding intersectBoxOf insideOf
 box-out hx hy hz r o = box-none (out-x hx r) (out-y hy r) (out-z hz r) (cut-z (cut-y (cut-x hx r) hy r) hz r) o
 
 box-x : (hx hy hz : Float) (r : Ray) → Leaves (r .origin .x) (r .direction .x) hx → intersectBoxOf hx hy hz r ≡ none
-box-x hx hy hz r l = box-out hx hy hz r (left-x hx hy hz r (axis wholeOf (r .origin .x) (r .direction .x) hx MinusX PlusX whole-number l))
+box-x hx hy hz r l = box-out hx hy hz r (left-x hx hy hz r (axis wholeRay (r .origin .x) (r .direction .x) hx MinusX PlusX whole-number l))
 
 box-y : (hx hy hz : Float) (r : Ray) → Leaves (r .origin .y) (r .direction .y) hy → intersectBoxOf hx hy hz r ≡ none
 box-y hx hy hz r l = box-out hx hy hz r (left-y hx hy hz r (axis (cut-x hx r) (r .origin .y) (r .direction .y) hy MinusY PlusY (number-x hx r) l))
@@ -307,19 +307,19 @@ leaves-along o d h l p f g e = ((f, g), (div-fits binary64 d l, (alike-along o d
 abbrev FiniteVec : Vec3 → Type 0
 FiniteVec v = Finite (v .x) × (Finite (v .y) × Finite (v .z))
 
-finite-vec : (v : Vec3) → finiteVecOf v ≡ true → FiniteVec v
-unfolding finiteVecOf
+finite-vec : (v : Vec3) → isFiniteVecOf v ≡ true → FiniteVec v
+unfolding isFiniteVecOf
 finite-vec v e =
-    let xy = and-left (finiteOf (v .x) && finiteOf (v .y)) (finiteOf (v .z)) e in
-    (and-left (finiteOf (v .x)) (finiteOf (v .y)) xy, (and-right (finiteOf (v .x)) (finiteOf (v .y)) xy, and-right (finiteOf (v .x) && finiteOf (v .y)) (finiteOf (v .z)) e))
+    let xy = and-left (isFiniteOf (v .x) && isFiniteOf (v .y)) (isFiniteOf (v .z)) e in
+    (and-left (isFiniteOf (v .x)) (isFiniteOf (v .y)) xy, (and-right (isFiniteOf (v .x)) (isFiniteOf (v .y)) xy, and-right (isFiniteOf (v .x) && isFiniteOf (v .y)) (isFiniteOf (v .z)) e))
 
 any-of : (a b c : Bool) → (a || (b || c)) ≡ true → (a ≡ true) ⊎ ((b ≡ true) ⊎ (c ≡ true))
 any-of true b c e = inl refl
 any-of false true c e = inr (inl refl)
 any-of false false c e = inr (inr e)
 
-shape-none : (g : PrimitiveGeometry) (o d : Vec3) (l w p : Float) → T (positive l) → FiniteVec o → FiniteVec (divideOf d l) → behindOf g o d ≡ true → intersectLocalOf g (record { origin = o; direction = divideOf d l; «wavelength_nm» = w; energy = p }) ≡ none
-unfolding intersectLocalOf behindOf divideOf
+shape-none : (g : PrimitiveGeometry) (o d : Vec3) (l w p : Float) → T (positive l) → FiniteVec o → FiniteVec (divideOf d l) → isBehindOf g o d ≡ true → intersectLocalOf g (record { origin = o; direction = divideOf d l; «wavelength_nm» = w; energy = p }) ≡ none
+unfolding intersectLocalOf isBehindOf divideOf
 shape-none (Plane a b) o d l w p k (ox, (oy, oz)) (dx, (dy, dz)) e = plane-none a b _ (alike-along (o .z) (d .z) l k e) oz dz
 shape-none (Disk a b) o d l w p k (ox, (oy, oz)) (dx, (dy, dz)) e = disk-none a b _ (alike-along (o .z) (d .z) l k e) oz dz
 shape-none (Sphere a) o d l w p k f g e = absurd (clash (sym e))
@@ -334,31 +334,31 @@ shape-none (Box a b c) o d l w p k (ox, (oy, oz)) (dx, (dy, dz)) e = go (any-of 
     go (inr (inl y)) = box-y a b c r (leaves-along (o .y) (d .y) b l k oy dy y)
     go (inr (inr z)) = box-z a b c r (leaves-along (o .z) (d .z) c l k oz dz z)
 
-finite-ray : (r : Ray) → finiteRayOf r ≡ true → FiniteVec (r .origin) × FiniteVec (r .direction)
-unfolding finiteRayOf
+finite-ray : (r : Ray) → isFiniteRayOf r ≡ true → FiniteVec (r .origin) × FiniteVec (r .direction)
+unfolding isFiniteRayOf
 finite-ray r e =
-    let a = finiteVecOf (r .origin) in
-    let b = finiteVecOf (r .direction) in
-    let abc = and-left (a && b && finiteOf (r .«wavelength_nm»)) (finiteOf (r .energy)) e in
-    let ab = and-left (a && b) (finiteOf (r .«wavelength_nm»)) abc in
+    let a = isFiniteVecOf (r .origin) in
+    let b = isFiniteVecOf (r .direction) in
+    let abc = and-left (a && b && isFiniteOf (r .«wavelength_nm»)) (isFiniteOf (r .energy)) e in
+    let ab = and-left (a && b) (isFiniteOf (r .«wavelength_nm»)) abc in
     (finite-vec (r .origin) (and-left a b ab), finite-vec (r .direction) (and-right a b ab))
 
-made-none : (g : PrimitiveGeometry) (o d : Vec3) (l : Float) (r : Ray) → T (positive l) → behindOf g o d ≡ true → meetAlongOf g (rayByOf o r (some (divideOf d l))) ≡ none
-unfolding rayByOf newRayOf meetAlongOf meetByOf madeOf
-made-none g o d l r k e = go (finiteRayOf q) refl
+made-none : (g : PrimitiveGeometry) (o d : Vec3) (l : Float) (r : Ray) → T (positive l) → isBehindOf g o d ≡ true → meetAlongOf g (rayBy o r (some (divideOf d l))) ≡ none
+unfolding rayBy newRayOf meetAlongOf meetBy madeRay
+made-none g o d l r k e = go (isFiniteRayOf q) refl
   where
     q : Ray
     q = record { origin = o; direction = divideOf d l; «wavelength_nm» = r .«wavelength_nm»; energy = r .energy }
 
-    go : (c : Bool) → finiteRayOf q ≡ c → meetAlongOf g (madeOf (cond c (value q) (refusal 16))) ≡ none
+    go : (c : Bool) → isFiniteRayOf q ≡ c → meetAlongOf g (madeRay (cond c (value q) (refusal 16))) ≡ none
     go true f =
         let parts = finite-ray q f in
-        ap (meetByOf q) (shape-none g o d l (r .«wavelength_nm») (r .energy) k (parts .0) (parts .1) e)
+        ap (meetBy q) (shape-none g o d l (r .«wavelength_nm») (r .energy) k (parts .0) (parts .1) e)
     go false f = refl
 
-pub behind-misses : (g : PrimitiveGeometry) (o d : Vec3) (r : Ray) → behindOf g o d ≡ true → meetAlongOf g (rayFromOf o d r) ≡ none
-unfolding rayFromOf unitOf rayByOf meetAlongOf
-behind-misses g o d r e = go (le l short) (finiteOf l) refl refl
+pub behind-misses : (g : PrimitiveGeometry) (o d : Vec3) (r : Ray) → isBehindOf g o d ≡ true → meetAlongOf g (rayFromOf o d r) ≡ none
+unfolding rayFromOf unitOf rayBy meetAlongOf
+behind-misses g o d r e = go (le l short) (isFiniteOf l) refl refl
   where
     l : Float
     l = normOf d
@@ -366,12 +366,12 @@ behind-misses g o d r e = go (le l short) (finiteOf l) refl refl
     short : Float
     short = ofBits binary64 0x3cd203af9ee75616
 
-    go : (a b : Bool) → le l short ≡ a → finiteOf l ≡ b → meetAlongOf g (rayByOf o r (cond a none (cond b (some (divideOf d l)) none))) ≡ none
+    go : (a b : Bool) → le l short ≡ a → isFiniteOf l ≡ b → meetAlongOf g (rayBy o r (cond a none (cond b (some (divideOf d l)) none))) ≡ none
     go true b p q = refl
     go false false p q = refl
     go false true p q = made-none g o d l r (length-positive l 0x901d7cf73ab0b (negsuc 100) (omega arith) (subst (λ (x : Float). le l x ≡ false) short-is p) q) e
 
-pub miss-is : (g : PrimitiveGeometry) (w : Mat4) (r : Ray) (o d : Vec3) (b : Bool) → o ≡ transformPointOf w (r .origin) → d ≡ transformDirectionOf w (r .direction) → b ≡ behindOf g o d → b ≡ true → none ≡ meetOf g w r
+pub miss-is : (g : PrimitiveGeometry) (w : Mat4) (r : Ray) (o d : Vec3) (b : Bool) → o ≡ transformPointOf w (r .origin) → d ≡ transformDirectionOf w (r .direction) → b ≡ isBehindOf g o d → b ≡ true → none ≡ meetOf g w r
 unfolding meetOf
 miss-is g w r o d b p q e t =
     sym

@@ -5,11 +5,11 @@ use Rattle.rays.specs.declared.vector.Vec3.{Vec3}
 use Rattle.rays.specs.declared.Ray.{Ray}
 use Rattle.rays.specs.Matrices.{transformPointOf, transformDirectionOf}
 use Rattle.geometry.specs.declared.transform.Transform3D.{Transform3D}
-use Rattle.geometry.specs.Transforms.{unitOf, rayAlongOf, inverseTransformRayOf}
-use Rattle.geometry.specs.Meetings.{rayByOf, rayFromOf}
+use Rattle.geometry.specs.Transforms.{unitOf, rayAlong, inverseTransformRayOf}
+use Rattle.geometry.specs.Meetings.{rayBy, rayFromOf}
 
-by-is : (t : Transform3D) (r : Ray) (d : Option Vec3) → rayByOf (transformPointOf (t .inverse) (r .origin)) r d ≡ rayAlongOf t r d
-unfolding rayByOf rayAlongOf
+by-is : (t : Transform3D) (r : Ray) (d : Option Vec3) → rayBy (transformPointOf (t .inverse) (r .origin)) r d ≡ rayAlong t r d
+unfolding rayBy rayAlong
 by-is t r (some d) = refl
 by-is t r none = refl
 

@@ -26,9 +26,9 @@ use Rattle.rays.specs.Rays.{minLocalDistance}
 use Rattle.geometry.specs.declared.LocalHit.{LocalHit}
 use Rattle.geometry.specs.declared.round.Roots.{Roots}
 use Rattle.geometry.specs.declared.round.Roots.the-variants.{Two, Nothing}
-use Rattle.geometry.specs.Hits.{#0, firstOf}
+use Rattle.geometry.specs.Hits.{#0, firstThere}
 use Rattle.geometry.specs.Round.{solveOf, sphereAtOf, sphereAmongOf, intersectSphereOf}
-use Rattle.geometry.specs.Away.{awayOf}
+use Rattle.geometry.specs.Away.{isAwayOf}
 use Rattle.geometry.proofs.Signs.{Signed, under, round-signed, signed-under, suc-not-zero, cond-no}
 use Rattle.geometry.proofs.Squares.{L, M, squared, square-is, squared-most, RootMost, root-of}
 
@@ -213,7 +213,7 @@ nothing-among radius r true x e = refl
 nothing-among radius r false x e = absurd (true≢false (sym e))
 
 low-among : (radius : Float) (r : Ray) (t : Bool) (t1 t2 : Float) → T (low t1) → T (low t2) → sphereAmongOf radius r (cond t Nothing (Two t1 t2)) ≡ none
-unfolding sphereAmongOf sphereAtOf firstOf
+unfolding sphereAmongOf sphereAtOf firstThere
 low-among radius r true t1 t2 p q = refl
 low-among radius r false t1 t2 p q = rw (not-ahead t1 p, not-ahead t2 q)
 
@@ -389,8 +389,8 @@ dot-above v =
     above-add (add binary64 (mul binary64 (v .x) (v .x)) (mul binary64 (v .y) (v .y))) (mul binary64 (v .z) (v .z))
     (above-add (mul binary64 (v .x) (v .x)) (mul binary64 (v .y) (v .y)) (above-square (v .x)) (above-square (v .y))) (above-square (v .z))
 
-away-none : (b c : Float) → T (fits binary64 b) → awayOf b c ≡ true → (a radius : Float) (r : Ray) → Above a → sphereAmongOf radius r (solveOf a b c) ≡ none
-unfolding awayOf
+away-none : (b c : Float) → T (fits binary64 b) → isAwayOf b c ≡ true → (a radius : Float) (r : Ray) → Above a → sphereAmongOf radius r (solveOf a b c) ≡ none
+unfolding isAwayOf
 away-none b c f e a radius r p =
     let k = toBits binary64 b in
     let left = and-left (lt #0 c && leb 0x2000000000000000 k) (ltb k 0x5000000000000000) e in
@@ -415,15 +415,15 @@ abs-square (inf false) = refl
 abs-square (fin true m e) = refl
 abs-square (fin false m e) = refl
 
-pub sphere-passed : (radius : Float) (r : Ray) (x o2 : Float) (t : Bool) → x ≡ dotOf (r .origin) (r .direction) → o2 ≡ dotOf (r .origin) (r .origin) → t ≡ awayOf (mul binary64 #2 x) (sub binary64 o2 (mul binary64 radius radius)) → t ≡ true → none ≡ intersectSphereOf radius r
+pub sphere-passed : (radius : Float) (r : Ray) (x o2 : Float) (t : Bool) → x ≡ dotOf (r .origin) (r .direction) → o2 ≡ dotOf (r .origin) (r .origin) → t ≡ isAwayOf (mul binary64 #2 x) (sub binary64 o2 (mul binary64 radius radius)) → t ≡ true → none ≡ intersectSphereOf radius r
 unfolding intersectSphereOf
 sphere-passed radius r x o2 t ex eo et e =
     sym
     (away-none (mul binary64 #2 (dotOf (r .origin) (r .direction))) (sub binary64 (dotOf (r .origin) (r .origin)) (mul binary64 (absOf radius) (absOf radius)))
     (mul-fits binary64 #2 (dotOf (r .origin) (r .direction)))
-    (ap (λ (y : Float). awayOf (mul binary64 #2 y) (sub binary64 (dotOf (r .origin) (r .origin)) (mul binary64 (absOf radius) (absOf radius)))) (sym ex)
-    ∙ ap (λ (y : Float). awayOf (mul binary64 #2 x) (sub binary64 y (mul binary64 (absOf radius) (absOf radius)))) (sym eo)
-    ∙ ap (λ (y : Float). awayOf (mul binary64 #2 x) (sub binary64 o2 y)) (abs-square radius)
+    (ap (λ (y : Float). isAwayOf (mul binary64 #2 y) (sub binary64 (dotOf (r .origin) (r .origin)) (mul binary64 (absOf radius) (absOf radius)))) (sym ex)
+    ∙ ap (λ (y : Float). isAwayOf (mul binary64 #2 x) (sub binary64 y (mul binary64 (absOf radius) (absOf radius)))) (sym eo)
+    ∙ ap (λ (y : Float). isAwayOf (mul binary64 #2 x) (sub binary64 o2 y)) (abs-square radius)
     ∙ sym et ∙ e)
     (dotOf (r .direction) (r .direction)) (absOf radius) r (dot-above (r .direction)))
 

@@ -14,7 +14,7 @@ use lib.Ieee.Fits.{up-pos, down-pos, round-is, and-l, and-r}
 use lib.Ieee.Order.{round-mono}
 use lib.Ieee.Positive.{positive, between}
 use Rattle.doubles.proofs.Floats.{clash}
-use Rattle.doubles.specs.Doubles.{absOf, finiteOf}
+use Rattle.doubles.specs.Doubles.{absOf, isFiniteOf}
 use Rattle.geometry.specs.Hits.{#0, #1, parallel}
 
 -- a number of the sign s, true for negative; a zero has its sign too
@@ -214,8 +214,8 @@ quotient-signed true (fin false m k) (fin false (suc n) d) h p = absurd (clash (
 quotient-signed false (fin false m k) (fin false (suc n) d) h p = by-round false n (cond (eqb m 0) nan (inf false)) (m * up k * down d) (suc n * up d * down k)
 
 -- a finite value that is not at most one above 0 is above 0
-pub length-positive : (l : Float) (m : ℕ) (e : ℤ) → 0 < m → le l (fin false m e) ≡ false → finiteOf l ≡ true → T (positive l)
-unfolding finiteOf
+pub length-positive : (l : Float) (m : ℕ) (e : ℤ) → 0 < m → le l (fin false m e) ≡ false → isFiniteOf l ≡ true → T (positive l)
+unfolding isFiniteOf
 length-positive nan m e p h f = absurd (clash (sym f))
 length-positive (inf s) m e p h f = absurd (clash (sym f))
 length-positive (fin true n d) m e p h f = absurd (clash' (under-le (fin true n d) m e p tt) h)
@@ -292,8 +292,8 @@ inverse-of : (s : Bool) (n : ℕ) (d : ℤ) → div binary64 #1 (fin s (suc n) d
 unfolding div ofBits
 inverse-of s n d = cond-no _ _ _ (suc-not-zero n)
 
-pub inverse-counts : (x : Float) → T (fits binary64 x) → finiteOf x ≡ true → lt parallel (absOf x) ≡ true → T (positive (absOf (div binary64 #1 x)))
-unfolding finiteOf fits lt absOf ofBits
+pub inverse-counts : (x : Float) → T (fits binary64 x) → isFiniteOf x ≡ true → lt parallel (absOf x) ≡ true → T (positive (absOf (div binary64 #1 x)))
+unfolding isFiniteOf fits lt absOf ofBits
 inverse-counts nan f g h = absurd (clash (sym g))
 inverse-counts (inf s) f g h = absurd (clash (sym g))
 inverse-counts (fin s zero d) f g h = absurd (clash' h (nothing-below (least * 1 * down d) (up d) (2 ^ 92)))
@@ -304,8 +304,8 @@ inverse-counts (fin s (suc n) d) f g h =
     (ltb→lt (suc n * up d) (2 ^ 1024 * down d) (and-r (eqb (suc n % 2) 1 && ltb (suc n) (2 ^ 53) && leb (down d) (2 ^ 1074)) (ltb (suc n * up d) (2 ^ 1024 * down d)) f))
     (ltb→lt (least * 1 * down d) (suc n * up d * 2 ^ 92) (subst T (sym h) tt)))
 
-pub inverse-signed : (s : Bool) (x : Float) → Signed s x → finiteOf x ≡ true → lt parallel (absOf x) ≡ true → Signed s (div binary64 #1 x)
-unfolding finiteOf lt absOf ofBits
+pub inverse-signed : (s : Bool) (x : Float) → Signed s x → isFiniteOf x ≡ true → lt parallel (absOf x) ≡ true → Signed s (div binary64 #1 x)
+unfolding isFiniteOf lt absOf ofBits
 inverse-signed s nan h g k = absurd h
 inverse-signed s (inf t) h g k = absurd (clash (sym g))
 inverse-signed s (fin t zero d) h g k = absurd (clash' k (nothing-below (least * 1 * down d) (up d) (2 ^ 92)))

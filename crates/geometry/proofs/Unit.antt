@@ -13,32 +13,32 @@ use lib.Ieee.Fits.{up-pos, down-pos}
 use lib.Ieee.Order.{round-mono}
 use lib.Ieee.Positive.{positive}
 use Rattle.doubles.proofs.Floats.{clash}
-use Rattle.doubles.specs.Doubles.{absOf, finiteOf}
+use Rattle.doubles.specs.Doubles.{absOf, isFiniteOf}
 use Rattle.doubles.specs.Root.{sqrtOf, sqrtIn}
 use Rattle.error.specs.Refusals.{value, refusal}
 use Rattle.rays.specs.declared.vector.Vec3.{Vec3}
 use Rattle.rays.specs.declared.Ray.{Ray}
-use Rattle.rays.specs.Vectors.{dotOf, normOf, divideOf, finiteVecOf}
-use Rattle.rays.specs.Rays.{finiteRayOf, newRayOf}
+use Rattle.rays.specs.Vectors.{dotOf, normOf, divideOf, isFiniteVecOf}
+use Rattle.rays.specs.Rays.{isFiniteRayOf, newRayOf}
 use Rattle.geometry.specs.declared.transform.UnitVector as unit
-use Rattle.geometry.specs.Transforms.{unitVectorOf, unitOf, madeOf}
-use Rattle.geometry.specs.Meetings.{rayByOf, rayFromOf}
+use Rattle.geometry.specs.Transforms.{asUnitVector, unitOf, madeRay}
+use Rattle.geometry.specs.Meetings.{rayBy, rayFromOf}
 use Rattle.geometry.proofs.Signs.{Signed, round-signed, abs-round, length-positive, suc-not-zero, cond-no}
 
 abbrev Finite : Float → Type 0
-Finite x = finiteOf x ≡ true
+Finite x = isFiniteOf x ≡ true
 
 -- ---- what a finite root, sum or product is made of
 
 root-of-finite : (x : Float) → Finite (sqrtOf x) → Finite x
-unfolding sqrtOf sqrtIn finiteOf
+unfolding sqrtOf sqrtIn isFiniteOf
 root-of-finite nan h = h
 root-of-finite (inf true) h = h
 root-of-finite (inf false) h = h
 root-of-finite (fin s m e) h = refl
 
 sum-of-finite : (x y : Float) → Finite (add binary64 x y) → Finite x × Finite y
-unfolding add finiteOf
+unfolding add isFiniteOf
 sum-of-finite nan y h = absurd (clash (sym h))
 sum-of-finite (inf s) nan h = absurd (clash (sym h))
 sum-of-finite (inf true) (inf true) h = absurd (clash (sym h))
@@ -61,8 +61,8 @@ unfolding round
 too-large = refl
 
 -- what is at least infinity is not finite
-not-finite : (x : Float) → T (le (inf false) x) → finiteOf x ≡ true → ⊥
-unfolding le lt eq finiteOf
+not-finite : (x : Float) → T (le (inf false) x) → isFiniteOf x ≡ true → ⊥
+unfolding le lt eq isFiniteOf
 not-finite nan t h = t
 not-finite (inf s) t h = clash (sym h)
 not-finite (fin s m e) t h = t
@@ -73,7 +73,7 @@ square a d h = le-trans (le-of-eq (split (2 ^ 512) d)) (le-trans (mul-le-mul h h
     split : (k d : ℕ) → k * k * (d * d) ≡ k * d * (k * d)
     split k d = simp (mul-assoc, mul-comm, mul-left-comm) refl
 
-modest : (a d : ℕ) → 0 < d → finiteOf (round binary64 false (a * a) (d * d)) ≡ true → a < 2 ^ 512 * d
+modest : (a d : ℕ) → 0 < d → isFiniteOf (round binary64 false (a * a) (d * d)) ≡ true → a < 2 ^ 512 * d
 modest a d p h = go (ltb a (2 ^ 512 * d)) (ltb→lt a (2 ^ 512 * d)) (nltb→le a (2 ^ 512 * d))
   where
     go : (t : Bool) → (T t → a < 2 ^ 512 * d) → (T (not t) → 2 ^ 512 * d ≤ a) → a < 2 ^ 512 * d
@@ -86,7 +86,7 @@ modest a d p h = go (ltb a (2 ^ 512 * d)) (ltb→lt a (2 ^ 512 * d)) (nltb→le 
         h)
 
 square-finite : (x : Float) → Finite (mul binary64 x x) → Modest x
-unfolding mul finiteOf
+unfolding mul isFiniteOf
 square-finite nan h = absurd (clash (sym h))
 square-finite (inf true) h = absurd (clash (sym h))
 square-finite (inf false) h = absurd (clash (sym h))
@@ -99,8 +99,8 @@ square-finite (fin false m e) h = modest (m * up e) (down e) (down-pos e) h
 abbrev short : ℕ
 short = 0x901d7cf73ab0b
 
-abs-finite : (x : Float) → finiteOf (absOf x) ≡ finiteOf x
-unfolding absOf finiteOf
+abs-finite : (x : Float) → isFiniteOf (absOf x) ≡ isFiniteOf x
+unfolding absOf isFiniteOf
 abs-finite nan = refl
 abs-finite (inf s) = refl
 abs-finite (fin s m e) = refl
@@ -110,7 +110,7 @@ unfolding round
 most-is = refl
 
 below-finite : (x : Float) (m : ℕ) (e : ℤ) → Signed false x → T (le x (fin false m e)) → Finite x
-unfolding le lt eq finiteOf
+unfolding le lt eq isFiniteOf
 below-finite nan m e s t = absurd s
 below-finite (inf true) m e s t = absurd (clash s)
 below-finite (inf false) m e s t = absurd t
@@ -142,7 +142,7 @@ quotient-is s m e n d = cond-no _ _ _ (suc-not-zero n)
 rounded-finite : (s : Bool) (a c : ℕ) → 0 < c → a * 1 ≤ 2 ^ 613 * c → Finite (round binary64 s a c)
 rounded-finite s a c p h =
     sym (abs-finite (round binary64 s a c))
-    ∙ ap finiteOf (abs-round s a c)
+    ∙ ap isFiniteOf (abs-round s a c)
     ∙ below-finite (round binary64 false a c) 1 (pos 613) (round-signed false a c)
     (subst (λ (x : Float). T (le (round binary64 false a c) x)) most-is (round-mono binary64 a c (2 ^ 613) 1 p (pow-pos 0) h))
 
@@ -155,7 +155,7 @@ quotient-finite x (fin false zero d) h p k = absurd p
 quotient-finite nan (fin false (suc n) d) h p k = absurd h
 quotient-finite (inf s) (fin false (suc n) d) h p k = absurd h
 quotient-finite (fin s m e) (fin false (suc n) d) h p k =
-    ap finiteOf (quotient-is s m e n d)
+    ap isFiniteOf (quotient-is s m e n d)
     ∙ rounded-finite (not (Bool·beq s false)) (m * up e * down d) (suc n * up d * down e) (mul-pos (mul-pos (zero-lt-suc n) (up-pos d)) (down-pos e))
     (bound (m * up e) (down e) (down d) (suc n * up d) (short * 1) (omega arith) (le-of-lt h)
     (nltb→le (suc n * up d * 2 ^ 101) (short * 1 * down d) (subst (λ (t : Bool). T (not t)) (sym (not-le-lt (fin false (suc n) d) (fin false short (negsuc 100)) k)) tt)))
@@ -169,8 +169,8 @@ short-is : ofBits binary64 0x3cd203af9ee75616 ≡ fin false short (negsuc 100)
 unfolding ofBits
 short-is = refl
 
-divided-finite : (v : Vec3) → le (normOf v) (fin false short (negsuc 100)) ≡ false → Finite (normOf v) → finiteVecOf (divideOf v (normOf v)) ≡ true
-unfolding normOf dotOf divideOf finiteVecOf
+divided-finite : (v : Vec3) → le (normOf v) (fin false short (negsuc 100)) ≡ false → Finite (normOf v) → isFiniteVecOf (divideOf v (normOf v)) ≡ true
+unfolding normOf dotOf divideOf isFiniteVecOf
 divided-finite v k f =
     let xx = mul binary64 (v .x) (v .x) in
     let yy = mul binary64 (v .y) (v .y) in
@@ -179,23 +179,23 @@ divided-finite v k f =
     let p = length-positive l short (negsuc 100) (omega arith) k f in
     let outer = sum-of-finite (add binary64 xx yy) zz (root-of-finite (add binary64 (add binary64 xx yy) zz) f) in
     let inner = sum-of-finite xx yy (outer .0) in
-    three (finiteOf (div binary64 (v .x) l)) (finiteOf (div binary64 (v .y) l)) (finiteOf (div binary64 (v .z) l))
+    three (isFiniteOf (div binary64 (v .x) l)) (isFiniteOf (div binary64 (v .y) l)) (isFiniteOf (div binary64 (v .z) l))
     (quotient-finite (v .x) l (square-finite (v .x) (inner .0)) p k)
     (quotient-finite (v .y) l (square-finite (v .y) (inner .1)) p k)
     (quotient-finite (v .z) l (square-finite (v .z) (outer .1)) p k)
 
-pub unit-finite : (v u : Vec3) → unitOf v ≡ some u → finiteVecOf u ≡ true
+pub unit-finite : (v u : Vec3) → unitOf v ≡ some u → isFiniteVecOf u ≡ true
 unfolding unitOf
-unit-finite v u e = go (le l (ofBits binary64 0x3cd203af9ee75616)) (finiteOf l) refl refl e
+unit-finite v u e = go (le l (ofBits binary64 0x3cd203af9ee75616)) (isFiniteOf l) refl refl e
   where
     l : Float
     l = normOf v
 
-    go : (a b : Bool) → le l (ofBits binary64 0x3cd203af9ee75616) ≡ a → finiteOf l ≡ b → cond a none (cond b (some (divideOf v l)) none) ≡ some u → finiteVecOf u ≡ true
+    go : (a b : Bool) → le l (ofBits binary64 0x3cd203af9ee75616) ≡ a → isFiniteOf l ≡ b → cond a none (cond b (some (divideOf v l)) none) ≡ some u → isFiniteVecOf u ≡ true
     go true b p q h = absurd (Option·none-ne-some u h)
     go false false p q h = absurd (Option·none-ne-some u h)
     go false true p q h =
-        subst (λ (w : Vec3). finiteVecOf w ≡ true) (Option·some-injective (divideOf v l) u h)
+        subst (λ (w : Vec3). isFiniteVecOf w ≡ true) (Option·some-injective (divideOf v l) u h)
         (divided-finite v (subst (λ (x : Float). le l x ≡ false) short-is p) q)
 
 -- ---- the ray from o along v: only its origin, wavelength and power have to be looked at
@@ -203,22 +203,22 @@ unit-finite v u e = go (le l (ofBits binary64 0x3cd203af9ee75616)) (finiteOf l) 
 abbrev ray-of : Vec3 → Vec3 → Ray → Ray
 ray-of o u r = record { origin = o; direction = u; «wavelength_nm» = r .«wavelength_nm»; energy = r .energy }
 
-choose : (a t b c : Bool) (q : Ray) → t ≡ true → madeOf (cond (a && t && b && c) (value q) (refusal 16)) ≡ cond (a && b && c) (some q) none
-unfolding madeOf
+choose : (a t b c : Bool) (q : Ray) → t ≡ true → madeRay (cond (a && t && b && c) (value q) (refusal 16)) ≡ cond (a && b && c) (some q) none
+unfolding madeRay
 choose true t true true q e = rw e
 choose true t true false q e = rw e
 choose true t false c q e = rw e
 choose false t b c q e = refl
 
-from-made : (o v : Vec3) (r : Ray) (k : unit.UnitVector) (u : Vec3) → unitVectorOf k ≡ unitOf v → k ≡ unit.the-variants.Made u → rayFromOf o v r ≡ cond (finiteVecOf o && finiteOf (r .«wavelength_nm») && finiteOf (r .energy)) (some (ray-of o u r)) none
-unfolding rayFromOf rayByOf newRayOf finiteRayOf
+from-made : (o v : Vec3) (r : Ray) (k : unit.UnitVector) (u : Vec3) → asUnitVector k ≡ unitOf v → k ≡ unit.the-variants.Made u → rayFromOf o v r ≡ cond (isFiniteVecOf o && isFiniteOf (r .«wavelength_nm») && isFiniteOf (r .energy)) (some (ray-of o u r)) none
+unfolding rayFromOf rayBy newRayOf isFiniteRayOf
 from-made o v r k u p e =
-    let is : unitOf v ≡ some u = sym p ∙ ap unitVectorOf e in
-    ap (rayByOf o r) is
-    ∙ choose (finiteVecOf o) (finiteVecOf u) (finiteOf (r .«wavelength_nm»)) (finiteOf (r .energy)) (ray-of o u r) (unit-finite v u is)
+    let is : unitOf v ≡ some u = sym p ∙ ap asUnitVector e in
+    ap (rayBy o r) is
+    ∙ choose (isFiniteVecOf o) (isFiniteVecOf u) (isFiniteOf (r .«wavelength_nm»)) (isFiniteOf (r .energy)) (ray-of o u r) (unit-finite v u is)
 
-pub ray-made : (o v : Vec3) (r : Ray) (k : unit.UnitVector) (u : Vec3) (a : Bool) → unitVectorOf k ≡ unitOf v → k ≡ unit.the-variants.Made u → a ≡ (finiteVecOf o && finiteOf (r .«wavelength_nm») && finiteOf (r .energy)) → a ≡ true → some (ray-of o u r) ≡ rayFromOf o v r
+pub ray-made : (o v : Vec3) (r : Ray) (k : unit.UnitVector) (u : Vec3) (a : Bool) → asUnitVector k ≡ unitOf v → k ≡ unit.the-variants.Made u → a ≡ (isFiniteVecOf o && isFiniteOf (r .«wavelength_nm») && isFiniteOf (r .energy)) → a ≡ true → some (ray-of o u r) ≡ rayFromOf o v r
 ray-made o v r k u a p e f t = sym (from-made o v r k u p e ∙ rw (← f, t))
 
-pub no-ray : (o v : Vec3) (r : Ray) (k : unit.UnitVector) (u : Vec3) (a : Bool) → unitVectorOf k ≡ unitOf v → k ≡ unit.the-variants.Made u → a ≡ (finiteVecOf o && finiteOf (r .«wavelength_nm») && finiteOf (r .energy)) → a ≡ false → none ≡ rayFromOf o v r
+pub no-ray : (o v : Vec3) (r : Ray) (k : unit.UnitVector) (u : Vec3) (a : Bool) → asUnitVector k ≡ unitOf v → k ≡ unit.the-variants.Made u → a ≡ (isFiniteVecOf o && isFiniteOf (r .«wavelength_nm») && isFiniteOf (r .energy)) → a ≡ false → none ≡ rayFromOf o v r
 no-ray o v r k u a p e f t = sym (from-made o v r k u p e ∙ rw (← f, t))

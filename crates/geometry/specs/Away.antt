@@ -6,5 +6,5 @@ use mathlib.Core.Bool.{Bool, _&&_}
 use Rattle.geometry.specs.Hits.{#0}
 
 -- from outside the sphere, with a b above 0 whose square neither overflows nor loses digits; false says nothing
-unfoldable pub awayOf : Float → Float → Bool
-awayOf b c = lt #0 c && leb 0x2000000000000000 (toBits binary64 b) && ltb (toBits binary64 b) 0x5000000000000000
+unfoldable pub isAwayOf : Float → Float → Bool
+isAwayOf b c = lt #0 c && leb 0x2000000000000000 (toBits binary64 b) && ltb (toBits binary64 b) 0x5000000000000000

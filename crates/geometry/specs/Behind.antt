@@ -16,9 +16,9 @@ unfoldable pub leavesOf : Float → Float → Float → Bool
 leavesOf o d h = recedesOf o d && lt h (absOf o)
 
 -- the shape lies behind the ray; false says nothing
-unfoldable pub behindOf : PrimitiveGeometry → Vec3 → Vec3 → Bool
-behindOf (Plane w h) o d = recedesOf (o .z) (d .z)
-behindOf (Disk outer inner) o d = recedesOf (o .z) (d .z)
-behindOf (Sphere radius) o d = false
-behindOf (Cylinder radius half) o d = false
-behindOf (Box hx hy hz) o d = leavesOf (o .x) (d .x) hx || (leavesOf (o .y) (d .y) hy || leavesOf (o .z) (d .z) hz)
+unfoldable pub isBehindOf : PrimitiveGeometry → Vec3 → Vec3 → Bool
+isBehindOf (Plane w h) o d = recedesOf (o .z) (d .z)
+isBehindOf (Disk outer inner) o d = recedesOf (o .z) (d .z)
+isBehindOf (Sphere radius) o d = false
+isBehindOf (Cylinder radius half) o d = false
+isBehindOf (Box hx hy hz) o d = leavesOf (o .x) (d .x) hx || (leavesOf (o .y) (d .y) hy || leavesOf (o .z) (d .z) hz)

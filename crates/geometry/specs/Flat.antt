@@ -31,12 +31,12 @@ planeAtOf w h r t =
     let y = reachOf (r .origin .y) (r .direction .y) t in
     cond (le (absOf x) w && le (absOf y) h) (flatHitOf t) none
 
-unfoldable pub planeFromOf : Float → Float → Ray → Distance → Option LocalHit
-planeFromOf w h r (At t) = planeAtOf w h r t
-planeFromOf w h r Nowhere = none
+unfoldable pub planeFrom : Float → Float → Ray → Distance → Option LocalHit
+planeFrom w h r (At t) = planeAtOf w h r t
+planeFrom w h r Nowhere = none
 
 unfoldable pub intersectPlaneOf : Float → Float → Ray → Option LocalHit
-intersectPlaneOf w h r = planeFromOf w h r (flatDistanceOf r)
+intersectPlaneOf w h r = planeFrom w h r (flatDistanceOf r)
 
 -- the squared distance from the axis lies from the square of the inner radius to that of the outer one
 unfoldable pub diskAtOf : Float → Float → Ray → Float → Option LocalHit
@@ -46,9 +46,9 @@ diskAtOf outer inner r t =
     let r2 = add binary64 (mul binary64 x x) (mul binary64 y y) in
     cond (le (mul binary64 inner inner) r2 && le r2 (mul binary64 outer outer)) (flatHitOf t) none
 
-unfoldable pub diskFromOf : Float → Float → Ray → Distance → Option LocalHit
-diskFromOf outer inner r (At t) = diskAtOf outer inner r t
-diskFromOf outer inner r Nowhere = none
+unfoldable pub diskFrom : Float → Float → Ray → Distance → Option LocalHit
+diskFrom outer inner r (At t) = diskAtOf outer inner r t
+diskFrom outer inner r Nowhere = none
 
 unfoldable pub intersectDiskOf : Float → Float → Ray → Option LocalHit
-intersectDiskOf outer inner r = diskFromOf outer inner r (flatDistanceOf r)
+intersectDiskOf outer inner r = diskFrom outer inner r (flatDistanceOf r)

@@ -20,11 +20,11 @@ abbrev pub hitAt : Float → Vec3 → Option LocalHit
 hitAt t n = some (record { t = t; normal = n })
 
 -- what the code's answer says
-abbrev pub localHitOf : LocalIntersection → Option LocalHit
-localHitOf (Hit h) = some h
-localHitOf Miss = none
+abbrev pub asLocalHit : LocalIntersection → Option LocalHit
+asLocalHit (Hit h) = some h
+asLocalHit Miss = none
 
 -- the first candidate that is there
-unfoldable pub firstOf : Option LocalHit → Option LocalHit → Option LocalHit
-firstOf (some h) b = some h
-firstOf none b = b
+unfoldable pub firstThere : Option LocalHit → Option LocalHit → Option LocalHit
+firstThere (some h) b = some h
+firstThere none b = b

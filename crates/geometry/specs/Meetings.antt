@@ -11,28 +11,28 @@ use Rattle.geometry.specs.declared.meeting.Meeting.{Meeting}
 use Rattle.geometry.specs.declared.meeting.Met.{Met}
 use Rattle.geometry.specs.declared.meeting.Met.the-variants.{At, Miss}
 use Rattle.geometry.specs.Shapes.{intersectLocalOf}
-use Rattle.geometry.specs.Transforms.{unitOf, madeOf}
+use Rattle.geometry.specs.Transforms.{unitOf, madeRay}
 
 -- what the code's answer says
-abbrev pub metOf : Met → Option Meeting
-metOf (At m) = some m
-metOf Miss = none
+abbrev pub asMeeting : Met → Option Meeting
+asMeeting (At m) = some m
+asMeeting Miss = none
 
-unfoldable pub rayByOf : Vec3 → Ray → Option Vec3 → Option Ray
-rayByOf o r (some d) = madeOf (newRayOf o d (r .«wavelength_nm») (r .energy))
-rayByOf o r none = none
+unfoldable pub rayBy : Vec3 → Ray → Option Vec3 → Option Ray
+rayBy o r (some d) = madeRay (newRayOf o d (r .«wavelength_nm») (r .energy))
+rayBy o r none = none
 
 -- from o along d, which is made a unit vector; wavelength and power are r's
 unfoldable pub rayFromOf : Vec3 → Vec3 → Ray → Option Ray
-rayFromOf o d r = rayByOf o r (unitOf d)
+rayFromOf o d r = rayBy o r (unitOf d)
 
-unfoldable pub meetByOf : Ray → Option LocalHit → Option Meeting
-meetByOf q (some h) = some (record { point = atOf q (h .t); hit = h })
-meetByOf q none = none
+unfoldable pub meetBy : Ray → Option LocalHit → Option Meeting
+meetBy q (some h) = some (record { point = atOf q (h .t); hit = h })
+meetBy q none = none
 
 -- q is the ray in the shape's coordinates, if it can be made
 unfoldable pub meetAlongOf : PrimitiveGeometry → Option Ray → Option Meeting
-meetAlongOf g (some q) = meetByOf q (intersectLocalOf g q)
+meetAlongOf g (some q) = meetBy q (intersectLocalOf g q)
 meetAlongOf g none = none
 
 unfoldable pub meetOf : PrimitiveGeometry → Mat4 → Ray → Option Meeting

@@ -10,7 +10,7 @@ use Rattle.rays.specs.Vectors.{vec3, dotOf, divideOf}
 use Rattle.geometry.specs.declared.LocalHit.{LocalHit}
 use Rattle.geometry.specs.declared.round.Roots.{Roots}
 use Rattle.geometry.specs.declared.round.Roots.the-variants.{Two, Nothing}
-use Rattle.geometry.specs.Hits.{#0, parallel, hitAt, firstOf}
+use Rattle.geometry.specs.Hits.{#0, parallel, hitAt, firstThere}
 use Rattle.geometry.specs.Flat.{reachOf}
 
 abbrev #2 : Float
@@ -30,7 +30,7 @@ unfoldable pub sphereAtOf : Float → Ray → Float → Option LocalHit
 sphereAtOf radius r t = cond (lt minLocalDistance t) (hitAt t (divideOf (atOf r t) radius)) none
 
 unfoldable pub sphereAmongOf : Float → Ray → Roots → Option LocalHit
-sphereAmongOf radius r (Two t1 t2) = firstOf (sphereAtOf radius r t1) (sphereAtOf radius r t2)
+sphereAmongOf radius r (Two t1 t2) = firstThere (sphereAtOf radius r t1) (sphereAtOf radius r t2)
 sphereAmongOf radius r Nothing = none
 
 -- a negative radius counts as its absolute value
@@ -54,7 +54,7 @@ cylinderAtOf radius half r t =
     cond (lt minLocalDistance t && le (absOf (reachOf (r .origin .z) (r .direction .z) t)) half) (cylinderHitOf radius r t) none
 
 unfoldable pub cylinderAmongOf : Float → Float → Ray → Roots → Option LocalHit
-cylinderAmongOf radius half r (Two t1 t2) = firstOf (cylinderAtOf radius half r t1) (cylinderAtOf radius half r t2)
+cylinderAmongOf radius half r (Two t1 t2) = firstThere (cylinderAtOf radius half r t1) (cylinderAtOf radius half r t2)
 cylinderAmongOf radius half r Nothing = none
 
 -- none where the squared direction across the axis is below 1e-12

@@ -16,8 +16,8 @@ use Rattle.geometry.specs.Slabs.{intersectBoxOf}
 abbrev pub lastShape : ℕ
 lastShape = 4
 
-unfoldable pub shapeOf : ℕ → Float → Float → Float → PrimitiveGeometry
-shapeOf k p q r = cond (eqb k 0) (Plane p q) (cond (eqb k 1) (Disk p q) (cond (eqb k 2) (Sphere p) (cond (eqb k 3) (Cylinder p q) (Box p q r))))
+unfoldable pub numberedGeometryOf : ℕ → Float → Float → Float → PrimitiveGeometry
+numberedGeometryOf k p q r = cond (eqb k 0) (Plane p q) (cond (eqb k 1) (Disk p q) (cond (eqb k 2) (Sphere p) (cond (eqb k 3) (Cylinder p q) (Box p q r))))
 
 -- where a ray meets a shape: the distance and the outward normal, or none
 unfoldable pub intersectLocalOf : PrimitiveGeometry → Ray → Option LocalHit

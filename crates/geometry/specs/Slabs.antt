@@ -36,23 +36,23 @@ pub record Interval : Type 0 where
   pub «far_side» : Side
 
 -- all of the ray, before any axis
-unfoldable pub wholeOf : Interval
-wholeOf = record { near = neg (inf false); far = inf false; «near_side» = Unset; «far_side» = Unset }
+unfoldable pub wholeRay : Interval
+wholeRay = record { near = neg (inf false); far = inf false; «near_side» = Unset; «far_side» = Unset }
 
 -- the near end moved up to t where that is farther: on a tie the earlier axis stays
-unfoldable pub fromOf : Interval → Float → Side → Interval
-fromOf s t side = cond (lt (s .near) t) (record { near = t; far = s .far; «near_side» = side; «far_side» = s .«far_side» }) s
+unfoldable pub movedNear : Interval → Float → Side → Interval
+movedNear s t side = cond (lt (s .near) t) (record { near = t; far = s .far; «near_side» = side; «far_side» = s .«far_side» }) s
 
-unfoldable pub toOf : Interval → Float → Side → Interval
-toOf s t side = cond (lt t (s .far)) (record { near = s .near; far = t; «near_side» = s .«near_side»; «far_side» = side }) s
+unfoldable pub movedFar : Interval → Float → Side → Interval
+movedFar s t side = cond (lt t (s .far)) (record { near = s .near; far = t; «near_side» = s .«near_side»; «far_side» = side }) s
 
 -- one axis: origin o, direction d, half size h and its two sides; a direction of exactly 1e-12 is parallel, and then the axis cuts nothing
-unfoldable pub cutOf : Interval → Float → Float → Float → Side → Side → Interval
-cutOf s o d h minus plus =
+unfoldable pub cutBy : Interval → Float → Float → Float → Side → Side → Interval
+cutBy s o d h minus plus =
     let i = div binary64 #1 d in
     let t1 = mul binary64 (sub binary64 (neg h) o) i in
     let t2 = mul binary64 (sub binary64 h o) i in
-    cond (lt parallel (absOf d)) (cond (le #0 i) (toOf (fromOf s t1 minus) t2 plus) (toOf (fromOf s t2 plus) t1 minus)) s
+    cond (lt parallel (absOf d)) (cond (le #0 i) (movedFar (movedNear s t1 minus) t2 plus) (movedFar (movedNear s t2 plus) t1 minus)) s
 
 -- parallel to an axis's planes and not between them
 unfoldable pub outsideOf : Float → Float → Float → Bool
@@ -60,13 +60,13 @@ outsideOf o d h = cond (lt parallel (absOf d)) false (lt h (absOf o))
 
 unfoldable pub insideOf : Float → Float → Float → Ray → Interval
 insideOf hx hy hz r =
-    let x = cutOf wholeOf (r .origin .x) (r .direction .x) hx MinusX PlusX in
-    let y = cutOf x (r .origin .y) (r .direction .y) hy MinusY PlusY in
-    cutOf y (r .origin .z) (r .direction .z) hz MinusZ PlusZ
+    let x = cutBy wholeRay (r .origin .x) (r .direction .x) hx MinusX PlusX in
+    let y = cutBy x (r .origin .y) (r .direction .y) hy MinusY PlusY in
+    cutBy y (r .origin .z) (r .direction .z) hz MinusZ PlusZ
 
 -- the near end, or the far one where the near end is not ahead
-unfoldable pub hitOf : Interval → Option LocalHit
-hitOf s =
+unfoldable pub hitWithin : Interval → Option LocalHit
+hitWithin s =
     cond (lt (s .far) (s .near)) none
     (cond (le (s .far) minLocalDistance) none
     (cond (lt minLocalDistance (s .near)) (sideHitOf (s .near) (s .«near_side»)) (sideHitOf (s .far) (s .«far_side»))))
@@ -76,4 +76,4 @@ intersectBoxOf hx hy hz r =
     cond
     (outsideOf (r .origin .x) (r .direction .x) hx || (outsideOf (r .origin .y) (r .direction .y) hy || outsideOf (r .origin .z) (r .direction .z) hz))
     none
-    (hitOf (insideOf hx hy hz r))
+    (hitWithin (insideOf hx hy hz r))

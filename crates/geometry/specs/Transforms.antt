@@ -2,7 +2,7 @@
 use lib.Ieee.{binary64, le, ofBits}
 use mathlib.Core.Bool.{cond}
 use mathlib.Core.Option.{Option, none, some}
-use Rattle.doubles.specs.Doubles.{finiteOf}
+use Rattle.doubles.specs.Doubles.{isFiniteOf}
 use Rattle.error.specs.Refusals.{Answer, value, refusal}
 use Rattle.rays.specs.declared.vector.Vec3.{Vec3}
 use Rattle.rays.specs.declared.Ray.{Ray}
@@ -14,31 +14,31 @@ use Rattle.geometry.specs.declared.transform.LocalRay as local
 use Rattle.geometry.specs.declared.transform.UnitVector as unit
 
 -- what the code's answers say
-abbrev pub localRayOf : local.LocalRay → Option Ray
-localRayOf (local.the-variants.Made r) = some r
-localRayOf local.the-variants.Nothing = none
+abbrev pub asLocalRay : local.LocalRay → Option Ray
+asLocalRay (local.the-variants.Made r) = some r
+asLocalRay local.the-variants.Nothing = none
 
-abbrev pub unitVectorOf : unit.UnitVector → Option Vec3
-unitVectorOf (unit.the-variants.Made v) = some v
-unitVectorOf unit.the-variants.Nothing = none
+abbrev pub asUnitVector : unit.UnitVector → Option Vec3
+asUnitVector (unit.the-variants.Made v) = some v
+asUnitVector unit.the-variants.Nothing = none
 
 -- v divided by its length; none for a length at most 1e-15 or not finite
 unfoldable pub unitOf : Vec3 → Option Vec3
 unitOf v =
     let l = normOf v in
-    cond (le l (ofBits binary64 0x3cd203af9ee75616)) none (cond (finiteOf l) (some (divideOf v l)) none)
+    cond (le l (ofBits binary64 0x3cd203af9ee75616)) none (cond (isFiniteOf l) (some (divideOf v l)) none)
 
-unfoldable pub madeOf : Answer Ray → Option Ray
-madeOf (value r) = some r
-madeOf (refusal n) = none
+unfoldable pub madeRay : Answer Ray → Option Ray
+madeRay (value r) = some r
+madeRay (refusal n) = none
 
-unfoldable pub rayAlongOf : Transform3D → Ray → Option Vec3 → Option Ray
-rayAlongOf t r (some d) = madeOf (newRayOf (transformPointOf (t .inverse) (r .origin)) d (r .«wavelength_nm») (r .energy))
-rayAlongOf t r none = none
+unfoldable pub rayAlong : Transform3D → Ray → Option Vec3 → Option Ray
+rayAlong t r (some d) = madeRay (newRayOf (transformPointOf (t .inverse) (r .origin)) d (r .«wavelength_nm») (r .energy))
+rayAlong t r none = none
 
 -- the ray in the shape's coordinates: its direction is made a unit vector there
 unfoldable pub inverseTransformRayOf : Transform3D → Ray → Option Ray
-inverseTransformRayOf t r = rayAlongOf t r (unitOf (transformDirectionOf (t .inverse) (r .direction)))
+inverseTransformRayOf t r = rayAlong t r (unitOf (transformDirectionOf (t .inverse) (r .direction)))
 
 -- the unit normal in the world
 unfoldable pub worldNormalOf : Transform3D → Vec3 → Option Vec3

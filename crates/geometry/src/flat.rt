@@ -4,7 +4,7 @@ use crate::LocalIntersection;
 use rays::Ray;
 use rays::Vec3;
 ghost use mathlib.Core.Path.{_≡_};
-ghost use Rattle.geometry.specs.Hits.{localHitOf};
+ghost use Rattle.geometry.specs.Hits.{asLocalHit};
 ghost use Rattle.geometry.specs.Flat.{reachOf, flatDistanceOf, flatHitOf, planeAtOf, intersectPlaneOf, diskAtOf, intersectDiskOf};
 
 // The distance of a candidate, if there is one.
@@ -37,7 +37,7 @@ fn flat_distance(ray: Ray) -> Distance
 
 // A hit at a distance, with the normal along z.
 fn flat_hit(t: f64) -> LocalIntersection
-    ensures { λ h. ⌜ localHitOf h ≡ flatHitOf t ⌝ }
+    ensures { λ h. ⌜ asLocalHit h ≡ flatHitOf t ⌝ }
 {
     let normal = Vec3 {
         x: 0.0,
@@ -48,7 +48,7 @@ fn flat_hit(t: f64) -> LocalIntersection
 }
 
 fn plane_at(half_width: f64, half_height: f64, ray: Ray, t: f64) -> LocalIntersection
-    ensures { λ h. ⌜ localHitOf h ≡ planeAtOf «half_width» «half_height» ray t ⌝ }
+    ensures { λ h. ⌜ asLocalHit h ≡ planeAtOf «half_width» «half_height» ray t ⌝ }
 {
     let o = ray.origin;
     let d = ray.direction;
@@ -61,7 +61,7 @@ fn plane_at(half_width: f64, half_height: f64, ray: Ray, t: f64) -> LocalInterse
 }
 
 pub fn intersect_plane(half_width: f64, half_height: f64, ray: Ray) -> LocalIntersection
-    ensures { λ h. ⌜ localHitOf h ≡ intersectPlaneOf «half_width» «half_height» ray ⌝ }
+    ensures { λ h. ⌜ asLocalHit h ≡ intersectPlaneOf «half_width» «half_height» ray ⌝ }
 {
     match flat_distance(ray) {
         Distance::At(t) => plane_at(half_width, half_height, ray, t),
@@ -70,7 +70,7 @@ pub fn intersect_plane(half_width: f64, half_height: f64, ray: Ray) -> LocalInte
 }
 
 fn disk_at(outer_radius: f64, inner_radius: f64, ray: Ray, t: f64) -> LocalIntersection
-    ensures { λ h. ⌜ localHitOf h ≡ diskAtOf «outer_radius» «inner_radius» ray t ⌝ }
+    ensures { λ h. ⌜ asLocalHit h ≡ diskAtOf «outer_radius» «inner_radius» ray t ⌝ }
 {
     let o = ray.origin;
     let d = ray.direction;
@@ -84,7 +84,7 @@ fn disk_at(outer_radius: f64, inner_radius: f64, ray: Ray, t: f64) -> LocalInter
 }
 
 pub fn intersect_disk(outer_radius: f64, inner_radius: f64, ray: Ray) -> LocalIntersection
-    ensures { λ h. ⌜ localHitOf h ≡ intersectDiskOf «outer_radius» «inner_radius» ray ⌝ }
+    ensures { λ h. ⌜ asLocalHit h ≡ intersectDiskOf «outer_radius» «inner_radius» ray ⌝ }
 {
     match flat_distance(ray) {
         Distance::At(t) => disk_at(outer_radius, inner_radius, ray, t),

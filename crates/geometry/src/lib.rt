@@ -14,8 +14,8 @@ pub use transform::LocalRay;
 pub use transform::Transform3D;
 pub use transform::UnitVector;
 ghost use mathlib.Core.Path.{_≡_};
-ghost use Rattle.geometry.specs.Hits.{localHitOf};
-ghost use Rattle.geometry.specs.Shapes.{shapeOf, intersectLocalOf};
+ghost use Rattle.geometry.specs.Hits.{asLocalHit};
+ghost use Rattle.geometry.specs.Shapes.{numberedGeometryOf, intersectLocalOf};
 
 // A shape, with its sizes in millimetres.
 pub enum PrimitiveGeometry {
@@ -64,7 +64,7 @@ impl PrimitiveGeometry {
     // The shape of document 01's number, with as many of the sizes as it takes; the last for a larger
     // one.
     pub fn numbered(number: u32, p: f64, q: f64, r: f64) -> PrimitiveGeometry
-        ensures { λ g. ⌜ g ≡ shapeOf number p q r ⌝ }
+        ensures { λ g. ⌜ g ≡ numberedGeometryOf number p q r ⌝ }
     {
         if number == 0 {
             return PrimitiveGeometry::Plane {
@@ -96,7 +96,7 @@ impl PrimitiveGeometry {
 
     // Where a ray in the shape's coordinates first meets it.
     pub fn intersect_local(self, ray: Ray) -> LocalIntersection
-        ensures { λ h. ⌜ localHitOf h ≡ intersectLocalOf self ray ⌝ }
+        ensures { λ h. ⌜ asLocalHit h ≡ intersectLocalOf self ray ⌝ }
     {
         match self {
             PrimitiveGeometry::Plane {

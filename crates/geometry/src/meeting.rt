@@ -10,9 +10,9 @@ use rays::Ray;
 use rays::Vec3;
 ghost use mathlib.Core.Path.{_≡_};
 ghost use Rattle.geometry.specs.declared.PrimitiveGeometry.the-variants.{Box};
-ghost use Rattle.geometry.specs.Transforms.{localRayOf};
-ghost use Rattle.geometry.specs.Behind.{recedesOf, leavesOf, behindOf};
-ghost use Rattle.geometry.specs.Meetings.{metOf, meetAlongOf, meetOf};
+ghost use Rattle.geometry.specs.Transforms.{asLocalRay};
+ghost use Rattle.geometry.specs.Behind.{recedesOf, leavesOf, isBehindOf};
+ghost use Rattle.geometry.specs.Meetings.{asMeeting, meetAlongOf, meetOf};
 
 pub struct Meeting {
     pub point: Vec3,
@@ -40,7 +40,7 @@ fn leaves(o: f64, d: f64, h: f64) -> bool
 
 // Of a box. All three axes are looked at, since which of them tells is hard to predict.
 fn leaves_box(half_x: f64, half_y: f64, half_z: f64, o: Vec3, d: Vec3) -> bool
-    ensures { λ r. ⌜ r ≡ behindOf (Box «half_x» «half_y» «half_z») o d ⌝ }
+    ensures { λ r. ⌜ r ≡ isBehindOf (Box «half_x» «half_y» «half_z») o d ⌝ }
 {
     let x = leaves(o.x, d.x, half_x);
     let y = leaves(o.y, d.y, half_y);
@@ -51,7 +51,7 @@ fn leaves_box(half_x: f64, half_y: f64, half_z: f64, o: Vec3, d: Vec3) -> bool
 impl PrimitiveGeometry {
     // Whether the shape surely lies behind a ray from o along d, which may have any length.
     fn is_behind(self, o: Vec3, d: Vec3) -> bool
-        ensures { λ r. ⌜ r ≡ behindOf self o d ⌝ }
+        ensures { λ r. ⌜ r ≡ isBehindOf self o d ⌝ }
     {
         match self {
             PrimitiveGeometry::Plane {
@@ -77,7 +77,7 @@ impl PrimitiveGeometry {
 
     // By the ray in the shape's coordinates.
     fn meet_along(self, along: LocalRay) -> Met
-        ensures { λ m. ⌜ metOf m ≡ meetAlongOf self (localRayOf along) ⌝ }
+        ensures { λ m. ⌜ asMeeting m ≡ meetAlongOf self (asLocalRay along) ⌝ }
     {
         match along {
             LocalRay::Made(ray) => match self.intersect_local(ray) {
@@ -93,7 +93,7 @@ impl PrimitiveGeometry {
 
     // `inverse` is the inverse of the shape's matrix.
     pub fn meet(self, inverse: Mat4, ray: Ray) -> Met
-        ensures { λ m. ⌜ metOf m ≡ meetOf self inverse ray ⌝ }
+        ensures { λ m. ⌜ asMeeting m ≡ meetOf self inverse ray ⌝ }
     {
         let o = inverse.transform_point(ray.origin);
         let d = inverse.transform_direction(ray.direction);

@@ -5,8 +5,8 @@ use crate::flat::reach;
 use rays::Ray;
 use rays::Vec3;
 ghost use mathlib.Core.Path.{_≡_};
-ghost use Rattle.geometry.specs.Hits.{localHitOf};
-ghost use Rattle.geometry.specs.Away.{awayOf};
+ghost use Rattle.geometry.specs.Hits.{asLocalHit};
+ghost use Rattle.geometry.specs.Away.{isAwayOf};
 ghost use Rattle.geometry.specs.Round.{solveOf, sphereAtOf, sphereAmongOf, intersectSphereOf, cylinderHitOf, cylinderAtOf, cylinderAmongOf, cylinderRootsOf, intersectCylinderOf};
 
 // The roots of a quadratic equation, in the order in which they are tried.
@@ -32,7 +32,7 @@ fn solve(a: f64, b: f64, c: f64) -> Roots
 
 // The candidate at t on a sphere.
 fn sphere_at(radius: f64, ray: Ray, t: f64) -> LocalIntersection
-    ensures { λ h. ⌜ localHitOf h ≡ sphereAtOf radius ray t ⌝ }
+    ensures { λ h. ⌜ asLocalHit h ≡ sphereAtOf radius ray t ⌝ }
 {
     if t > Ray::MIN_LOCAL_DISTANCE {
         let normal = ray.at(t).divide(radius);
@@ -42,7 +42,7 @@ fn sphere_at(radius: f64, ray: Ray, t: f64) -> LocalIntersection
 }
 
 fn sphere_among(radius: f64, ray: Ray, candidates: Roots) -> LocalIntersection
-    ensures { λ h. ⌜ localHitOf h ≡ sphereAmongOf radius ray candidates ⌝ }
+    ensures { λ h. ⌜ asLocalHit h ≡ sphereAmongOf radius ray candidates ⌝ }
 {
     match candidates {
         Roots::Two { first, second } => match sphere_at(radius, ray, first) {
@@ -56,7 +56,7 @@ fn sphere_among(radius: f64, ray: Ray, candidates: Roots) -> LocalIntersection
 // Whether a ray outside a sphere surely runs away from it, told by b and c before any root: the root of b * b - 4 a c
 // is then at most b. The bits say that b is above 0 and that its square is no subnormal number and no infinity.
 fn is_away(b: f64, c: f64) -> bool
-    ensures { λ r. ⌜ r ≡ awayOf b c ⌝ }
+    ensures { λ r. ⌜ r ≡ isAwayOf b c ⌝ }
 {
     if c > 0.0 {
         let bits = doubles::to_bits(b);
@@ -69,7 +69,7 @@ fn is_away(b: f64, c: f64) -> bool
 
 // A negative radius counts as its absolute value.
 pub fn intersect_sphere(radius: f64, ray: Ray) -> LocalIntersection
-    ensures { λ h. ⌜ localHitOf h ≡ intersectSphereOf radius ray ⌝ }
+    ensures { λ h. ⌜ asLocalHit h ≡ intersectSphereOf radius ray ⌝ }
 {
     let r = doubles::abs(radius);
     let o = ray.origin;
@@ -85,7 +85,7 @@ pub fn intersect_sphere(radius: f64, ray: Ray) -> LocalIntersection
 
 // The hit at t on a cylinder. A negative radius turns the normal round.
 fn cylinder_hit(radius: f64, ray: Ray, t: f64) -> LocalIntersection
-    ensures { λ h. ⌜ localHitOf h ≡ cylinderHitOf radius ray t ⌝ }
+    ensures { λ h. ⌜ asLocalHit h ≡ cylinderHitOf radius ray t ⌝ }
 {
     let o = ray.origin;
     let d = ray.direction;
@@ -99,7 +99,7 @@ fn cylinder_hit(radius: f64, ray: Ray, t: f64) -> LocalIntersection
 
 // The candidate at t on a cylinder.
 fn cylinder_at(radius: f64, half_length: f64, ray: Ray, t: f64) -> LocalIntersection
-    ensures { λ h. ⌜ localHitOf h ≡ cylinderAtOf radius «half_length» ray t ⌝ }
+    ensures { λ h. ⌜ asLocalHit h ≡ cylinderAtOf radius «half_length» ray t ⌝ }
 {
     let o = ray.origin;
     let d = ray.direction;
@@ -112,7 +112,7 @@ fn cylinder_at(radius: f64, half_length: f64, ray: Ray, t: f64) -> LocalIntersec
 }
 
 fn cylinder_among(radius: f64, half_length: f64, ray: Ray, candidates: Roots) -> LocalIntersection
-    ensures { λ h. ⌜ localHitOf h ≡ cylinderAmongOf radius «half_length» ray candidates ⌝ }
+    ensures { λ h. ⌜ asLocalHit h ≡ cylinderAmongOf radius «half_length» ray candidates ⌝ }
 {
     match candidates {
         Roots::Two { first, second } => match cylinder_at(radius, half_length, ray, first) {
@@ -139,7 +139,7 @@ fn cylinder_roots(radius: f64, ray: Ray) -> Roots
 }
 
 pub fn intersect_cylinder(radius: f64, half_length: f64, ray: Ray) -> LocalIntersection
-    ensures { λ h. ⌜ localHitOf h ≡ intersectCylinderOf radius «half_length» ray ⌝ }
+    ensures { λ h. ⌜ asLocalHit h ≡ intersectCylinderOf radius «half_length» ray ⌝ }
 {
     cylinder_among(radius, half_length, ray, cylinder_roots(radius, ray))
 }

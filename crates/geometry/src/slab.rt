@@ -5,8 +5,8 @@ use rays::Ray;
 use rays::Vec3;
 ghost use mathlib.Core.Path.{_≡_};
 ghost use Rattle.rays.specs.Vectors.{vec3};
-ghost use Rattle.geometry.specs.Hits.{localHitOf};
-ghost use Rattle.geometry.specs.Slabs.{normalOf, outsideOf, insideOf, sideHitOf, hitOf, intersectBoxOf};
+ghost use Rattle.geometry.specs.Hits.{asLocalHit};
+ghost use Rattle.geometry.specs.Slabs.{normalOf, outsideOf, insideOf, sideHitOf, hitWithin, intersectBoxOf};
 ghost use Rattle.geometry.specs.Spans.{firstFaceOf, alongOf, laterOf, soonerOf, nearEndsOf, farEndsOf, sideForOf, nearSideOf, farSideOf, hitBetweenOf};
 
 // A side of a box, or none yet.
@@ -57,7 +57,7 @@ impl Side {
 }
 
 fn side_hit(t: f64, side: Side) -> LocalIntersection
-    ensures { λ h. ⌜ localHitOf h ≡ sideHitOf t side ⌝ }
+    ensures { λ h. ⌜ asLocalHit h ≡ sideHitOf t side ⌝ }
 {
     let normal = side.normal();
     LocalIntersection::Hit(LocalHit { t, normal })
@@ -169,7 +169,7 @@ fn far_side(d: Vec3, x: Span, y: Span, z: Span, ends: Ends) -> Side
 
 // The near end, or the far one where the near end is behind. Sides are looked for only where one is met.
 fn hit_between(d: Vec3, x: Span, y: Span, z: Span) -> LocalIntersection
-    ensures { λ h. ⌜ localHitOf h ≡ hitBetweenOf d x y z ⌝ }
+    ensures { λ h. ⌜ asLocalHit h ≡ hitBetweenOf d x y z ⌝ }
 {
     let near = near_ends(x, y, z);
     let far = far_ends(x, y, z);
@@ -197,7 +197,7 @@ fn outside(o: f64, d: f64, h: f64) -> bool
 
 // Where a ray that is outside none of the axes' planes meets the box.
 fn inside(half_x: f64, half_y: f64, half_z: f64, ray: Ray) -> LocalIntersection
-    ensures { λ h. ⌜ localHitOf h ≡ hitOf (insideOf «half_x» «half_y» «half_z» ray) ⌝ }
+    ensures { λ h. ⌜ asLocalHit h ≡ hitWithin (insideOf «half_x» «half_y» «half_z» ray) ⌝ }
 {
     let o = ray.origin;
     let d = ray.direction;
@@ -208,7 +208,7 @@ fn inside(half_x: f64, half_y: f64, half_z: f64, ray: Ray) -> LocalIntersection
 }
 
 pub fn intersect_box(half_x: f64, half_y: f64, half_z: f64, ray: Ray) -> LocalIntersection
-    ensures { λ h. ⌜ localHitOf h ≡ intersectBoxOf «half_x» «half_y» «half_z» ray ⌝ }
+    ensures { λ h. ⌜ asLocalHit h ≡ intersectBoxOf «half_x» «half_y» «half_z» ray ⌝ }
 {
     let o = ray.origin;
     let d = ray.direction;

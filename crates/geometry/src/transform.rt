@@ -4,7 +4,7 @@ use rays::Ray;
 use rays::Vec3;
 ghost use mathlib.Core.Path.{_≡_};
 ghost use Rattle.rays.specs.Matrices.{transformPointOf};
-ghost use Rattle.geometry.specs.Transforms.{unitVectorOf, localRayOf, unitOf, inverseTransformRayOf, worldNormalOf};
+ghost use Rattle.geometry.specs.Transforms.{asUnitVector, asLocalRay, unitOf, inverseTransformRayOf, worldNormalOf};
 ghost use Rattle.geometry.specs.Meetings.{rayFromOf};
 
 pub struct Transform3D {
@@ -24,7 +24,7 @@ pub enum UnitVector {
 
 // The unit vector along v; nothing for a length at most 1e-15 or not finite.
 fn unit(v: Vec3) -> UnitVector
-    ensures { λ r. ⌜ unitVectorOf r ≡ unitOf v ⌝ }
+    ensures { λ r. ⌜ asUnitVector r ≡ unitOf v ⌝ }
 {
     let length = v.norm();
     if length <= 1e-15 {
@@ -39,7 +39,7 @@ fn unit(v: Vec3) -> UnitVector
 // The ray from o along d, made a unit vector, with the wavelength and the power of another; nothing if a part
 // is not finite. A unit vector's parts are.
 pub(crate) fn ray_from(o: Vec3, d: Vec3, ray: Ray) -> LocalRay
-    ensures { λ r. ⌜ localRayOf r ≡ rayFromOf o d ray ⌝ }
+    ensures { λ r. ⌜ asLocalRay r ≡ rayFromOf o d ray ⌝ }
 {
     match unit(d) {
         UnitVector::Made(u) => {
@@ -60,7 +60,7 @@ pub(crate) fn ray_from(o: Vec3, d: Vec3, ray: Ray) -> LocalRay
 impl Transform3D {
     // The ray in the shape's coordinates, with a unit direction there.
     pub fn inverse_transform_ray(self, ray: Ray) -> LocalRay
-        ensures { λ r. ⌜ localRayOf r ≡ inverseTransformRayOf self ray ⌝ }
+        ensures { λ r. ⌜ asLocalRay r ≡ inverseTransformRayOf self ray ⌝ }
     {
         let w = self.inverse;
         ray_from(
@@ -72,7 +72,7 @@ impl Transform3D {
 
     // The unit normal in the world.
     pub fn transform_normal(self, normal: Vec3) -> UnitVector
-        ensures { λ r. ⌜ unitVectorOf r ≡ worldNormalOf self normal ⌝ }
+        ensures { λ r. ⌜ asUnitVector r ≡ worldNormalOf self normal ⌝ }
     {
         unit(self.inverse.transform_normal(normal))
     }

@@ -10,11 +10,11 @@ use borrow.Author.Tests.{lt-ltb, le-ltb}
 use Rattle.error.specs.declared.Check.{Check}
 use Rattle.error.specs.declared.Check.the-variants.{Passed, Refused}
 use Rattle.error.specs.declared.NonSeqError.{NonSeqError}
-use Rattle.error.specs.Refusals.{numberOf, Checked, passed, refusedAt, after, checkOf}
+use Rattle.error.specs.Refusals.{numberOf, Checked, passed, refusedAt, after, asChecked}
 use Rattle.scene.specs.declared.SolidNo.{SolidNo}
 use Rattle.media.specs.Media.{solidIn}
 use Rattle.step.specs.declared.ActiveRay.{ActiveRay}
-use Rattle.given_rays.specs.Given.{allSolids, checkRayOf, checkRaysFrom, launchedFrom, launchedOf}
+use Rattle.given_rays.specs.Given.{allSolidsOf, checkRayOf, checkRaysOf, launchedFrom, launchedOf}
 
 left-one : (n i : ℕ) → i < n → n - i ≡ suc (n - (i + 1))
 left-one n i h = omega arith
@@ -23,20 +23,20 @@ left-none : (n i : ℕ) → n ≤ i → n - i ≡ 0
 left-none n i h = omega arith
 
 module _ (l : List SolidNo) (s : ℕ) where
-  pub solids-start : (n : ℕ) → allSolids l s (n - 0) 0 ≡ allSolids l s n 0
+  pub solids-start : (n : ℕ) → allSolidsOf l s (n - 0) 0 ≡ allSolidsOf l s n 0
   solids-start n = rw sub-zero
 
   module _ (n i : ℕ) (z : Bool) where
-    pub solids-turn : i < n → solidIn l i .0 < s → allSolids l s (n - i) i ≡ z → allSolids l s (n - (i + 1)) (i + 1) ≡ z
-    unfolding allSolids
+    pub solids-turn : i < n → solidIn l i .0 < s → allSolidsOf l s (n - i) i ≡ z → allSolidsOf l s (n - (i + 1)) (i + 1) ≡ z
+    unfolding allSolidsOf
     solids-turn h e p = rw (lt-ltb _ _ e) at (rw (left-one n i h) at p)
 
-    pub solids-not : i < n → s ≤ solidIn l i .0 → allSolids l s (n - i) i ≡ z → false ≡ z
-    unfolding allSolids
+    pub solids-not : i < n → s ≤ solidIn l i .0 → allSolidsOf l s (n - i) i ≡ z → false ≡ z
+    unfolding allSolidsOf
     solids-not h e p = rw (le-ltb _ _ e) at (rw (left-one n i h) at p)
 
-    pub solids-end : n ≤ i → allSolids l s (n - i) i ≡ z → true ≡ z
-    unfolding allSolids
+    pub solids-end : n ≤ i → allSolidsOf l s (n - i) i ≡ z → true ≡ z
+    unfolding allSolidsOf
     solids-end h p = rw (left-none n i h) at p
 
 module _ (given : ℕ → ActiveRay) where
@@ -54,20 +54,20 @@ module _ (given : ℕ → ActiveRay) where
     launch-end h p = rw (left-none n i h) at p
 
   module _ (s : ℕ) where
-    pub rays-start : (n : ℕ) → checkRaysFrom given s (n - 0) 0 ≡ checkRaysFrom given s n 0
+    pub rays-start : (n : ℕ) → checkRaysOf given s (n - 0) 0 ≡ checkRaysOf given s n 0
     rays-start n = rw sub-zero
 
     module _ (n i : ℕ) (z : Checked Unit) where
-      pub rays-end : n ≤ i → checkRaysFrom given s (n - i) i ≡ z → passed tt ≡ z
-      unfolding checkRaysFrom
+      pub rays-end : n ≤ i → checkRaysOf given s (n - i) i ≡ z → passed tt ≡ z
+      unfolding checkRaysOf
       rays-end h p = rw (left-none n i h) at p
 
-      module _ (a : ActiveRay) (r : Check) (h : i < n) (e : a ≡ given i) (said : checkOf r ≡ checkRayOf a s i) (p : checkRaysFrom given s (n - i) i ≡ z) where
-        unfolded : after (checkOf r) (checkRaysFrom given s (n - (i + 1)) (i + 1)) ≡ z
-        unfolding checkRaysFrom
+      module _ (a : ActiveRay) (r : Check) (h : i < n) (e : a ≡ given i) (said : asChecked r ≡ checkRayOf a s i) (p : checkRaysOf given s (n - i) i ≡ z) where
+        unfolded : after (asChecked r) (checkRaysOf given s (n - (i + 1)) (i + 1)) ≡ z
+        unfolding checkRaysOf
         unfolded = rw (said, e) (rw (left-one n i h) at p)
 
-        pub rays-turn : r ≡ Passed → checkRaysFrom given s (n - (i + 1)) (i + 1) ≡ z
+        pub rays-turn : r ≡ Passed → checkRaysOf given s (n - (i + 1)) (i + 1) ≡ z
         rays-turn k = rw k at unfolded
 
         pub rays-refused : (x : NonSeqError) (place : ℕ) → r ≡ Refused x place → refusedAt (numberOf x) place ≡ z

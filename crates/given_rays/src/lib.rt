@@ -11,8 +11,8 @@ use step::ActiveRay;
 ghost use mathlib.Core.Path.{_≡_};
 ghost use Prim.Native.Nat.{_+_, _*_, _≤_};
 ghost use lib.ListN.{length};
-ghost use Rattle.error.specs.Refusals.{checkOf};
-ghost use Rattle.given_rays.specs.Given.{readRayOf, readMediaOf, blank, givenOf, checkListsOf, allSolids, validMediaOf, checkRayOf, checkRaysFrom, launchedOf};
+ghost use Rattle.error.specs.Refusals.{asChecked};
+ghost use Rattle.given_rays.specs.Given.{readRayOf, readMediaOf, noRayOf, givenAtOf, checkListsOf, allSolidsOf, validMediaOf, checkRayOf, checkRaysOf, launchedOf};
 
 fn read_ray(values: &[f64], i: u32) -> Ray
     requires { ⌜ i * 8 + 8 ≤ length (now values) ⌝ }
@@ -57,7 +57,7 @@ fn read_media(tags: &[u32], i: u32) -> Media
 
 // What stands for a ray that the lists do not hold: NaN and 0.
 pub fn no_ray() -> ActiveRay
-    ensures { λ r. ⌜ r ≡ blank ⌝ }
+    ensures { λ r. ⌜ r ≡ noRayOf ⌝ }
 {
     let nan = 0.0 / 0.0;
     let v = Vec3 {
@@ -82,7 +82,7 @@ pub fn no_ray() -> ActiveRay
 
 // Ray i, as it starts.
 pub fn given_at(values: &[f64], tags: &[u32], i: u32) -> ActiveRay
-    ensures { λ r. ⌜ r ≡ givenOf (now (values .entry)) (now (tags .entry)) i ⌝ }
+    ensures { λ r. ⌜ r ≡ givenAtOf (now (values .entry)) (now (tags .entry)) i ⌝ }
 {
     let none = no_ray();
     if i as usize * 8 + 8 <= values.len() {
@@ -101,7 +101,7 @@ pub fn given_at(values: &[f64], tags: &[u32], i: u32) -> ActiveRay
 
 // Whether lists of these lengths are those of so many rays (17).
 pub fn check_lists(values: usize, tags: usize, rays: u32) -> Check
-    ensures { λ r. ⌜ checkOf r ≡ checkListsOf values tags rays ⌝ }
+    ensures { λ r. ⌜ asChecked r ≡ checkListsOf values tags rays ⌝ }
 {
     if values == rays as usize * 8 {
         if tags == rays as usize * 10 {
@@ -117,7 +117,7 @@ pub fn check_lists(values: usize, tags: usize, rays: u32) -> Check
 // Whether the first n places hold solids.
 fn all_solids(list: [SolidNo; 24], n: usize, solids: u32) -> bool
     requires { ⌜ n ≤ 24 ⌝ }
-    ensures { λ r. ⌜ r ≡ allSolids list solids n 0 ⌝ }
+    ensures { λ r. ⌜ r ≡ allSolidsOf list solids n 0 ⌝ }
 {
     let mut i: usize = 0;
     while i < n {
@@ -144,7 +144,7 @@ fn valid_media(media: Media, solids: u32) -> bool
 
 // 10 for a ray that may not be given, then 11 for its media.
 fn check_ray(a: ActiveRay, solids: u32, place: u32) -> Check
-    ensures { λ r. ⌜ checkOf r ≡ checkRayOf a solids place ⌝ }
+    ensures { λ r. ⌜ asChecked r ≡ checkRayOf a solids place ⌝ }
 {
     let ray = a.ray;
     if ray.is_valid() {
@@ -164,7 +164,7 @@ fn check_ray(a: ActiveRay, solids: u32, place: u32) -> Check
 
 // The first of the rays that is refused, by 10 or 11.
 pub fn check_rays(values: &[f64], tags: &[u32], rays: u32, solids: u32) -> Check
-    ensures { λ r. ⌜ checkOf r ≡ checkRaysFrom (givenOf (now (values .entry)) (now (tags .entry))) solids rays 0 ⌝ }
+    ensures { λ r. ⌜ asChecked r ≡ checkRaysOf (givenAtOf (now (values .entry)) (now (tags .entry))) solids rays 0 ⌝ }
 {
     let mut i: u32 = 0;
     while i < rays {
@@ -182,7 +182,7 @@ pub fn check_rays(values: &[f64], tags: &[u32], rays: u32, solids: u32) -> Check
 
 // The power launched, summed first to last.
 pub fn launched(values: &[f64], tags: &[u32], rays: u32) -> f64
-    ensures { λ r. ⌜ r ≡ launchedOf (givenOf (now (values .entry)) (now (tags .entry))) rays ⌝ }
+    ensures { λ r. ⌜ r ≡ launchedOf (givenAtOf (now (values .entry)) (now (tags .entry))) rays ⌝ }
 {
     let mut sum = 0.0;
     let mut i: u32 = 0;

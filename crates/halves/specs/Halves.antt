@@ -5,14 +5,14 @@ use mathlib.Core.List.{List}
 use lib.Dec.{leb}
 use lib.Ieee.{Float}
 use lib.ListN.{length, take, drop}
-use Rattle.memory.specs.Memory.{Memory, memoryOf, Outcome, outcomeOf}
+use Rattle.memory.specs.Memory.{Memory, lentMemory, Outcome, asOutcome}
 use Rattle.trace.specs.declared.Traced.{Traced}
 use Rattle.theorems_calls.specs.Parts.{Part}
 use Rattle.halves.specs.declared.Halved.{Halved}
 
 -- at most all rays
-unfoldable pub cutOf : ℕ → ℕ → ℕ
-cutOf cut given = cond (leb cut given) cut given
+unfoldable pub cutAtOf : ℕ → ℕ → ℕ
+cutAtOf cut given = cond (leb cut given) cut given
 
 -- a place n further on; no batch comes near the largest
 unfoldable pub furtherOf : ℕ → ℕ → ℕ
@@ -26,8 +26,8 @@ abbrev pub formerPart : List Float → List ℕ → ℕ → Part
 formerPart v t n = record { values = take (n * 8) v; tags = take (n * 10) t; rays = n }
 
 -- what the code's answers say
-abbrev pub answeredOf : Traced → Halved
-answeredOf r = record { check = r .check; detectors = r .detectors; used = r .used }
+abbrev pub answerOf : Traced → Halved
+answerOf r = record { check = r .check; detectors = r .detectors; used = r .used }
 
-abbrev pub halvedOf : Halved → List Float → List ℕ → List Float → List ℕ → Outcome Memory
-halvedOf r f h v t = outcomeOf (r .check) (memoryOf (r .detectors) f h v t (r .used))
+abbrev pub asHalved : Halved → List Float → List ℕ → List Float → List ℕ → Outcome Memory
+asHalved r f h v t = asOutcome (r .check) (lentMemory (r .detectors) f h v t (r .used))

@@ -7,10 +7,10 @@ ghost use mathlib.Core.Path.{_≡_};
 ghost use Prim.Native.Nat.{_≤_, _*_};
 ghost use lib.ListN.{length};
 ghost use Rattle.error.specs.Refusals.{passed};
-ghost use Rattle.memory.specs.Memory.{memoryOf};
-ghost use Rattle.trace.specs.Trace.{batchOf, checkTraceOf, traceRaysOf, tracedOf};
+ghost use Rattle.memory.specs.Memory.{lentMemory};
+ghost use Rattle.trace.specs.Trace.{lentBatch, checkBatch, traceRaysOf, asTraced};
 ghost use Rattle.theorems_calls.specs.Parts.{withRays};
-ghost use Rattle.halves.specs.Halves.{cutOf, furtherOf, laterPart, formerPart, answeredOf, halvedOf};
+ghost use Rattle.halves.specs.Halves.{cutAtOf, furtherOf, laterPart, formerPart, answerOf, asHalved};
 
 // The refusal or none, and what goes on. The ledger and tallies of a split batch are those of its parts.
 pub struct Halved {
@@ -21,7 +21,7 @@ pub struct Halved {
 
 // How many rays the first part has: at most all.
 fn cut_at(cut: u32, given: u32) -> u32
-    ensures { λ r. ⌜ (r ≡ cutOf cut given) × (r ≤ given) ⌝ }
+    ensures { λ r. ⌜ (r ≡ cutAtOf cut given) × (r ≤ given) ⌝ }
 {
     if cut <= given {
         return cut;
@@ -57,10 +57,10 @@ fn later(
     used: usize,
 ) -> Traced
     requires { ⌜ (n ≤ given) × (given * 8 ≤ length (now rays)) × (given * 10 ≤ length (now marks)) ⌝ }
-    ensures { λ r. ⌜ tracedOf r (now (flux .exit)) (now (hits .exit)) (now (places .exit)) (now (kinds .exit))
-        ≡ traceRaysOf (withRays (batchOf config (now (values .entry)) (now (tags .entry)) count (now (rays .entry)) (now (marks .entry)) given)
+    ensures { λ r. ⌜ asTraced r (now (flux .exit)) (now (hits .exit)) (now (places .exit)) (now (kinds .exit))
+        ≡ traceRaysOf (withRays (lentBatch config (now (values .entry)) (now (tags .entry)) count (now (rays .entry)) (now (marks .entry)) given)
         (laterPart (now (rays .entry)) (now (marks .entry)) given n))
-        (memoryOf detectors (now (flux .entry)) (now (hits .entry)) (now (places .entry)) (now (kinds .entry)) used) ⌝ }
+        (lentMemory detectors (now (flux .entry)) (now (hits .entry)) (now (places .entry)) (now (kinds .entry)) used) ⌝ }
 {
     let a = n as usize * 8;
     let b = n as usize * 10;
@@ -102,10 +102,10 @@ fn former(
     used: usize,
 ) -> Traced
     requires { ⌜ (n ≤ given) × (given * 8 ≤ length (now rays)) × (given * 10 ≤ length (now marks)) ⌝ }
-    ensures { λ r. ⌜ tracedOf r (now (flux .exit)) (now (hits .exit)) (now (places .exit)) (now (kinds .exit))
-        ≡ traceRaysOf (withRays (batchOf config (now (values .entry)) (now (tags .entry)) count (now (rays .entry)) (now (marks .entry)) given)
+    ensures { λ r. ⌜ asTraced r (now (flux .exit)) (now (hits .exit)) (now (places .exit)) (now (kinds .exit))
+        ≡ traceRaysOf (withRays (lentBatch config (now (values .entry)) (now (tags .entry)) count (now (rays .entry)) (now (marks .entry)) given)
         (formerPart (now (rays .entry)) (now (marks .entry)) n))
-        (memoryOf detectors (now (flux .entry)) (now (hits .entry)) (now (places .entry)) (now (kinds .entry)) used) ⌝ }
+        (lentMemory detectors (now (flux .entry)) (now (hits .entry)) (now (places .entry)) (now (kinds .entry)) used) ⌝ }
 {
     let a = n as usize * 8;
     let b = n as usize * 10;
@@ -129,7 +129,7 @@ fn former(
 }
 
 fn answer(r: Traced) -> Halved
-    ensures { λ a. ⌜ a ≡ answeredOf r ⌝ }
+    ensures { λ a. ⌜ a ≡ answerOf r ⌝ }
 {
     let check = r.check;
     let detectors = r.detectors;
@@ -158,11 +158,11 @@ fn both(
     kinds: &mut [u32],
     used: usize,
 ) -> Halved
-    requires { ⌜ (n ≤ given) × (checkTraceOf (batchOf config (now values) (now tags) count (now rays) (now marks) given)
-        (memoryOf detectors (now flux) (now hits) (now places) (now kinds) used) ≡ passed tt) ⌝ }
-    ensures { λ r. ⌜ halvedOf r (now (flux .exit)) (now (hits .exit)) (now (places .exit)) (now (kinds .exit))
-        ≡ traceRaysOf (batchOf config (now (values .entry)) (now (tags .entry)) count (now (rays .entry)) (now (marks .entry)) given)
-        (memoryOf detectors (now (flux .entry)) (now (hits .entry)) (now (places .entry)) (now (kinds .entry)) used) .outcome ⌝ }
+    requires { ⌜ (n ≤ given) × (checkBatch (lentBatch config (now values) (now tags) count (now rays) (now marks) given)
+        (lentMemory detectors (now flux) (now hits) (now places) (now kinds) used) ≡ passed tt) ⌝ }
+    ensures { λ r. ⌜ asHalved r (now (flux .exit)) (now (hits .exit)) (now (places .exit)) (now (kinds .exit))
+        ≡ traceRaysOf (lentBatch config (now (values .entry)) (now (tags .entry)) count (now (rays .entry)) (now (marks .entry)) given)
+        (lentMemory detectors (now (flux .entry)) (now (hits .entry)) (now (places .entry)) (now (kinds .entry)) used) .outcome ⌝ }
 {
     let a = later(
         config,
@@ -231,9 +231,9 @@ pub fn trace_rays_in_two(
     kinds: &mut [u32],
     used: usize,
 ) -> Halved
-    ensures { λ r. ⌜ halvedOf r (now (flux .exit)) (now (hits .exit)) (now (places .exit)) (now (kinds .exit))
-        ≡ traceRaysOf (batchOf config (now (values .entry)) (now (tags .entry)) count (now (rays .entry)) (now (marks .entry)) given)
-        (memoryOf detectors (now (flux .entry)) (now (hits .entry)) (now (places .entry)) (now (kinds .entry)) used) .outcome ⌝ }
+    ensures { λ r. ⌜ asHalved r (now (flux .exit)) (now (hits .exit)) (now (places .exit)) (now (kinds .exit))
+        ≡ traceRaysOf (lentBatch config (now (values .entry)) (now (tags .entry)) count (now (rays .entry)) (now (marks .entry)) given)
+        (lentMemory detectors (now (flux .entry)) (now (hits .entry)) (now (places .entry)) (now (kinds .entry)) used) .outcome ⌝ }
 {
     match trace::check_trace(
         config,

@@ -5,35 +5,35 @@ use mathlib.Core.List.{List}
 use lib.Ieee.{Float}
 use Rattle.error.specs.declared.Check.{Check}
 use Rattle.error.specs.declared.Check.the-variants.{Passed, Refused}
-use Rattle.error.specs.Refusals.{Checked, passed, refusedAt, checkOf}
+use Rattle.error.specs.Refusals.{Checked, passed, refusedAt, asChecked}
 use Rattle.memory.specs.declared.recording.Recorded.{Recorded}
-use Rattle.memory.specs.Memory.{Memory, memoryOf, Outcome, outcomeOf, recordedOf}
+use Rattle.memory.specs.Memory.{Memory, lentMemory, Outcome, asOutcome, asRecorded}
 use Rattle.filter.specs.declared.filtering.Filtered.{Filtered}
-use Rattle.filter.specs.Handed.{Handed, filteredOf}
+use Rattle.filter.specs.Handed.{Handed, asHanded}
 use Rattle.host_numbers.specs.declared.HostChecked.{HostChecked}
-use Rattle.host_numbers.specs.Numbers.{checkedFrom}
+use Rattle.host_numbers.specs.Numbers.{checkedOf}
 use Rattle.host_detectors.specs.Maps.{recorded, recordedFrom, filtered, filteredFrom, filteredWith}
 
 recorded-by : (c : Check) (m : Memory)
-    → recorded (record { refusal = checkedFrom (checkOf c) .refusal; place = checkedFrom (checkOf c) .place; used = m .used; detectors = m .detectors }) (m .flux) (m .hits) (m .values) (m .tags)
-    ≡ recordedFrom (outcomeOf c m)
+    → recorded (record { refusal = checkedOf (asChecked c) .refusal; place = checkedOf (asChecked c) .place; used = m .used; detectors = m .detectors }) (m .flux) (m .hits) (m .values) (m .tags)
+    ≡ recordedFrom (asOutcome c m)
 recorded-by Passed m = refl
 recorded-by (Refused e place) m = refl
 
-module _ (r : Recorded) (f : List Float) (h : List ℕ) (v : List Float) (t : List ℕ) (o : Outcome Memory) (said : recordedOf r f h v t ≡ o)
-    (k : HostChecked) (is : k ≡ checkedFrom (checkOf (r .check))) where
+module _ (r : Recorded) (f : List Float) (h : List ℕ) (v : List Float) (t : List ℕ) (o : Outcome Memory) (said : asRecorded r f h v t ≡ o)
+    (k : HostChecked) (is : k ≡ checkedOf (asChecked (r .check))) where
   pub recorded-same : recorded (record { refusal = k .refusal; place = k .place; used = r .used; detectors = r .detectors }) f h v t ≡ recordedFrom o
   recorded-same =
       ap (λ (x : HostChecked). recorded (record { refusal = x .refusal; place = x .place; used = r .used; detectors = r .detectors }) f h v t) is
-      ∙ recorded-by (r .check) (memoryOf (r .detectors) f h v t (r .used)) ∙ ap recordedFrom said
+      ∙ recorded-by (r .check) (lentMemory (r .detectors) f h v t (r .used)) ∙ ap recordedFrom said
 
 filtered-by : (c : Checked Unit) (m : List Float) (t : Float) (n : ℕ)
-    → filtered (record { refusal = checkedFrom c .refusal; place = checkedFrom c .place; «total_flux_watts» = t; «hit_count» = n }) m ≡ filteredWith c m t n
+    → filtered (record { refusal = checkedOf c .refusal; place = checkedOf c .place; «total_flux_watts» = t; «hit_count» = n }) m ≡ filteredWith c m t n
 filtered-by (passed u) m t n = refl
 filtered-by (refusedAt j place) m t n = refl
 
-module _ (r : Filtered) (w : List Float) (o : Handed) (said : filteredOf r w ≡ o) (k : HostChecked) (is : k ≡ checkedFrom (checkOf (r .check))) where
+module _ (r : Filtered) (w : List Float) (o : Handed) (said : asHanded r w ≡ o) (k : HostChecked) (is : k ≡ checkedOf (asChecked (r .check))) where
   pub filtered-same : filtered (record { refusal = k .refusal; place = k .place; «total_flux_watts» = r .«total_flux_watts»; «hit_count» = r .«hit_count» }) w ≡ filteredFrom o
   filtered-same =
       ap (λ (x : HostChecked). filtered (record { refusal = x .refusal; place = x .place; «total_flux_watts» = r .«total_flux_watts»; «hit_count» = r .«hit_count» }) w) is
-      ∙ filtered-by (checkOf (r .check)) w (r .«total_flux_watts») (r .«hit_count») ∙ ap filteredFrom said
+      ∙ filtered-by (asChecked (r .check)) w (r .«total_flux_watts») (r .«hit_count») ∙ ap filteredFrom said

@@ -11,8 +11,8 @@ use Rattle.host_detectors.specs.declared.detecting.HostCrossing.{HostCro
 use Rattle.host_numbers.specs.Numbers.{#0}
 
 -- all zeros
-unfoldable pub blankDetector : Detector2D
-blankDetector =
+unfoldable pub noDetectorOf : Detector2D
+noDetectorOf =
     record {
       center = vec3 #0 #0 #0;
       normal = vec3 #0 #0 #0;
@@ -27,7 +27,7 @@ blankDetector =
 
 abbrev pub madeFrom : Checked Detector2D → HostDetector
 madeFrom (passed d) = record { refusal = 0; place = 0; detector = d }
-madeFrom (refusedAt n place) = record { refusal = n; place = place; detector = blankDetector }
+madeFrom (refusedAt n place) = record { refusal = n; place = place; detector = noDetectorOf }
 
 abbrev pub hostCrossing : ℕ → ℕ → ℕ → Float → Float → Float → HostCrossing
 hostCrossing n place k t x y = record { refusal = n; place = place; crosses = k; t = t; «local_x» = x; «local_y» = y }

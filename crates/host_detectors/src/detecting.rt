@@ -12,10 +12,10 @@ ghost use mathlib.Core.Path.{_≡_};
 ghost use Rattle.error.specs.Refusals.{refusedAt};
 ghost use Rattle.detector.specs.Checks.{checkDetectorOf, newDetectorOf};
 ghost use Rattle.detector.specs.Faces.{intersectRayOf};
-ghost use Rattle.detector.specs.Pixels.{pixelAreaOf};
+ghost use Rattle.detector.specs.Pixels.{pixelAreaM2Of};
 ghost use Rattle.detectors.specs.Detectors.{checkDetectorsOf};
-ghost use Rattle.host_numbers.specs.Numbers.{checkedFrom, readingFrom};
-ghost use Rattle.host_detectors.specs.Detecting.{blankDetector, madeFrom, crossingFrom};
+ghost use Rattle.host_numbers.specs.Numbers.{checkedOf, readOf};
+ghost use Rattle.host_detectors.specs.Detecting.{noDetectorOf, madeFrom, crossingFrom};
 
 // A detector that has caught nothing, all zeros where it is refused.
 #[repr(C)]
@@ -38,7 +38,7 @@ pub struct HostCrossing {
 }
 
 fn no_detector() -> Detector2D
-    ensures { λ r. ⌜ r ≡ blankDetector ⌝ }
+    ensures { λ r. ⌜ r ≡ noDetectorOf ⌝ }
 {
     let v = Vec3 {
         x: 0.0,
@@ -102,7 +102,7 @@ pub extern "C" fn nonseq_new_detector(
 // 5 to 8 of one detector.
 #[no_mangle]
 pub extern "C" fn nonseq_check_detector(detector: Detector2D) -> HostChecked
-    ensures { λ r. ⌜ r ≡ checkedFrom (checkDetectorOf detector 0) ⌝ }
+    ensures { λ r. ⌜ r ≡ checkedOf (checkDetectorOf detector 0) ⌝ }
 {
     host_numbers::checked(detector.check(0))
 }
@@ -110,7 +110,7 @@ pub extern "C" fn nonseq_check_detector(detector: Detector2D) -> HostChecked
 // 3, then 5 to 8 of each.
 #[no_mangle]
 pub extern "C" fn nonseq_check_detectors(detectors: Detectors) -> HostChecked
-    ensures { λ r. ⌜ r ≡ checkedFrom (checkDetectorsOf detectors) ⌝ }
+    ensures { λ r. ⌜ r ≡ checkedOf (checkDetectorsOf detectors) ⌝ }
 {
     host_numbers::checked(detectors.check())
 }
@@ -146,7 +146,7 @@ pub extern "C" fn nonseq_intersect_ray(detector: Detector2D, ray: Ray) -> HostCr
 // The area of a pixel in square metres: 5 to 8.
 #[no_mangle]
 pub extern "C" fn nonseq_pixel_area_m2(detector: Detector2D) -> HostReading
-    ensures { λ r. ⌜ r ≡ readingFrom (pixelAreaOf detector) ⌝ }
+    ensures { λ r. ⌜ r ≡ readOf (pixelAreaM2Of detector) ⌝ }
 {
     host_numbers::read(detector.pixel_area_m2())
 }

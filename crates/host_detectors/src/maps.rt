@@ -10,8 +10,8 @@ use detector::DetectorHit;
 ghost use mathlib.Core.Path.{_≡_};
 ghost use Rattle.detectors.specs.Detectors.{findOf};
 ghost use Rattle.detectors.specs.Readings.{irradianceAtOf};
-ghost use Rattle.memory.specs.Memory.{memoryOf, recordClassifiedOf};
-ghost use Rattle.host_numbers.specs.Numbers.{readingFrom};
+ghost use Rattle.memory.specs.Memory.{lentMemory, recordHitClassifiedOf};
+ghost use Rattle.host_numbers.specs.Numbers.{readOf};
 ghost use Rattle.host_detectors.specs.Maps.{recordedFrom, recorded, filteredFrom, filtered, hostRefilterOf, partFrom};
 
 // The detectors' records and the number of hits used go into the next call.
@@ -53,7 +53,7 @@ pub extern "C" fn nonseq_record_hit_classified(
     hit: DetectorHit,
 ) -> HostRecorded
     ensures { λ r. ⌜ recorded r (now (flux .exit)) (now (hits .exit)) (now (places .exit)) (now (kinds .exit))
-        ≡ recordedFrom (recordClassifiedOf (memoryOf detectors (now (flux .entry)) (now (hits .entry)) (now (places .entry)) (now (kinds .entry)) used) hit) ⌝ }
+        ≡ recordedFrom (recordHitClassifiedOf (lentMemory detectors (now (flux .entry)) (now (hits .entry)) (now (places .entry)) (now (kinds .entry)) used) hit) ⌝ }
 {
     let r = memory::record_hit_classified(detectors, flux, hits, places, kinds, used, hit);
     let check = r.check;
@@ -146,7 +146,7 @@ pub extern "C" fn nonseq_irradiance_at(
     px: u32,
     py: u32,
 ) -> HostReading
-    ensures { λ r. ⌜ r ≡ readingFrom (irradianceAtOf detectors (record { 0 = asked }) (now (flux .entry)) px py) ⌝ }
+    ensures { λ r. ⌜ r ≡ readOf (irradianceAtOf detectors (record { 0 = asked }) (now (flux .entry)) px py) ⌝ }
 {
     host_numbers::read(detectors::irradiance_at(detectors, DetectorNo(asked), flux, px, py))
 }

@@ -8,11 +8,11 @@ use Rattle.host_numbers.specs.declared.HostReading.{HostReading}
 abbrev pub #0 : Float
 #0 = ofBits binary64 0
 
-abbrev pub checkedFrom : Checked Unit → HostChecked
-checkedFrom (passed u) = record { refusal = 0; place = 0 }
-checkedFrom (refusedAt n place) = record { refusal = n; place = place }
+abbrev pub checkedOf : Checked Unit → HostChecked
+checkedOf (passed u) = record { refusal = 0; place = 0 }
+checkedOf (refusedAt n place) = record { refusal = n; place = place }
 
 -- a double, 0 where it is refused
-abbrev pub readingFrom : Checked Float → HostReading
-readingFrom (passed x) = record { refusal = 0; place = 0; value = x }
-readingFrom (refusedAt n place) = record { refusal = n; place = place; value = #0 }
+abbrev pub readOf : Checked Float → HostReading
+readOf (passed x) = record { refusal = 0; place = 0; value = x }
+readOf (refusedAt n place) = record { refusal = n; place = place; value = #0 }

@@ -3,9 +3,9 @@
 use detector::Reading;
 use error::Check;
 ghost use mathlib.Core.Path.{_≡_};
-ghost use Rattle.error.specs.Refusals.{checkOf};
-ghost use Rattle.detector.specs.Pixels.{readingOf};
-ghost use Rattle.host_numbers.specs.Numbers.{checkedFrom, readingFrom};
+ghost use Rattle.error.specs.Refusals.{asChecked};
+ghost use Rattle.detector.specs.Pixels.{asReading};
+ghost use Rattle.host_numbers.specs.Numbers.{checkedOf, readOf};
 
 #[repr(C)]
 pub struct HostChecked {
@@ -22,7 +22,7 @@ pub struct HostReading {
 }
 
 pub fn checked(check: Check) -> HostChecked
-    ensures { λ r. ⌜ r ≡ checkedFrom (checkOf check) ⌝ }
+    ensures { λ r. ⌜ r ≡ checkedOf (asChecked check) ⌝ }
 {
     match check {
         Check::Passed => HostChecked {
@@ -37,7 +37,7 @@ pub fn checked(check: Check) -> HostChecked
 }
 
 pub fn read(reading: Reading) -> HostReading
-    ensures { λ r. ⌜ r ≡ readingFrom (readingOf reading) ⌝ }
+    ensures { λ r. ⌜ r ≡ readOf (asReading reading) ⌝ }
 {
     match reading {
         Reading::Value(value) => HostReading {

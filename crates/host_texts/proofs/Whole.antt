@@ -10,12 +10,12 @@ use borrow.Author.Tests.{le-leb, leb-true}
 use Rattle.error.specs.Refusals.{Checked, passed, refusedAt}
 use Rattle.report.specs.declared.NonSeqTraceReport.{NonSeqTraceReport}
 use Rattle.detectors.specs.Detectors.{checkDetectorsOf}
-use Rattle.filter.specs.Filters.{filterOf}
+use Rattle.filter.specs.Filters.{numberedFilterOf}
 use Rattle.printing.specs.Printing.{Out, out, putAll}
 use Rattle.printing.proofs.Writing.{written, length-put}
 use Rattle.answer_text.specs.Answer.{Held, answerText, refusalText, maxPixels}
 use Rattle.answer_text.proofs.Lengths.{refusal-short, answer-short}
-use Rattle.host_texts.specs.Texts.{frontOf, wholeOf, isHeldOf, heldText, textAfter, hostAnswerText}
+use Rattle.host_texts.specs.Texts.{frontOf, putWholeOf, isHeldOf, heldText, textAfter, hostAnswerText}
 
 front-is : (l left t : List ℕ) (n : ℕ) → length t ≤ length l → out left n ≡ putAll l 0 t → frontOf n left ≡ t
 unfolding frontOf
@@ -26,11 +26,11 @@ front-is l left t n h e =
     rw (le-leb _ _ q) (w .1)
 
 -- what is put from a local buffer of k bytes, where the text has no more
-pub whole-in : (k : ℕ) (left t f buf : List ℕ) (n : ℕ) (z : Out) → length t ≤ k → out left n ≡ putAll (replicate k 0) 0 t → f ≡ frontOf n left → z ≡ wholeOf buf f → z ≡ wholeOf buf t
+pub whole-in : (k : ℕ) (left t f buf : List ℕ) (n : ℕ) (z : Out) → length t ≤ k → out left n ≡ putAll (replicate k 0) 0 t → f ≡ frontOf n left → z ≡ putWholeOf buf f → z ≡ putWholeOf buf t
 whole-in k left t f buf n z h e g w =
     let b : ℕ = 0 in
     let q : length t ≤ length (replicate k b) = omega (arith, length-replicate k b, h) in
-    w ∙ ap (wholeOf buf) (g ∙ front-is (replicate k b) left t n q e)
+    w ∙ ap (putWholeOf buf) (g ∙ front-is (replicate k b) left t n q e)
 
 if-short : (b : Bool) (x y : List ℕ) (k : ℕ) → (b ≡ true → length x ≤ k) → length y ≤ k → length (cond b x y) ≤ k
 if-short true x y k h g = h refl
@@ -46,7 +46,7 @@ held-short : (r : NonSeqTraceReport) (f : ℕ) (m : Held) → length (heldText r
 unfolding heldText
 held-short r f m =
     if-short (leb (length (m .flux)) maxPixels) _ _ 131072
-    (λ e. if-short (isHeldOf (m .detectors) (length (m .flux)) (length (m .values)) (length (m .tags)) (m .used)) _ _ 131072 (λ g. omega (arith, answer-short r (filterOf f) m (leb-true _ _ e))) (short 9 0))
+    (λ e. if-short (isHeldOf (m .detectors) (length (m .flux)) (length (m .values)) (length (m .tags)) (m .used)) _ _ 131072 (λ g. omega (arith, answer-short r (numberedFilterOf f) m (leb-true _ _ e))) (short 9 0))
     (short 9 0)
 
 after-short : (c : Checked Unit) (t : List ℕ) → length t ≤ 131072 → length (textAfter c t) ≤ 131072

@@ -5,7 +5,7 @@ use mathlib.Core.List.{List}
 use lib.Dec.{leb, eqb}
 use lib.ListN.{length, take}
 use Rattle.error.specs.Refusals.{Checked, passed, refusedAt}
-use Rattle.filter.specs.Filters.{filterOf}
+use Rattle.filter.specs.Filters.{numberedFilterOf}
 use Rattle.report.specs.declared.NonSeqTraceReport.{NonSeqTraceReport}
 use Rattle.detectors.specs.declared.Detectors.{Detectors}
 use Rattle.detectors.specs.Detectors.{allPixelsOf, checkDetectorsOf}
@@ -37,8 +37,8 @@ unfoldable pub frontOf : ℕ → List ℕ → List ℕ
 frontOf n t = cond (leb n (length t)) (take n t) t
 
 -- a text from the start of a buffer on, or nothing where it does not fit, and its length
-unfoldable pub wholeOf : List ℕ → List ℕ → Out
-wholeOf buf t = cond (leb (length t) (length buf)) (putAll buf 0 t) (out buf (length t))
+unfoldable pub putWholeOf : List ℕ → List ℕ → Out
+putWholeOf buf t = cond (leb (length t) (length buf)) (putAll buf 0 t) (out buf (length t))
 
 -- ---- the answer
 
@@ -50,7 +50,7 @@ isHeldOf ds nf nv nt used = cond (eqb nf (allPixelsOf ds)) (isHitListOf nv nt us
 unfoldable pub heldText : NonSeqTraceReport → ℕ → Held → List ℕ
 heldText r f m =
     cond (leb (length (m .flux)) maxPixels)
-    (cond (isHeldOf (m .detectors) (length (m .flux)) (length (m .values)) (length (m .tags)) (m .used)) (answerText r (filterOf f) m) (refusalText 9 0))
+    (cond (isHeldOf (m .detectors) (length (m .flux)) (length (m .values)) (length (m .tags)) (m .used)) (answerText r (numberedFilterOf f) m) (refusalText 9 0))
     (refusalText 9 0)
 
 abbrev pub textAfter : Checked Unit → List ℕ → List ℕ

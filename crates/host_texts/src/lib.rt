@@ -6,11 +6,11 @@ use report::Ledger;
 use report::NonSeqTraceReport;
 ghost use mathlib.Core.Path.{_≡_};
 ghost use Rattle.printing.specs.Printing.{out, putAll};
-ghost use Rattle.report.specs.Report.{energyRatioOf};
-ghost use Rattle.answer_text.specs.Answer.{heldOf, refusalText};
-ghost use Rattle.scene_text.specs.Scene.{slices, sceneOf};
-ghost use Rattle.map_text.specs.StrayMap.{strayMapOf};
-ghost use Rattle.host_texts.specs.Texts.{frontOf, wholeOf, isHeldOf, heldText, hostAnswerText, sceneFrom, sceneRead};
+ghost use Rattle.report.specs.Report.{energyConservationRatioOf};
+ghost use Rattle.answer_text.specs.Answer.{held, refusalText};
+ghost use Rattle.scene_text.specs.Scene.{slices, readSceneOf};
+ghost use Rattle.map_text.specs.StrayMap.{strayMapText};
+ghost use Rattle.host_texts.specs.Texts.{frontOf, putWholeOf, isHeldOf, heldText, hostAnswerText, sceneFrom, sceneRead};
 
 // How many lines of values the blocks have.
 #[repr(C)]
@@ -37,7 +37,7 @@ pub extern "C" fn nonseq_read_scene(
     marks: &mut [u32],
 ) -> HostScene
     ensures { λ r. ⌜ sceneRead r (slices (now (run .exit)) (now (runs .exit)) (now (values .exit)) (now (tags .exit)) (now (faces .exit)) (now (sizes .exit)) (now (rays .exit)) (now (marks .exit)))
-        ≡ sceneFrom (sceneOf (now (text .entry))
+        ≡ sceneFrom (readSceneOf (now (text .entry))
         (slices (now (run .entry)) (now (runs .entry)) (now (values .entry)) (now (tags .entry)) (now (faces .entry)) (now (sizes .entry)) (now (rays .entry)) (now (marks .entry)))) ⌝ }
 {
     let r = scene_text::read_scene(text, run, runs, values, tags, faces, sizes, rays, marks);
@@ -64,7 +64,7 @@ fn front(t: &[u8], n: usize) -> &[u8]
 
 // A text from the start of a buffer on, or nothing where it does not fit. Answers its length.
 fn put_whole(buf: &mut [u8], t: &[u8]) -> usize
-    ensures { λ r. ⌜ out (now (buf .exit)) r ≡ wholeOf (now (buf .entry)) (now (t .entry)) ⌝ }
+    ensures { λ r. ⌜ out (now (buf .exit)) r ≡ putWholeOf (now (buf .entry)) (now (t .entry)) ⌝ }
 {
     if t.len() <= buf.len() {
         return printing::put_all(buf, 0, t);
@@ -94,7 +94,7 @@ fn put_held(
     used: usize,
 ) -> usize
     ensures { λ r. ⌜ out (now (buf .exit)) r ≡ putAll (now (buf .entry)) 0
-        (heldText report filter (heldOf detectors (now (flux .entry)) (now (places .entry)) (now (kinds .entry)) used)) ⌝ }
+        (heldText report filter (held detectors (now (flux .entry)) (now (places .entry)) (now (kinds .entry)) used)) ⌝ }
 {
     if flux.len() <= 4096 {
         if is_held(detectors, flux.len(), places.len(), kinds.len(), used) {
@@ -117,7 +117,7 @@ fn put_text(
     used: usize,
 ) -> usize
     ensures { λ r. ⌜ out (now (buf .exit)) r ≡ putAll (now (buf .entry)) 0
-        (hostAnswerText report filter (heldOf detectors (now (flux .entry)) (now (places .entry)) (now (kinds .entry)) used)) ⌝ }
+        (hostAnswerText report filter (held detectors (now (flux .entry)) (now (places .entry)) (now (kinds .entry)) used)) ⌝ }
 {
     if filter <= RayPathFilter::LAST {
         match detectors.check() {
@@ -146,8 +146,8 @@ pub extern "C" fn nonseq_put_answer(
     kinds: &[u32],
     used: usize,
 ) -> usize
-    ensures { λ r. ⌜ out (now (buf .exit)) r ≡ wholeOf (now (buf .entry))
-        (hostAnswerText report filter (heldOf detectors (now (flux .entry)) (now (places .entry)) (now (kinds .entry)) used)) ⌝ }
+    ensures { λ r. ⌜ out (now (buf .exit)) r ≡ putWholeOf (now (buf .entry))
+        (hostAnswerText report filter (held detectors (now (flux .entry)) (now (places .entry)) (now (kinds .entry)) used)) ⌝ }
 {
     let mut t = [0u8; 131072];
     let n = put_text(&mut t, report, detectors, filter, flux, places, kinds, used);
@@ -157,7 +157,7 @@ pub extern "C" fn nonseq_put_answer(
 // A refusal as text, whole, or nothing where it does not fit. Answers its length.
 #[no_mangle]
 pub extern "C" fn nonseq_put_refusal(buf: &mut [u8], refusal: u32, place: u32) -> usize
-    ensures { λ r. ⌜ out (now (buf .exit)) r ≡ wholeOf (now (buf .entry)) (refusalText refusal place) ⌝ }
+    ensures { λ r. ⌜ out (now (buf .exit)) r ≡ putWholeOf (now (buf .entry)) (refusalText refusal place) ⌝ }
 {
     let mut t = [0u8; 64];
     let n = answer_text::put_refusal(&mut t, 0, refusal, place);
@@ -168,7 +168,7 @@ pub extern "C" fn nonseq_put_refusal(buf: &mut [u8], refusal: u32, place: u32) -
 // most 131,072.
 #[no_mangle]
 pub extern "C" fn nonseq_stray_map(buf: &mut [u8], text: &[u8]) -> usize
-    ensures { λ r. ⌜ out (now (buf .exit)) r ≡ wholeOf (now (buf .entry)) (strayMapOf (now (text .entry))) ⌝ }
+    ensures { λ r. ⌜ out (now (buf .exit)) r ≡ putWholeOf (now (buf .entry)) (strayMapText (now (text .entry))) ⌝ }
 {
     let mut t = [0u8; 131072];
     let n = map_text::put_stray_map(&mut t, 0, text);
@@ -178,7 +178,7 @@ pub extern "C" fn nonseq_stray_map(buf: &mut [u8], text: &[u8]) -> usize
 // Detected, absorbed and escaped power over launched; 1 where none was launched.
 #[no_mangle]
 pub extern "C" fn nonseq_energy_conservation_ratio(ledger: Ledger) -> f64
-    ensures { λ r. ⌜ r ≡ energyRatioOf ledger ⌝ }
+    ensures { λ r. ⌜ r ≡ energyConservationRatioOf ledger ⌝ }
 {
     ledger.energy_conservation_ratio()
 }

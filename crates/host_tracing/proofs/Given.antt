@@ -11,30 +11,30 @@ use lib.Seq.{take-all, length-take-le}
 use borrow.Author.Tests.{le-leb, lt-leb, eq-eqb, leb-true, leb-false}
 use Rattle.error.specs.Refusals.{Checked, passed, refusedAt, after}
 use Rattle.scene.specs.Solids.{checkSolidsOf}
-use Rattle.memory.specs.Memory.{Memory, recordHit}
+use Rattle.memory.specs.Memory.{Memory, recordOf}
 use Rattle.step.specs.declared.NonSeqTraceConfig.{NonSeqTraceConfig}
 use Rattle.given_rays.specs.Given.{checkListsOf}
 use Rattle.run.specs.Run.{Run}
-use Rattle.trace.specs.Trace.{Batch, batchOf, checkFlatOf, checkConfigOf, checkCountsOf, checkRulesOf, checkAllOf, checkTraceOf, runOn, traceAfter, traceRaysOf}
+use Rattle.trace.specs.Trace.{Batch, lentBatch, checkFlatOf, checkConfigOf, checkCountsOf, checkRulesOf, checkTraceOf, checkBatch, runOn, traceAfter, traceRaysOf}
 use Rattle.host_tracing.specs.declared.answers.HostConfig.{HostConfig}
 use Rattle.host_tracing.specs.declared.slices.GivenRay.{GivenRay}
-use Rattle.host_tracing.specs.Tracing.{Left, hostTraceOf}
-use Rattle.host_tracing.specs.Flat.{valuesOf, marksOf, flatValues, flatMarks, frontOf, laid, putRays}
+use Rattle.host_tracing.specs.Tracing.{Left, hostTraceRaysOf}
+use Rattle.host_tracing.specs.Flat.{valuesRow, tagsRow, flatValues, flatTags, frontOf, laid, flattenOf}
 use Rattle.host_tracing.proofs.Laying.{zeros, nones, long-f, long-h, LaidOut, out}
 
 -- ---- the lists of the rays are as long as 17 asks
 
 values-length : (ys : List GivenRay) → length (flatValues ys) ≡ length ys * 8
-unfolding flatValues valuesOf
+unfolding flatValues valuesRow
 values-length [] = refl
-values-length (y ∷ ys) = length-append (valuesOf y) (flatValues ys) ∙ omega (arith, values-length ys)
+values-length (y ∷ ys) = length-append (valuesRow y) (flatValues ys) ∙ omega (arith, values-length ys)
 
-marks-length : (ys : List GivenRay) → length (flatMarks ys) ≡ length ys * 10
-unfolding flatMarks marksOf
+marks-length : (ys : List GivenRay) → length (flatTags ys) ≡ length ys * 10
+unfolding flatTags tagsRow
 marks-length [] = refl
-marks-length (y ∷ ys) = length-append (marksOf y) (flatMarks ys) ∙ omega (arith, marks-length ys)
+marks-length (y ∷ ys) = length-append (tagsRow y) (flatTags ys) ∙ omega (arith, marks-length ys)
 
-lists-fit : (ys : List GivenRay) → checkListsOf (length (flatValues ys)) (length (flatMarks ys)) (length ys) ≡ passed tt
+lists-fit : (ys : List GivenRay) → checkListsOf (length (flatValues ys)) (length (flatTags ys)) (length ys) ≡ passed tt
 unfolding checkListsOf
 lists-fit ys = simp (values-length ys, marks-length ys, eq-eqb (length ys * 8) _ refl, eq-eqb (length ys * 10) _ refl)
 
@@ -63,16 +63,16 @@ no-run (refusedAt n i) q s r r2 = refl
 
 module _ (c : NonSeqTraceConfig) (x : List Float) (k : List ℕ) (n : ℕ) (s : Memory) where
   abbrev batch : List GivenRay → Batch
-  batch ys = batchOf c x k n (flatValues ys) (flatMarks ys) (length ys)
+  batch ys = lentBatch c x k n (flatValues ys) (flatTags ys) (length ys)
 
-  many : (ys : List GivenRay) → 4096 < length ys → checkTraceOf (batch ys) s ≡ three (checkSolidsOf x k n) (checkConfigOf c)
-  unfolding checkTraceOf checkAllOf checkFlatOf checkRulesOf
+  many : (ys : List GivenRay) → 4096 < length ys → checkBatch (batch ys) s ≡ three (checkSolidsOf x k n) (checkConfigOf c)
+  unfolding checkBatch checkTraceOf checkFlatOf checkRulesOf
   many ys h = rw (lists-fit ys, over n (length ys) h) (early (checkSolidsOf x k n) (checkConfigOf c) _)
 
   same-refusal : (ys zs : List GivenRay) → 4096 < length ys → 4096 < length zs → traceRaysOf (batch ys) s ≡ traceRaysOf (batch zs) s
   unfolding traceRaysOf
   same-refusal ys zs h i =
-      let run : List GivenRay → Run Memory = λ l. runOn recordHit (s .detectors) (batch l) s in
+      let run : List GivenRay → Run Memory = λ l. runOn recordOf (s .detectors) (batch l) s in
       ap (λ (q : Checked Unit). traceAfter q s (run ys)) (many ys h)
       ∙ no-run (checkSolidsOf x k n) (checkConfigOf c) s (run ys) (run zs)
       ∙ sym (ap (λ (q : Checked Unit). traceAfter q s (run zs)) (many zs i))
@@ -81,10 +81,10 @@ module _ (c : NonSeqTraceConfig) (x : List Float) (k : List ℕ) (n : ℕ) (s : 
 
 module _ (g : HostConfig) (x : List Float) (k : List ℕ) (c : ℕ) (s : Memory) where
   abbrev hosted : List GivenRay → Left
-  hosted ys = hostTraceOf g x k c (flatValues ys) (flatMarks ys) (length ys) s
+  hosted ys = hostTraceRaysOf g x k c (flatValues ys) (flatTags ys) (length ys) s
 
   same-many : (ys zs : List GivenRay) → 4096 < length ys → 4096 < length zs → hosted ys ≡ hosted zs
-  unfolding hostTraceOf
+  unfolding hostTraceRaysOf
   same-many ys zs h i = rw (same-refusal _ x k c s ys zs h i) refl
 
   cut-by : (ys : List GivenRay) (b : Bool) → leb (length ys) 4097 ≡ b → hosted (take 4097 ys) ≡ hosted ys
@@ -100,7 +100,7 @@ module _ (g : HostConfig) (x : List Float) (k : List ℕ) (c : ℕ) (s : Memory)
   few : (ys : List GivenRay) → length (take 4097 ys) ≤ 4097
   few ys = omega (arith, length-take 4097 ys)
 
-  module _ (ys : List GivenRay) (n : ℕ) (v : List Float) (m : List ℕ) (e : laid n v m ≡ putRays ys (laid 0 zeros nones)) where
+  module _ (ys : List GivenRay) (n : ℕ) (v : List Float) (m : List ℕ) (e : laid n v m ≡ flattenOf ys (laid 0 zeros nones)) where
     there : LaidOut 0 zeros nones (take 4097 ys) (laid n v m)
     there = subst (LaidOut 0 zeros nones (take 4097 ys)) (sym e) (out 4097 ys 0 zeros nones refl long-f long-h)
 
@@ -110,16 +110,16 @@ module _ (g : HostConfig) (x : List Float) (k : List ℕ) (c : ℕ) (s : Memory)
     values-is : frontOf (n * 8) v ≡ flatValues (take 4097 ys)
     values-is = front-is (n * 8) v (omega (arith, n-is, few ys, there .values-long)) ∙ there .values-are
 
-    marks-is : frontOf (n * 10) m ≡ flatMarks (take 4097 ys)
+    marks-is : frontOf (n * 10) m ≡ flatTags (take 4097 ys)
     marks-is = front-is (n * 10) m (omega (arith, n-is, few ys, there .marks-long)) ∙ there .marks-are
 
-    cut-is : hostTraceOf g x k c (frontOf (n * 8) v) (frontOf (n * 10) m) n s ≡ hosted ys
+    cut-is : hostTraceRaysOf g x k c (frontOf (n * 8) v) (frontOf (n * 10) m) n s ≡ hosted ys
     cut-is =
-        ap (λ (l : List Float). hostTraceOf g x k c l (frontOf (n * 10) m) n s) values-is
-        ∙ ap (λ (l : List ℕ). hostTraceOf g x k c (flatValues (take 4097 ys)) l n s) marks-is
-        ∙ ap (λ (j : ℕ). hostTraceOf g x k c (flatValues (take 4097 ys)) (flatMarks (take 4097 ys)) j s) n-is
+        ap (λ (l : List Float). hostTraceRaysOf g x k c l (frontOf (n * 10) m) n s) values-is
+        ∙ ap (λ (l : List ℕ). hostTraceRaysOf g x k c (flatValues (take 4097 ys)) l n s) marks-is
+        ∙ ap (λ (j : ℕ). hostTraceRaysOf g x k c (flatValues (take 4097 ys)) (flatTags (take 4097 ys)) j s) n-is
         ∙ cut-by ys (leb (length ys) 4097) refl
 
-pub given-is : (g : HostConfig) (x : List Float) (k : List ℕ) (c : ℕ) (ys : List GivenRay) (s : Memory) (n : ℕ) (v : List Float) (m : List ℕ) (r : Left) → laid n v m ≡ putRays ys (laid 0 zeros nones)
-    → r ≡ hostTraceOf g x k c (frontOf (n * 8) v) (frontOf (n * 10) m) n s → r ≡ hostTraceOf g x k c (flatValues ys) (flatMarks ys) (length ys) s
+pub given-is : (g : HostConfig) (x : List Float) (k : List ℕ) (c : ℕ) (ys : List GivenRay) (s : Memory) (n : ℕ) (v : List Float) (m : List ℕ) (r : Left) → laid n v m ≡ flattenOf ys (laid 0 zeros nones)
+    → r ≡ hostTraceRaysOf g x k c (frontOf (n * 8) v) (frontOf (n * 10) m) n s → r ≡ hostTraceRaysOf g x k c (flatValues ys) (flatTags ys) (length ys) s
 given-is g x k c ys s n v m r e said = said ∙ cut-is g x k c s ys n v m e

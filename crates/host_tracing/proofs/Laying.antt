@@ -13,7 +13,7 @@ use lib.ListN.{length, getD, take, drop, replicate, length-append, length-replic
 use lib.Seq.{sets, sets-eq, length-sets, drop-cons, take-at, length-take-le}
 use Rattle.nearest.proofs.Order.{and-left, and-right}
 use Rattle.host_tracing.specs.declared.slices.GivenRay.{GivenRay}
-use Rattle.host_tracing.specs.Flat.{valuesOf, marksOf, flatValues, flatMarks, Laid, laid, roomOf, putRay, putRays}
+use Rattle.host_tracing.specs.Flat.{valuesRow, tagsRow, flatValues, flatTags, Laid, laid, hasRoomOf, putRayOf, flattenOf}
 
 -- what stands for a ray past the end of a list
 abbrev pub no-ray : GivenRay
@@ -47,33 +47,33 @@ long-h = length-replicate {A = ℕ} 40970 0
 
 -- ---- room
 
-pub room-in : (r : Bool) (n a b : ℕ) → r ≡ roomOf n a b → r ≡ true → (n < 4097) × ((32776 ≤ a) × (40970 ≤ b))
-unfolding roomOf
+pub room-in : (r : Bool) (n a b : ℕ) → r ≡ hasRoomOf n a b → r ≡ true → (n < 4097) × ((32776 ≤ a) × (40970 ≤ b))
+unfolding hasRoomOf
 room-in r n a b e h =
     let k = sym e ∙ h in
     let t = and-right (ltb n 4097) _ k in
     (ltb-true _ _ (and-left (ltb n 4097) _ k), (leb-true _ _ (and-left (leb 32776 a) _ t), leb-true _ _ (and-right (leb 32776 a) _ t)))
 
-pub room-yes : (n a b : ℕ) → n < 4097 → 32776 ≤ a → leb 40970 b ≡ roomOf n a b
-unfolding roomOf
+pub room-yes : (n a b : ℕ) → n < 4097 → 32776 ≤ a → leb 40970 b ≡ hasRoomOf n a b
+unfolding hasRoomOf
 room-yes n a b h k = simp (lt-ltb n 4097 h, le-leb 32776 a k)
 
-pub room-short : (n a b : ℕ) → n < 4097 → a < 32776 → false ≡ roomOf n a b
-unfolding roomOf
+pub room-short : (n a b : ℕ) → n < 4097 → a < 32776 → false ≡ hasRoomOf n a b
+unfolding hasRoomOf
 room-short n a b h k = simp (lt-ltb n 4097 h, lt-leb 32776 a k)
 
-pub room-past : (n a b : ℕ) → 4097 ≤ n → false ≡ roomOf n a b
-unfolding roomOf
+pub room-past : (n a b : ℕ) → 4097 ≤ n → false ≡ hasRoomOf n a b
+unfolding hasRoomOf
 room-past n a b h = simp (le-ltb n 4097 h)
 
 -- ---- the loop
 
-pub put-turn : (ys : List GivenRay) (s t z : Laid) (i : ℕ) → i < length ys → putRays (drop i ys) s ≡ z → t ≡ putRay (getD ys i no-ray) s → putRays (drop (i + 1) ys) t ≡ z
-unfolding putRays
+pub put-turn : (ys : List GivenRay) (s t z : Laid) (i : ℕ) → i < length ys → flattenOf (drop i ys) s ≡ z → t ≡ putRayOf (getD ys i no-ray) s → flattenOf (drop (i + 1) ys) t ≡ z
+unfolding flattenOf
 put-turn ys s t z i h p e = rw (e, add-one i) (rw (drop-cons ys i no-ray h) at p)
 
-pub put-end : (ys : List GivenRay) (s z : Laid) (i : ℕ) → length ys ≤ i → putRays (drop i ys) s ≡ z → s ≡ z
-unfolding putRays
+pub put-end : (ys : List GivenRay) (s z : Laid) (i : ℕ) → length ys ≤ i → flattenOf (drop i ys) s ≡ z → s ≡ z
+unfolding flattenOf
 put-end ys s z i h p = rw (drop-of-length-le ys h) at p
 
 pub add-nine : (n : ℕ) → n + 9 ≡ suc (suc (suc (suc (suc (suc (suc (suc (suc n))))))))
@@ -84,40 +84,40 @@ add-nine n = omega arith
 take-sets : {A : Type 0} (l xs : List A) (i m : ℕ) → i + length xs ≤ length l → m ≡ i + length xs → take m (sets l i xs) ≡ take i l ++ xs
 take-sets l xs i m h e = ap (take m) (sets-eq xs l i h) ∙ take-at (take i l ++ xs) _ m (length-append (take i l) xs ∙ ap (λ (k : ℕ). k + length xs) (length-take-le i l (omega (arith, h))) ∙ sym e)
 
-put-more : (y : GivenRay) (n : ℕ) (v : List Float) (m : List ℕ) → n < 4097 → length v ≡ 32776 → length m ≡ 40970 → putRay y (laid n v m) ≡ laid (n + 1) (sets v (n * 8) (valuesOf y)) (sets m (n * 10) (marksOf y))
-unfolding putRay roomOf
+put-more : (y : GivenRay) (n : ℕ) (v : List Float) (m : List ℕ) → n < 4097 → length v ≡ 32776 → length m ≡ 40970 → putRayOf y (laid n v m) ≡ laid (n + 1) (sets v (n * 8) (valuesRow y)) (sets m (n * 10) (tagsRow y))
+unfolding putRayOf hasRoomOf
 put-more y n v m h a b = simp (lt-ltb n 4097 h, a, b)
 
-put-full : (y : GivenRay) (n : ℕ) (v : List Float) (m : List ℕ) → 4097 ≤ n → putRay y (laid n v m) ≡ laid n v m
-unfolding putRay roomOf
+put-full : (y : GivenRay) (n : ℕ) (v : List Float) (m : List ℕ) → 4097 ≤ n → putRayOf y (laid n v m) ≡ laid n v m
+unfolding putRayOf hasRoomOf
 put-full y n v m h = simp (le-ltb n 4097 h)
 
 -- the rays zs behind the first n
 pub record LaidOut (n : ℕ) (v : List Float) (m : List ℕ) (zs : List GivenRay) (s : Laid) : Type 0 where
   pub count-is : s .count ≡ n + length zs
   pub values-are : take (s .count * 8) (s .values) ≡ take (n * 8) v ++ flatValues zs
-  pub marks-are : take (s .count * 10) (s .marks) ≡ take (n * 10) m ++ flatMarks zs
+  pub marks-are : take (s .count * 10) (s .marks) ≡ take (n * 10) m ++ flatTags zs
   pub values-long : length (s .values) ≡ 32776
   pub marks-long : length (s .marks) ≡ 40970
 
 none : (n : ℕ) (v : List Float) (m : List ℕ) → length v ≡ 32776 → length m ≡ 40970 → LaidOut n v m [] (laid n v m)
-unfolding flatValues flatMarks
+unfolding flatValues flatTags
 none n v m a b = record { count-is = sym (add-zero n); values-are = sym (append-nil (take (n * 8) v)); marks-are = sym (append-nil (take (n * 10) m)); values-long = a; marks-long = b }
 
 one-more : (y : GivenRay) (n : ℕ) (v : List Float) (m : List ℕ) (zs : List GivenRay) (s : Laid) → n < 4097 → length v ≡ 32776 → length m ≡ 40970
-    → LaidOut (n + 1) (sets v (n * 8) (valuesOf y)) (sets m (n * 10) (marksOf y)) zs s → LaidOut n v m (y ∷ zs) s
-unfolding flatValues flatMarks valuesOf marksOf
+    → LaidOut (n + 1) (sets v (n * 8) (valuesRow y)) (sets m (n * 10) (tagsRow y)) zs s → LaidOut n v m (y ∷ zs) s
+unfolding flatValues flatTags valuesRow tagsRow
 one-more y n v m zs s h a b o =
     record {
       count-is = o .count-is ∙ omega arith;
-      values-are = o .values-are ∙ ap (λ (l : List Float). l ++ flatValues zs) (take-sets v (valuesOf y) (n * 8) ((n + 1) * 8) (omega (arith, a, h)) (omega arith)) ∙ append-assoc (take (n * 8) v) (valuesOf y) (flatValues zs);
-      marks-are = o .marks-are ∙ ap (λ (l : List ℕ). l ++ flatMarks zs) (take-sets m (marksOf y) (n * 10) ((n + 1) * 10) (omega (arith, b, h)) (omega arith)) ∙ append-assoc (take (n * 10) m) (marksOf y) (flatMarks zs);
+      values-are = o .values-are ∙ ap (λ (l : List Float). l ++ flatValues zs) (take-sets v (valuesRow y) (n * 8) ((n + 1) * 8) (omega (arith, a, h)) (omega arith)) ∙ append-assoc (take (n * 8) v) (valuesRow y) (flatValues zs);
+      marks-are = o .marks-are ∙ ap (λ (l : List ℕ). l ++ flatTags zs) (take-sets m (tagsRow y) (n * 10) ((n + 1) * 10) (omega (arith, b, h)) (omega arith)) ∙ append-assoc (take (n * 10) m) (tagsRow y) (flatTags zs);
       values-long = o .values-long;
       marks-long = o .marks-long;
     }
 
-pub out : (k : ℕ) (ys : List GivenRay) (n : ℕ) (v : List Float) (m : List ℕ) → n + k ≡ 4097 → length v ≡ 32776 → length m ≡ 40970 → LaidOut n v m (take k ys) (putRays ys (laid n v m))
-unfolding putRays
+pub out : (k : ℕ) (ys : List GivenRay) (n : ℕ) (v : List Float) (m : List ℕ) → n + k ≡ 4097 → length v ≡ 32776 → length m ≡ 40970 → LaidOut n v m (take k ys) (flattenOf ys (laid n v m))
+unfolding flattenOf
 out zero [] n v m e a b = none n v m a b
 out (suc k) [] n v m e a b = none n v m a b
 out zero (y ∷ ys) n v m e a b = rw (put-full y n v m (omega (arith, e))) (out zero ys n v m e a b)
@@ -125,4 +125,4 @@ out (suc k) (y ∷ ys) n v m e a b =
     let h : n < 4097 = omega (arith, e) in
     rw (put-more y n v m h a b)
     (one-more y n v m (take k ys) _ h a b
-    (out k ys (n + 1) (sets v (n * 8) (valuesOf y)) (sets m (n * 10) (marksOf y)) (omega (arith, e)) (length-sets v (n * 8) (valuesOf y) ∙ a) (length-sets m (n * 10) (marksOf y) ∙ b)))
+    (out k ys (n + 1) (sets v (n * 8) (valuesRow y)) (sets m (n * 10) (tagsRow y)) (omega (arith, e)) (length-sets v (n * 8) (valuesRow y) ∙ a) (length-sets m (n * 10) (tagsRow y) ∙ b)))

@@ -10,22 +10,22 @@ use Rattle.media.specs.Media.{solidIn}
 use Rattle.host_tracing.specs.declared.slices.GivenRay.{GivenRay}
 
 -- origin, direction, wavelength, power
-unfoldable pub valuesOf : GivenRay → List Float
-valuesOf r = r .origin .x ∷ r .origin .y ∷ r .origin .z ∷ r .direction .x ∷ r .direction .y ∷ r .direction .z ∷ r .«wavelength_nm» ∷ r .energy ∷ []
+unfoldable pub valuesRow : GivenRay → List Float
+valuesRow r = r .origin .x ∷ r .origin .y ∷ r .origin .z ∷ r .direction .x ∷ r .direction .y ∷ r .direction .z ∷ r .«wavelength_nm» ∷ r .energy ∷ []
 
 -- bounce, number of media, eight media
-unfoldable pub marksOf : GivenRay → List ℕ
-marksOf r =
+unfoldable pub tagsRow : GivenRay → List ℕ
+tagsRow r =
     let m : ℕ → ℕ = λ i. solidIn (r .media) i .0 in
     r .«bounce_count» ∷ r .«media_count» ∷ m 0 ∷ m 1 ∷ m 2 ∷ m 3 ∷ m 4 ∷ m 5 ∷ m 6 ∷ m 7 ∷ []
 
 unfoldable pub flatValues : List GivenRay → List Float
 flatValues [] = []
-flatValues (r ∷ rs) = valuesOf r ++ flatValues rs
+flatValues (r ∷ rs) = valuesRow r ++ flatValues rs
 
-unfoldable pub flatMarks : List GivenRay → List ℕ
-flatMarks [] = []
-flatMarks (r ∷ rs) = marksOf r ++ flatMarks rs
+unfoldable pub flatTags : List GivenRay → List ℕ
+flatTags [] = []
+flatTags (r ∷ rs) = tagsRow r ++ flatTags rs
 
 -- ---- as the code lays them out, in two lists with room for 4,097 rays: one more than the limit, so that 3 comes in its order
 
@@ -39,19 +39,19 @@ abbrev pub laid : ℕ → List Float → List ℕ → Laid
 laid n v m = record { count = n; values = v; marks = m }
 
 -- whether there is room for ray n in lists of these lengths
-unfoldable pub roomOf : ℕ → ℕ → ℕ → Bool
-roomOf n nv nm = ltb n 4097 && (leb 32776 nv && leb 40970 nm)
+unfoldable pub hasRoomOf : ℕ → ℕ → ℕ → Bool
+hasRoomOf n nv nm = ltb n 4097 && (leb 32776 nv && leb 40970 nm)
 
 -- a ray more, while there is room: its numbers stored one after the other, behind those of the rays before it
-unfoldable pub putRay : GivenRay → Laid → Laid
-putRay r s =
-    cond (roomOf (s .count) (length (s .values)) (length (s .marks)))
-    (laid (s .count + 1) (sets (s .values) (s .count * 8) (valuesOf r)) (sets (s .marks) (s .count * 10) (marksOf r)))
+unfoldable pub putRayOf : GivenRay → Laid → Laid
+putRayOf r s =
+    cond (hasRoomOf (s .count) (length (s .values)) (length (s .marks)))
+    (laid (s .count + 1) (sets (s .values) (s .count * 8) (valuesRow r)) (sets (s .marks) (s .count * 10) (tagsRow r)))
     s
 
-unfoldable pub putRays : List GivenRay → Laid → Laid
-putRays [] s = s
-putRays (r ∷ rs) s = putRays rs (putRay r s)
+unfoldable pub flattenOf : List GivenRay → Laid → Laid
+flattenOf [] s = s
+flattenOf (r ∷ rs) s = flattenOf rs (putRayOf r s)
 
 -- the first n numbers of a list, or all
 unfoldable pub frontOf : {A : Type 0} → ℕ → List A → List A

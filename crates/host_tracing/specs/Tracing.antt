@@ -4,15 +4,15 @@ use mathlib.Core.Bool.{cond}
 use mathlib.Core.List.{List}
 use lib.Dec.{leb}
 use lib.Ieee.{Float}
-use Rattle.error.specs.Refusals.{checkOf}
-use Rattle.material.specs.Media.{mediumOf}
+use Rattle.error.specs.Refusals.{asChecked}
+use Rattle.material.specs.Media.{numberedMediumOf}
 use Rattle.detectors.specs.declared.Detectors.{Detectors}
-use Rattle.memory.specs.Memory.{Memory, Outcome, done, refused, leftOf}
+use Rattle.memory.specs.Memory.{Memory, Outcome, done, refused, memoryLeft}
 use Rattle.step.specs.declared.NonSeqTraceConfig.{NonSeqTraceConfig}
 use Rattle.report.specs.Report.{startReportOf, #0}
 use Rattle.trace.specs.declared.Traced.{Traced}
-use Rattle.trace.specs.Trace.{batchOf, Trace, traceRaysOf}
-use Rattle.host_numbers.specs.Numbers.{checkedFrom}
+use Rattle.trace.specs.Trace.{lentBatch, Trace, traceRaysOf}
+use Rattle.host_numbers.specs.Numbers.{checkedOf}
 use Rattle.host_tracing.specs.declared.answers.HostConfig.{HostConfig}
 use Rattle.host_tracing.specs.declared.answers.HostTraced.{HostTraced}
 
@@ -22,17 +22,17 @@ configOf g =
     record {
       «max_bounces» = g .«max_bounces»;
       «min_power_threshold» = g .«min_power_threshold»;
-      «ambient_medium» = mediumOf (g .ambient) (g .a) (g .b) (g .c) (g .d) (g .e) (g .f);
+      «ambient_medium» = numberedMediumOf (g .ambient) (g .a) (g .b) (g .c) (g .d) (g .e) (g .f);
     }
 
 -- the refusal's number and place, 0 and 0 for none
-abbrev pub refusalOf : Outcome Memory → ℕ
-refusalOf (done m) = 0
-refusalOf (refused n place m) = n
+abbrev pub refusalNumber : Outcome Memory → ℕ
+refusalNumber (done m) = 0
+refusalNumber (refused n place m) = n
 
-abbrev pub placeOf : Outcome Memory → ℕ
-placeOf (done m) = 0
-placeOf (refused n place m) = place
+abbrev pub refusalPlace : Outcome Memory → ℕ
+refusalPlace (done m) = 0
+refusalPlace (refused n place m) = place
 
 -- the answer, and the four slices
 pub record Left : Type 0 where
@@ -47,20 +47,20 @@ left r f h v t = record { answer = r; flux = f; hits = h; places = v; kinds = t 
 
 unfoldable pub leftBy : Trace Memory → Left
 leftBy t =
-    let m = leftOf (t .outcome) in
-    left (record { refusal = refusalOf (t .outcome); place = placeOf (t .outcome); used = m .used; report = t .report; detectors = m .detectors }) (m .flux) (m .hits) (m .values) (m .tags)
+    let m = memoryLeft (t .outcome) in
+    left (record { refusal = refusalNumber (t .outcome); place = refusalPlace (t .outcome); used = m .used; report = t .report; detectors = m .detectors }) (m .flux) (m .hits) (m .values) (m .tags)
 
 -- 17 for an ambient medium that is none, first of all
-unfoldable pub hostTraceOf : HostConfig → List Float → List ℕ → ℕ → List Float → List ℕ → ℕ → Memory → Left
-hostTraceOf g x k n v t m s =
+unfoldable pub hostTraceRaysOf : HostConfig → List Float → List ℕ → ℕ → List Float → List ℕ → ℕ → Memory → Left
+hostTraceRaysOf g x k n v t m s =
     cond (leb (g .ambient) 3)
-    (leftBy (traceRaysOf (batchOf (configOf g) x k n v t m) s))
+    (leftBy (traceRaysOf (lentBatch (configOf g) x k n v t m) s))
     (leftBy (record { outcome = refused 17 0 s; report = startReportOf 0 #0 }))
 
 -- of the code's answers
 unfoldable pub toldOf : Traced → HostTraced
 toldOf r =
-    let c = checkedFrom (checkOf (r .check)) in
+    let c = checkedOf (asChecked (r .check)) in
     record { refusal = c .refusal; place = c .place; used = r .used; report = r .report; detectors = r .detectors }
 
 unfoldable pub noMediumOf : Detectors → ℕ → HostTraced

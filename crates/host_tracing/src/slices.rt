@@ -10,9 +10,9 @@ ghost use mathlib.Core.Path.{_≡_};
 ghost use Prim.Native.Nat.{_+_, _*_, _≤_};
 ghost use lib.ListN.{length};
 ghost use lib.Seq.{sets};
-ghost use Rattle.memory.specs.Memory.{memoryOf};
-ghost use Rattle.host_tracing.specs.Tracing.{left, hostTraceOf};
-ghost use Rattle.host_tracing.specs.Flat.{valuesOf, marksOf, roomOf, laid, putRay, putRays, flatValues, flatMarks, frontOf};
+ghost use Rattle.memory.specs.Memory.{lentMemory};
+ghost use Rattle.host_tracing.specs.Tracing.{left, hostTraceRaysOf};
+ghost use Rattle.host_tracing.specs.Flat.{valuesRow, tagsRow, hasRoomOf, laid, putRayOf, flattenOf, flatValues, flatTags, frontOf};
 
 // A ray as a host gives it: `media_count` of the eight media count.
 #[repr(C)]
@@ -28,7 +28,7 @@ pub struct GivenRay {
 
 // Whether ray n is among the first 4,097 and the lists are as long as those need.
 fn has_room(n: u32, values: usize, marks: usize) -> bool
-    ensures { λ r. ⌜ r ≡ roomOf n values marks ⌝ }
+    ensures { λ r. ⌜ r ≡ hasRoomOf n values marks ⌝ }
 {
     if n < 4097 {
         if 32776 <= values {
@@ -40,7 +40,7 @@ fn has_room(n: u32, values: usize, marks: usize) -> bool
 
 fn put_values(ray: GivenRay, at: usize, values: &mut [f64])
     requires { ⌜ at + 8 ≤ length (now values) ⌝ }
-    ensures { λ _. ⌜ now (values .exit) ≡ sets (now (values .entry)) at (valuesOf ray) ⌝ }
+    ensures { λ _. ⌜ now (values .exit) ≡ sets (now (values .entry)) at (valuesRow ray) ⌝ }
 {
     let origin = ray.origin;
     let direction = ray.direction;
@@ -56,7 +56,7 @@ fn put_values(ray: GivenRay, at: usize, values: &mut [f64])
 
 fn put_marks(ray: GivenRay, at: usize, marks: &mut [u32])
     requires { ⌜ at + 10 ≤ length (now marks) ⌝ }
-    ensures { λ _. ⌜ now (marks .exit) ≡ sets (now (marks .entry)) at (marksOf ray) ⌝ }
+    ensures { λ _. ⌜ now (marks .exit) ≡ sets (now (marks .entry)) at (tagsRow ray) ⌝ }
 {
     let media = ray.media;
     marks[at] = ray.bounce_count;
@@ -73,7 +73,7 @@ fn put_marks(ray: GivenRay, at: usize, marks: &mut [u32])
 
 // A ray more, behind the n that were put.
 fn put_ray(ray: GivenRay, n: u32, values: &mut [f64], marks: &mut [u32]) -> u32
-    ensures { λ r. ⌜ laid r (now (values .exit)) (now (marks .exit)) ≡ putRay ray (laid n (now (values .entry)) (now (marks .entry))) ⌝ }
+    ensures { λ r. ⌜ laid r (now (values .exit)) (now (marks .exit)) ≡ putRayOf ray (laid n (now (values .entry)) (now (marks .entry))) ⌝ }
 {
     if has_room(n, values.len(), marks.len()) {
         put_values(ray, n as usize * 8, values);
@@ -85,7 +85,7 @@ fn put_ray(ray: GivenRay, n: u32, values: &mut [f64], marks: &mut [u32]) -> u32
 
 // The rays one behind the other; the answer is how many were put.
 fn flatten(rays: &[GivenRay], values: &mut [f64], marks: &mut [u32]) -> u32
-    ensures { λ r. ⌜ laid r (now (values .exit)) (now (marks .exit)) ≡ putRays (now (rays .entry)) (laid 0 (now (values .entry)) (now (marks .entry))) ⌝ }
+    ensures { λ r. ⌜ laid r (now (values .exit)) (now (marks .exit)) ≡ flattenOf (now (rays .entry)) (laid 0 (now (values .entry)) (now (marks .entry))) ⌝ }
 {
     let mut n = 0;
     let mut i = 0;
@@ -133,8 +133,8 @@ fn trace_flat(
     used: usize,
 ) -> HostTraced
     ensures { λ r. ⌜ left r (now (flux .exit)) (now (hits .exit)) (now (places .exit)) (now (kinds .exit))
-        ≡ hostTraceOf config (now (values .entry)) (now (tags .entry)) count (frontOf (given * 8) (now (rays .entry))) (frontOf (given * 10) (now (marks .entry))) given
-        (memoryOf detectors (now (flux .entry)) (now (hits .entry)) (now (places .entry)) (now (kinds .entry)) used) ⌝ }
+        ≡ hostTraceRaysOf config (now (values .entry)) (now (tags .entry)) count (frontOf (given * 8) (now (rays .entry))) (frontOf (given * 10) (now (marks .entry))) given
+        (lentMemory detectors (now (flux .entry)) (now (hits .entry)) (now (places .entry)) (now (kinds .entry)) used) ⌝ }
 {
     let a = given as usize * 8;
     let b = given as usize * 10;
@@ -172,8 +172,8 @@ pub extern "C" fn nonseq_trace_given_rays(
     used: usize,
 ) -> HostTraced
     ensures { λ r. ⌜ left r (now (flux .exit)) (now (hits .exit)) (now (places .exit)) (now (kinds .exit))
-        ≡ hostTraceOf config (now (values .entry)) (now (tags .entry)) count (flatValues (now (rays .entry))) (flatMarks (now (rays .entry))) (length (now (rays .entry)))
-        (memoryOf detectors (now (flux .entry)) (now (hits .entry)) (now (places .entry)) (now (kinds .entry)) used) ⌝ }
+        ≡ hostTraceRaysOf config (now (values .entry)) (now (tags .entry)) count (flatValues (now (rays .entry))) (flatTags (now (rays .entry))) (length (now (rays .entry)))
+        (lentMemory detectors (now (flux .entry)) (now (hits .entry)) (now (places .entry)) (now (kinds .entry)) used) ⌝ }
 {
     let mut numbers = [0.0; 32776];
     let mut marks = [0u32; 40970];

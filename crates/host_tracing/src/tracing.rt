@@ -6,8 +6,8 @@ use crate::answers::no_medium;
 use crate::answers::told;
 use detectors::Detectors;
 ghost use mathlib.Core.Path.{_≡_};
-ghost use Rattle.memory.specs.Memory.{memoryOf};
-ghost use Rattle.host_tracing.specs.Tracing.{left, hostTraceOf};
+ghost use Rattle.memory.specs.Memory.{lentMemory};
+ghost use Rattle.host_tracing.specs.Tracing.{left, hostTraceRaysOf};
 
 // `trace::trace_rays`, once the ambient medium's number is one (else 17).
 #[no_mangle]
@@ -27,8 +27,8 @@ pub extern "C" fn nonseq_trace_rays(
     used: usize,
 ) -> HostTraced
     ensures { λ r. ⌜ left r (now (flux .exit)) (now (hits .exit)) (now (places .exit)) (now (kinds .exit))
-        ≡ hostTraceOf config (now (values .entry)) (now (tags .entry)) count (now (rays .entry)) (now (marks .entry)) given
-        (memoryOf detectors (now (flux .entry)) (now (hits .entry)) (now (places .entry)) (now (kinds .entry)) used) ⌝ }
+        ≡ hostTraceRaysOf config (now (values .entry)) (now (tags .entry)) count (now (rays .entry)) (now (marks .entry)) given
+        (lentMemory detectors (now (flux .entry)) (now (hits .entry)) (now (places .entry)) (now (kinds .entry)) used) ⌝ }
 {
     if config.ambient <= 3 {
         let g = config_of(config);

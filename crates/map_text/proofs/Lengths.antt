@@ -5,20 +5,20 @@ use native.Mathlib.Omega.{arith}
 use lib.ListN.{length, take, replicate, length-take, length-replicate}
 use Rattle.detectors.specs.declared.Detectors.{Detectors}
 use Rattle.detectors.specs.Detectors.{allPixelsOf}
-use Rattle.memory.specs.Memory.{Memory, Outcome, done, refused, leftOf}
+use Rattle.memory.specs.Memory.{Memory, Outcome, done, refused, memoryLeft}
 use Rattle.filter.specs.declared.RayPathFilter.{RayPathFilter}
 use Rattle.filter.specs.Filters.{#0}
 use Rattle.report.specs.declared.NonSeqTraceReport.{NonSeqTraceReport}
 use Rattle.trace.specs.Trace.{Trace}
-use Rattle.answer_text.specs.Answer.{heldOf, fewOf, maxPixels}
+use Rattle.answer_text.specs.Answer.{held, fewOf, maxPixels}
 use Rattle.answer_text.proofs.Lengths.{answer-short, refusal-short}
 use Rattle.map_text.specs.Tables.{memoryIn, outcomeText, traceText}
 
-outcome-short : (f : RayPathFilter) (r : NonSeqTraceReport) (o : Outcome Memory) → length (leftOf o .flux) ≤ maxPixels → length (outcomeText f r o) ≤ 119994
-outcome-short f r (done m) h = answer-short r f (heldOf (m .detectors) (m .flux) (m .values) (m .tags) (m .used)) h
+outcome-short : (f : RayPathFilter) (r : NonSeqTraceReport) (o : Outcome Memory) → length (memoryLeft o .flux) ≤ maxPixels → length (outcomeText f r o) ≤ 119994
+outcome-short f r (done m) h = answer-short r f (held (m .detectors) (m .flux) (m .values) (m .tags) (m .used)) h
 outcome-short f r (refused n place m) h = omega (arith, refusal-short n place)
 
-pub trace-short : (f : RayPathFilter) (t : Trace Memory) → length (leftOf (t .outcome) .flux) ≤ maxPixels → length (traceText f t) ≤ 119994
+pub trace-short : (f : RayPathFilter) (t : Trace Memory) → length (memoryLeft (t .outcome) .flux) ≤ maxPixels → length (traceText f t) ≤ 119994
 unfolding traceText
 trace-short f t = outcome-short f (t .report) (t .outcome)
 

@@ -6,8 +6,8 @@ use lib.ListN.{replicate}
 use Rattle.error.specs.Refusals.{Checked, passed, refusedAt}
 use Rattle.filter.specs.Filters.{#0}
 use Rattle.answer_text.specs.Answer.{refusalText}
-use Rattle.scene_text.specs.Scene.{Slices, slices, Answer, sceneOf}
-use Rattle.map_text.specs.Tables.{tablesOf, mapOf}
+use Rattle.scene_text.specs.Scene.{Slices, slices, Answer, readSceneOf}
+use Rattle.map_text.specs.Tables.{tables, tablesText}
 
 -- room for one solid, detector and ray more than the limits 32, 8 and 4,096, but for the detectors, which are counted
 unfoldable pub room : Slices
@@ -16,12 +16,12 @@ room = slices (replicate 7 #0) (replicate 3 0) (replicate 1386 #0) (replicate 13
 abbrev pub readText : Checked Unit → Answer → List ℕ
 readText (passed u) a =
     let m = a .left in
-    mapOf (tablesOf (m .run) (m .runs) (m .solids) (m .tags) (a .solids) (m .detectors) (m .sizes) (a .detectors) (m .rays) (m .marks) (a .rays))
+    tablesText (tables (m .run) (m .runs) (m .solids) (m .tags) (a .solids) (m .detectors) (m .sizes) (a .detectors) (m .rays) (m .marks) (a .rays))
 readText (refusedAt n place) a = refusalText n place
 
 -- the answer to what was read, or the refusal
 unfoldable pub answerTo : Answer → List ℕ
 answerTo a = readText (a .check) a
 
-unfoldable pub strayMapOf : List ℕ → List ℕ
-strayMapOf s = answerTo (sceneOf s room)
+unfoldable pub strayMapText : List ℕ → List ℕ
+strayMapText s = answerTo (readSceneOf s room)

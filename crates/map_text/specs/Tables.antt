@@ -6,17 +6,17 @@ use lib.Dec.{leb, ltb, eqb}
 use lib.Ieee.{Float, nan}
 use lib.ListN.{length, getD, take, replicate}
 use Rattle.rays.specs.Vectors.{vec3}
-use Rattle.material.specs.Media.{mediumOf}
+use Rattle.material.specs.Media.{numberedMediumOf}
 use Rattle.detector.specs.declared.Detector2D.{Detector2D}
 use Rattle.detectors.specs.declared.Detectors.{Detectors}
 use Rattle.detectors.specs.Detectors.{allPixelsOf}
-use Rattle.memory.specs.Memory.{Memory, memoryOf, Outcome, done, refused}
+use Rattle.memory.specs.Memory.{Memory, lentMemory, Outcome, done, refused}
 use Rattle.filter.specs.declared.RayPathFilter.{RayPathFilter}
-use Rattle.filter.specs.Filters.{filterOf, #0}
+use Rattle.filter.specs.Filters.{numberedFilterOf, #0}
 use Rattle.step.specs.declared.NonSeqTraceConfig.{NonSeqTraceConfig}
 use Rattle.report.specs.declared.NonSeqTraceReport.{NonSeqTraceReport}
-use Rattle.trace.specs.Trace.{Batch, batchOf, Trace, traceRaysOf}
-use Rattle.answer_text.specs.Answer.{heldOf, answerText, refusalText, fewOf, maxPixels}
+use Rattle.trace.specs.Trace.{Batch, lentBatch, Trace, traceRaysOf}
+use Rattle.answer_text.specs.Answer.{held, answerText, refusalText, fewOf, maxPixels}
 
 -- The numbers of a scene text, block by block: the run's, those of the solids, detectors and rays, and how many lines each of these blocks has
 pub record Tables : Type 0 where
@@ -32,30 +32,30 @@ pub record Tables : Type 0 where
   pub rayTags : List ℕ
   pub rays : ℕ
 
-abbrev pub tablesOf : List Float → List ℕ → List Float → List ℕ → ℕ → List Float → List ℕ → ℕ → List Float → List ℕ → ℕ → Tables
-tablesOf a b c d i e f j g h k =
+abbrev pub tables : List Float → List ℕ → List Float → List ℕ → ℕ → List Float → List ℕ → ℕ → List Float → List ℕ → ℕ → Tables
+tables a b c d i e f j g h k =
     record { run = a; runs = b; values = c; tags = d; solids = i; places = e; sizes = f; detectors = j; rayValues = g; rayTags = h; rays = k }
 
 -- number i of a table; NaN and 0 past the end
-unfoldable pub valueIn : List Float → ℕ → Float
-valueIn l i = cond (ltb i (length l)) (getD l i nan) nan
+unfoldable pub valueOf : List Float → ℕ → Float
+valueOf l i = cond (ltb i (length l)) (getD l i nan) nan
 
-unfoldable pub wholeIn : List ℕ → ℕ → ℕ
-wholeIn l i = cond (ltb i (length l)) (getD l i 0) 0
+unfoldable pub wholeOf : List ℕ → ℕ → ℕ
+wholeOf l i = cond (ltb i (length l)) (getD l i 0) 0
 
 -- ---- the run
 
 unfoldable pub configOf : List Float → List ℕ → NonSeqTraceConfig
 configOf v w =
     record {
-      «max_bounces» = wholeIn w 0;
-      «min_power_threshold» = valueIn v 0;
-      «ambient_medium» = mediumOf (wholeIn w 2) (valueIn v 1) (valueIn v 2) (valueIn v 3) (valueIn v 4) (valueIn v 5) (valueIn v 6);
+      «max_bounces» = wholeOf w 0;
+      «min_power_threshold» = valueOf v 0;
+      «ambient_medium» = numberedMediumOf (wholeOf w 2) (valueOf v 1) (valueOf v 2) (valueOf v 3) (valueOf v 4) (valueOf v 5) (valueOf v 6);
     }
 
 -- `-`, kept as 5, means All
 unfoldable pub meantOf : ℕ → RayPathFilter
-meantOf n = filterOf (cond (eqb n 5) 0 n)
+meantOf n = numberedFilterOf (cond (eqb n 5) 0 n)
 
 -- ---- the detectors, which have caught nothing
 
@@ -63,13 +63,13 @@ unfoldable pub detectorOf : List Float → List ℕ → ℕ → Detector2D
 detectorOf v w i =
     let j = i * 11 in
     record {
-      center = vec3 (valueIn v j) (valueIn v (j + 1)) (valueIn v (j + 2));
-      normal = vec3 (valueIn v (j + 3)) (valueIn v (j + 4)) (valueIn v (j + 5));
-      up = vec3 (valueIn v (j + 6)) (valueIn v (j + 7)) (valueIn v (j + 8));
-      «width_mm» = valueIn v (j + 9);
-      «height_mm» = valueIn v (j + 10);
-      «res_x» = wholeIn w (i * 2);
-      «res_y» = wholeIn w (i * 2 + 1);
+      center = vec3 (valueOf v j) (valueOf v (j + 1)) (valueOf v (j + 2));
+      normal = vec3 (valueOf v (j + 3)) (valueOf v (j + 4)) (valueOf v (j + 5));
+      up = vec3 (valueOf v (j + 6)) (valueOf v (j + 7)) (valueOf v (j + 8));
+      «width_mm» = valueOf v (j + 9);
+      «height_mm» = valueOf v (j + 10);
+      «res_x» = wholeOf w (i * 2);
+      «res_y» = wholeOf w (i * 2 + 1);
       «total_flux_watts» = #0;
       «total_rays_hit» = 0;
     }
@@ -82,8 +82,8 @@ detectorsOf v w n =
 -- ---- the batch and the memory
 
 -- as many as there is room for: one more than the limit, so that 3 comes in its order
-unfoldable pub atMost : ℕ → ℕ → ℕ
-atMost most n = cond (leb n most) n most
+unfoldable pub atMostOf : ℕ → ℕ → ℕ
+atMostOf most n = cond (leb n most) n most
 
 -- the first n numbers of a list, or all
 unfoldable pub frontOf : {A : Type 0} → ℕ → List A → List A
@@ -91,24 +91,24 @@ frontOf n l = cond (leb n (length l)) (take n l) l
 
 unfoldable pub batchIn : Tables → Batch
 batchIn t =
-    let n = atMost 33 (t .solids) in
-    let k = atMost 4097 (t .rays) in
-    batchOf (configOf (t .run) (t .runs)) (frontOf (n * 42) (t .values)) (frontOf (n * 4) (t .tags)) n (frontOf (k * 8) (t .rayValues)) (frontOf (k * 10) (t .rayTags)) k
+    let n = atMostOf 33 (t .solids) in
+    let k = atMostOf 4097 (t .rays) in
+    lentBatch (configOf (t .run) (t .runs)) (frontOf (n * 42) (t .values)) (frontOf (n * 4) (t .tags)) n (frontOf (k * 8) (t .rayValues)) (frontOf (k * 10) (t .rayTags)) k
 
 -- room for 1,024 hits
 unfoldable pub memoryIn : Detectors → Memory
 memoryIn ds =
     let p = fewOf (allPixelsOf ds) in
-    memoryOf ds (take p (replicate maxPixels #0)) (take p (replicate maxPixels 0)) (replicate 4096 #0) (replicate 4096 0) 0
+    lentMemory ds (take p (replicate maxPixels #0)) (take p (replicate maxPixels 0)) (replicate 4096 #0) (replicate 4096 0) 0
 
 -- ---- the answer
 
 abbrev pub outcomeText : RayPathFilter → NonSeqTraceReport → Outcome Memory → List ℕ
-outcomeText f r (done m) = answerText r f (heldOf (m .detectors) (m .flux) (m .values) (m .tags) (m .used))
+outcomeText f r (done m) = answerText r f (held (m .detectors) (m .flux) (m .values) (m .tags) (m .used))
 outcomeText f r (refused n place m) = refusalText n place
 
 unfoldable pub traceText : RayPathFilter → Trace Memory → List ℕ
 traceText f t = outcomeText f (t .report) (t .outcome)
 
-unfoldable pub mapOf : Tables → List ℕ
-mapOf t = traceText (meantOf (wholeIn (t .runs) 1)) (traceRaysOf (batchIn t) (memoryIn (detectorsOf (t .places) (t .sizes) (t .detectors))))
+unfoldable pub tablesText : Tables → List ℕ
+tablesText t = traceText (meantOf (wholeOf (t .runs) 1)) (traceRaysOf (batchIn t) (memoryIn (detectorsOf (t .places) (t .sizes) (t .detectors))))

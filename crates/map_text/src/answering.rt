@@ -2,11 +2,11 @@
 use error::Check;
 ghost use mathlib.Core.Path.{_≡_};
 ghost use Rattle.printing.specs.Printing.{out, putAll};
-ghost use Rattle.map_text.specs.StrayMap.{strayMapOf};
+ghost use Rattle.map_text.specs.StrayMap.{strayMapText};
 
 // The answer to a text, or its refusal, written from place `at` on; what has no place is dropped.
 pub fn put_stray_map(buf: &mut [u8], at: usize, text: &[u8]) -> usize
-    ensures { λ r. ⌜ out (now (buf .exit)) r ≡ putAll (now (buf .entry)) at (strayMapOf (now (text .entry))) ⌝ }
+    ensures { λ r. ⌜ out (now (buf .exit)) r ≡ putAll (now (buf .entry)) at (strayMapText (now (text .entry))) ⌝ }
 {
     let mut run = [0.0f64; 7];
     let mut runs = [0u32; 3];

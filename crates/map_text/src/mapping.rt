@@ -5,10 +5,10 @@ use error::Check;
 use filter::RayPathFilter;
 use step::NonSeqTraceConfig;
 ghost use mathlib.Core.Path.{_≡_};
-ghost use Rattle.memory.specs.Memory.{memoryOf};
-ghost use Rattle.trace.specs.Trace.{batchOf, traceRaysOf};
+ghost use Rattle.memory.specs.Memory.{lentMemory};
+ghost use Rattle.trace.specs.Trace.{lentBatch, traceRaysOf};
 ghost use Rattle.printing.specs.Printing.{out, putAll};
-ghost use Rattle.map_text.specs.Tables.{frontOf, tablesOf, traceText, mapOf};
+ghost use Rattle.map_text.specs.Tables.{frontOf, tables, traceText, tablesText};
 
 // The first n numbers, or all.
 fn front(l: &[f64], n: usize) -> &[f64]
@@ -48,8 +48,8 @@ fn put_traced(
     kinds: &mut [u32],
 ) -> usize
     ensures { λ r. ⌜ out (now (buf .exit)) r ≡ putAll (now (buf .entry)) at
-        (traceText filter (traceRaysOf (batchOf config (now (values .entry)) (now (tags .entry)) solids (now (rays .entry)) (now (marks .entry)) given)
-        (memoryOf ds (now (flux .entry)) (now (hits .entry)) (now (list .entry)) (now (kinds .entry)) 0))) ⌝ }
+        (traceText filter (traceRaysOf (lentBatch config (now (values .entry)) (now (tags .entry)) solids (now (rays .entry)) (now (marks .entry)) given)
+        (lentMemory ds (now (flux .entry)) (now (hits .entry)) (now (list .entry)) (now (kinds .entry)) 0))) ⌝ }
 {
     let r = trace::trace_rays(
         config,
@@ -97,7 +97,7 @@ pub fn put_map(
     given: u32,
 ) -> usize
     ensures { λ r. ⌜ out (now (buf .exit)) r ≡ putAll (now (buf .entry)) at
-        (mapOf (tablesOf (now (run .entry)) (now (runs .entry)) (now (values .entry)) (now (tags .entry)) solids (now (places .entry)) (now (sizes .entry)) detectors (now (rays .entry)) (now (marks .entry)) given)) ⌝ }
+        (tablesText (tables (now (run .entry)) (now (runs .entry)) (now (values .entry)) (now (tags .entry)) solids (now (places .entry)) (now (sizes .entry)) detectors (now (rays .entry)) (now (marks .entry)) given)) ⌝ }
 {
     let ds = parts::detectors(places, sizes, detectors);
     let n = parts::at_most(33, solids);

@@ -8,11 +8,11 @@ use step::NonSeqTraceConfig;
 ghost use mathlib.Core.Path.{_≡_};
 ghost use Prim.Native.Nat.{_≤_};
 ghost use Rattle.rays.specs.Vectors.{vec3};
-ghost use Rattle.map_text.specs.Tables.{valueIn, wholeIn, configOf, meantOf, detectorOf, detectorsOf, atMost};
+ghost use Rattle.map_text.specs.Tables.{valueOf, wholeOf, configOf, meantOf, detectorOf, detectorsOf, atMostOf};
 
 // The double at a place; NaN past the end.
 fn value(l: &[f64], i: usize) -> f64
-    ensures { λ r. ⌜ r ≡ valueIn (now (l .entry)) i ⌝ }
+    ensures { λ r. ⌜ r ≡ valueOf (now (l .entry)) i ⌝ }
 {
     if i < l.len() {
         return l[i];
@@ -22,7 +22,7 @@ fn value(l: &[f64], i: usize) -> f64
 
 // The whole number at a place; 0 past the end.
 pub(crate) fn whole(l: &[u32], i: usize) -> u32
-    ensures { λ r. ⌜ r ≡ wholeIn (now (l .entry)) i ⌝ }
+    ensures { λ r. ⌜ r ≡ wholeOf (now (l .entry)) i ⌝ }
 {
     if i < l.len() {
         return l[i];
@@ -61,7 +61,7 @@ pub(crate) fn meant(number: u32) -> RayPathFilter
 
 // At most so many.
 pub(crate) fn at_most(most: u32, n: u32) -> u32
-    ensures { λ r. ⌜ (r ≡ atMost most n) × (r ≤ most) ⌝ }
+    ensures { λ r. ⌜ (r ≡ atMostOf most n) × (r ≤ most) ⌝ }
 {
     if n <= most {
         return n;
@@ -70,7 +70,7 @@ pub(crate) fn at_most(most: u32, n: u32) -> u32
 }
 
 fn vector(l: &[f64], i: usize, j: usize, k: usize) -> Vec3
-    ensures { λ r. ⌜ r ≡ vec3 (valueIn (now (l .entry)) i) (valueIn (now (l .entry)) j) (valueIn (now (l .entry)) k) ⌝ }
+    ensures { λ r. ⌜ r ≡ vec3 (valueOf (now (l .entry)) i) (valueOf (now (l .entry)) j) (valueOf (now (l .entry)) k) ⌝ }
 {
     Vec3 {
         x: value(l, i),

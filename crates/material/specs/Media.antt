@@ -3,7 +3,7 @@ use Prim.Native.Nat.{ℕ}
 use lib.Dec.{eqb}
 use lib.Ieee.{Float, binary64, add, sub, mul, div, lt, le, ofBits}
 use mathlib.Core.Bool.{cond}
-use Rattle.doubles.specs.Doubles.{finiteOf}
+use Rattle.doubles.specs.Doubles.{isFiniteOf}
 use Rattle.doubles.specs.Root.{sqrtOf}
 use Rattle.error.specs.Refusals.{numberOf, Answer, value, refusal}
 use Rattle.material.specs.declared.OpticalMedium.{OpticalMedium}
@@ -23,15 +23,15 @@ abbrev #1 : Float
 abbrev pub lastFinish : ℕ
 lastFinish = 2
 
-unfoldable pub finishOf : ℕ → Float → SurfaceFinish
-finishOf k rho = cond (eqb k 0) Specular (cond (eqb k 1) (Mirror rho) Absorber)
+unfoldable pub numberedFinishOf : ℕ → Float → SurfaceFinish
+numberedFinishOf k rho = cond (eqb k 0) Specular (cond (eqb k 1) (Mirror rho) Absorber)
 
 -- media 0 to 3 in document 01's order, with their coefficients from a on
 abbrev pub lastMedium : ℕ
 lastMedium = 3
 
-unfoldable pub mediumOf : ℕ → Float → Float → Float → Float → Float → Float → OpticalMedium
-mediumOf k a b c d e f = cond (eqb k 0) Air (cond (eqb k 1) (Constant a) (cond (eqb k 2) (Sellmeier1 a b c d e f) (Schott a b c d e f)))
+unfoldable pub numberedMediumOf : ℕ → Float → Float → Float → Float → Float → Float → OpticalMedium
+numberedMediumOf k a b c d e f = cond (eqb k 0) Air (cond (eqb k 1) (Constant a) (cond (eqb k 2) (Sellmeier1 a b c d e f) (Schott a b c d e f)))
 
 -- (λ * 1e-3) squared
 unfoldable pub squareUmOf : Float → Float
@@ -60,11 +60,11 @@ schottOf l2 a0 a1 a2 a3 a4 a5 =
 
 -- 15: a constant index below 1 or not finite
 unfoldable pub constantOf : Float → Answer Float
-constantOf n = cond (lt n #1) (refusal 15) (cond (finiteOf n) (value n) (refusal 15))
+constantOf n = cond (lt n #1) (refusal 15) (cond (isFiniteOf n) (value n) (refusal 15))
 
 -- 15: a squared index at most 0 or not finite
 unfoldable pub rootOfSquareOf : Float → Answer Float
-rootOfSquareOf n2 = cond (le n2 #0) (refusal 15) (cond (finiteOf n2) (value (sqrtOf n2)) (refusal 15))
+rootOfSquareOf n2 = cond (le n2 #0) (refusal 15) (cond (isFiniteOf n2) (value (sqrtOf n2)) (refusal 15))
 
 -- by the medium's rule
 unfoldable pub indexAtOf : OpticalMedium → Float → Answer Float
@@ -75,9 +75,9 @@ indexAtOf (Schott a0 a1 a2 a3 a4 a5) w = rootOfSquareOf (schottOf (squareUmOf w)
 
 -- 14, before the medium is looked at: a wavelength at most 0 or not finite
 unfoldable pub refractiveIndexOf : OpticalMedium → Float → Answer Float
-refractiveIndexOf m w = cond (le w #0) (refusal 14) (cond (finiteOf w) (indexAtOf m w) (refusal 14))
+refractiveIndexOf m w = cond (le w #0) (refusal 14) (cond (isFiniteOf w) (indexAtOf m w) (refusal 14))
 
 -- what the code's answer says
-abbrev pub answerOf : RefractiveIndex → Answer Float
-answerOf (Index n) = value n
-answerOf (Refused e) = refusal (numberOf e)
+abbrev pub asIndex : RefractiveIndex → Answer Float
+asIndex (Index n) = value n
+asIndex (Refused e) = refusal (numberOf e)

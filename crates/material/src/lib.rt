@@ -1,7 +1,7 @@
 // Media and finishes (document 01, module 4), after material.rs.
 use error::NonSeqError;
 ghost use mathlib.Core.Path.{_≡_};
-ghost use Rattle.material.specs.Media.{finishOf, mediumOf, squareUmOf, sellmeierTermOf, sellmeierOf, schottOf, constantOf, rootOfSquareOf, indexAtOf, refractiveIndexOf, answerOf};
+ghost use Rattle.material.specs.Media.{numberedFinishOf, numberedMediumOf, squareUmOf, sellmeierTermOf, sellmeierOf, schottOf, constantOf, rootOfSquareOf, indexAtOf, refractiveIndexOf, asIndex};
 
 // A medium's rule for its refractive index.
 pub enum OpticalMedium {
@@ -77,7 +77,7 @@ fn schott(l2: f64, a0: f64, a1: f64, a2: f64, a3: f64, a4: f64, a5: f64) -> f64
 
 // An index given as a constant: refused below 1 or not finite.
 fn constant(n: f64) -> RefractiveIndex
-    ensures { λ r. ⌜ answerOf r ≡ constantOf n ⌝ }
+    ensures { λ r. ⌜ asIndex r ≡ constantOf n ⌝ }
 {
     if n < 1.0 {
         return RefractiveIndex::Refused(NonSeqError::InvalidIndex);
@@ -90,7 +90,7 @@ fn constant(n: f64) -> RefractiveIndex
 
 // The root of a squared index: refused at most 0 or not finite.
 fn root_of_square(n2: f64) -> RefractiveIndex
-    ensures { λ r. ⌜ answerOf r ≡ rootOfSquareOf n2 ⌝ }
+    ensures { λ r. ⌜ asIndex r ≡ rootOfSquareOf n2 ⌝ }
 {
     if n2 <= 0.0 {
         return RefractiveIndex::Refused(NonSeqError::InvalidIndex);
@@ -107,7 +107,7 @@ impl SurfaceFinish {
 
     // The finish of document 01's number; the last for a larger one.
     pub fn numbered(number: u32, rho: f64) -> SurfaceFinish
-        ensures { λ r. ⌜ r ≡ finishOf number rho ⌝ }
+        ensures { λ r. ⌜ r ≡ numberedFinishOf number rho ⌝ }
     {
         if number == 0 {
             return SurfaceFinish::Specular;
@@ -126,7 +126,7 @@ impl OpticalMedium {
     // The medium of document 01's number, with as many of the coefficients as it takes; the last for a
     // larger one.
     pub fn numbered(number: u32, a: f64, b: f64, c: f64, d: f64, e: f64, f: f64) -> OpticalMedium
-        ensures { λ r. ⌜ r ≡ mediumOf number a b c d e f ⌝ }
+        ensures { λ r. ⌜ r ≡ numberedMediumOf number a b c d e f ⌝ }
     {
         if number == 0 {
             return OpticalMedium::Air;
@@ -157,7 +157,7 @@ impl OpticalMedium {
     // The refractive index at a wavelength in nanometres. A wavelength at most 0 or not finite is
     // refused first (14), then an index outside the medium's rule (15).
     pub fn refractive_index(self, wavelength: f64) -> RefractiveIndex
-        ensures { λ r. ⌜ answerOf r ≡ refractiveIndexOf self wavelength ⌝ }
+        ensures { λ r. ⌜ asIndex r ≡ refractiveIndexOf self wavelength ⌝ }
     {
         if wavelength <= 0.0 {
             return RefractiveIndex::Refused(NonSeqError::InvalidWavelength);
@@ -170,7 +170,7 @@ impl OpticalMedium {
 
     // The same at a wavelength that is not refused.
     fn index_at(self, wavelength: f64) -> RefractiveIndex
-        ensures { λ r. ⌜ answerOf r ≡ indexAtOf self wavelength ⌝ }
+        ensures { λ r. ⌜ asIndex r ≡ indexAtOf self wavelength ⌝ }
     {
         match self {
             OpticalMedium::Air => RefractiveIndex::Index(1.0),

@@ -30,28 +30,28 @@ unfoldable pub enteredOf : Media → SolidNo → Media
 enteredOf m s = cond (ltb (m .depth) maxMedia) (record { list = set (m .list) (m .depth) s; depth = m .depth + 1 }) m
 
 -- the last of the first i places that holds the solid
-unfoldable pub lastOf : List SolidNo → ℕ → SolidNo → Option ℕ
-lastOf l zero s = none
-lastOf l (suc i) s = cond (eqb (solidIn l i .0) (s .0)) (some i) (lastOf l i s)
+unfoldable pub lastPlaceOf : List SolidNo → ℕ → SolidNo → Option ℕ
+lastPlaceOf l zero s = none
+lastPlaceOf l (suc i) s = cond (eqb (solidIn l i .0) (s .0)) (some i) (lastPlaceOf l i s)
 
 -- k places from place i on, each with what stood in the next
-unfoldable pub movedDown : ℕ → ℕ → List SolidNo → List SolidNo
-movedDown zero i l = l
-movedDown (suc k) i l = movedDown k (i + 1) (set l i (solidIn l (i + 1)))
+unfoldable pub moveDownOf : ℕ → ℕ → List SolidNo → List SolidNo
+moveDownOf zero i l = l
+moveDownOf (suc k) i l = moveDownOf k (i + 1) (set l i (solidIn l (i + 1)))
 
-unfoldable pub withoutOf : Media → Option ℕ → Media
-withoutOf m (some i) = record { list = movedDown (m .depth - 1 - i) i (m .list); depth = m .depth - 1 }
-withoutOf m none = m
+unfoldable pub withoutPlace : Media → Option ℕ → Media
+withoutPlace m (some i) = record { list = moveDownOf (m .depth - 1 - i) i (m .list); depth = m .depth - 1 }
+withoutPlace m none = m
 
 -- on leaving, the last place holding the solid is removed, if there is one
 unfoldable pub leftOf : Media → SolidNo → Media
-leftOf m s = cond (leb (m .depth) maxMedia) (withoutOf m (lastOf (m .list) (m .depth) s)) m
+leftOf m s = cond (leb (m .depth) maxMedia) (withoutPlace m (lastPlaceOf (m .list) (m .depth) s)) m
 
 -- what the code's answers say
-abbrev pub mediumIn : Newest → Option SolidNo
-mediumIn (In s) = some s
-mediumIn Outside = none
+abbrev pub asMedium : Newest → Option SolidNo
+asMedium (In s) = some s
+asMedium Outside = none
 
-abbrev pub placeOf : Place → Option ℕ
-placeOf (At i) = some i
-placeOf Nowhere = none
+abbrev pub asPlace : Place → Option ℕ
+asPlace (At i) = some i
+asPlace Nowhere = none

@@ -3,7 +3,7 @@
 use scene::SolidNo;
 ghost use mathlib.Core.Path.{_≡_};
 ghost use Prim.Native.Nat.{_-_, _≤_, _<_};
-ghost use Rattle.media.specs.Media.{newestOf, enteredOf, lastOf, movedDown, leftOf, mediumIn, placeOf};
+ghost use Rattle.media.specs.Media.{newestOf, enteredOf, lastPlaceOf, moveDownOf, leftOf, asMedium, asPlace};
 
 // The first `depth` of the places are used.
 pub struct Media {
@@ -24,7 +24,7 @@ pub enum Place {
 // The last of the first `depth` places that holds a solid.
 fn last_of(list: [SolidNo; 24], depth: usize, solid: SolidNo) -> Place
     requires { ⌜ depth ≤ 24 ⌝ }
-    ensures { λ r. ⌜ placeOf r ≡ lastOf list depth solid ⌝ }
+    ensures { λ r. ⌜ asPlace r ≡ lastPlaceOf list depth solid ⌝ }
 {
     let mut i = depth;
     while 0 < i {
@@ -41,7 +41,7 @@ fn last_of(list: [SolidNo; 24], depth: usize, solid: SolidNo) -> Place
 // The places from `at` to `end`, each with what stood in the next.
 fn move_down(list: [SolidNo; 24], at: usize, end: usize) -> [SolidNo; 24]
     requires { ⌜ end < 24 ⌝ }
-    ensures { λ r. ⌜ r ≡ movedDown (end - at) at list ⌝ }
+    ensures { λ r. ⌜ r ≡ moveDownOf (end - at) at list ⌝ }
 {
     let mut r = list;
     let mut i = at;
@@ -58,7 +58,7 @@ impl Media {
     pub const MAX: u32 = 24;
 
     pub fn newest(self) -> Newest
-        ensures { λ r. ⌜ mediumIn r ≡ newestOf self ⌝ }
+        ensures { λ r. ⌜ asMedium r ≡ newestOf self ⌝ }
     {
         let list = self.list;
         if 0 < self.depth {

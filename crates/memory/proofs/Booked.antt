@@ -17,8 +17,8 @@ use Rattle.detectors.specs.declared.Detectors.{Detectors}
 use Rattle.detectors.specs.declared.Placed.{Placed}
 use Rattle.detector.specs.declared.DetectorHit.{DetectorHit}
 use Rattle.detectors.specs.Detectors.{detectorAt, firstPixelOf, allPixelsOf, placedOf, findOf}
-use Rattle.memory.specs.Memory.{Memory, done, refused, leftOf, listed, hitsFrom, cellInOf, cellOf, inMapsOf, holdsOf, judged, capacityOf, maxCount, raised, recordAt, recordHit, isHitListOf, areLengthsOf, isMemoryOf, unless, recordClassifiedOf, writtenAt}
-use Rattle.memory.specs.Plain.{Empty, added, viewOf, plusAll, bookHit, sharing, numberIn}
+use Rattle.memory.specs.Memory.{Memory, done, refused, memoryLeft, listed, hitsFrom, cellOf, cellIn, inMapsOf, hasPixel, judged, capacity, maxCount, raised, putOf, recordOf, isHitListOf, areLengthsOf, isMemory, unless, recordHitClassifiedOf, writtenAt}
+use Rattle.memory.specs.Plain.{Empty, added, viewIn, plusAll, bookHit, sharing, numberIn}
 use Rattle.detectors.proofs.Passed.{Sound, asked-there, part-in}
 use Rattle.memory.proofs.Records.{both}
 use Rattle.memory.proofs.Keeps.{kept, added-keeps, same-pixels, same-pixel}
@@ -34,8 +34,8 @@ lengths ds nf nh nv nt used e =
     let g = both _ _ (f .1) in
     (eqb-true _ _ (f .0), eqb-true _ _ (g .0), eqb-true _ _ (both _ _ (g .1) .0))
 
-pub holds-checked : (s : Memory) (h : DetectorHit) → Sound (s .detectors) → h .detector .0 < s .detectors .count → isMemoryOf s ≡ true → holdsOf s h ≡ true
-unfolding isMemoryOf holdsOf inMapsOf cellOf cellInOf placedOf
+pub holds-checked : (s : Memory) (h : DetectorHit) → Sound (s .detectors) → h .detector .0 < s .detectors .count → isMemory s ≡ true → hasPixel s h ≡ true
+unfolding isMemory hasPixel inMapsOf cellIn cellOf placedOf
 holds-checked s h sound k e =
     let d = h .detector .0 in
     let l = s .detectors .list in
@@ -51,9 +51,9 @@ holds-checked s h sound k e =
     )
 
 -- the call that is open to hosts, once the checks passed: only 12 and 13 are left
-pub checked-record : (s : Memory) (h : DetectorHit) (p : Placed) → findOf (s .detectors) (h .detector) ≡ passed p → isMemoryOf s ≡ true
-    → recordClassifiedOf s h ≡ recordAt s (cellOf (s .detectors .list) h) h
-unfolding recordClassifiedOf recordHit
+pub checked-record : (s : Memory) (h : DetectorHit) (p : Placed) → findOf (s .detectors) (h .detector) ≡ passed p → isMemory s ≡ true
+    → recordHitClassifiedOf s h ≡ putOf s (cellIn (s .detectors .list) h) h
+unfolding recordHitClassifiedOf recordOf
 checked-record s h p e m =
     let t = asked-there (s .detectors) (h .detector) p e in
     rw (e, m, holds-checked s h (t .0) (t .1) m)
@@ -73,11 +73,11 @@ unfolding AllFit
 all-snoc l [] h f g = (g, tt)
 all-snoc l (k ∷ b) h f g = (f .0, all-snoc l b h (f .1) g)
 
-book-fits : (s : Memory) (b : List DetectorHit) (h : DetectorHit) → AllFit (s .detectors .list) b → Fits (s .detectors .list) h → AllFit (s .detectors .list) (leftOf (bookHit s b h))
+book-fits : (s : Memory) (b : List DetectorHit) (h : DetectorHit) → AllFit (s .detectors .list) b → Fits (s .detectors .list) h → AllFit (s .detectors .list) (memoryLeft (bookHit s b h))
 unfolding bookHit judged
-book-fits s b h f g = go (holdsOf s h) (leb (capacityOf s) (length b)) (eqb (sharing (cellOf (s .detectors .list)) (cellOf (s .detectors .list) h) b) maxCount || eqb (sharing numberIn (h .detector .0) b) maxCount)
+book-fits s b h f g = go (hasPixel s h) (leb (capacity s) (length b)) (eqb (sharing (cellIn (s .detectors .list)) (cellIn (s .detectors .list) h) b) maxCount || eqb (sharing numberIn (h .detector .0) b) maxCount)
   where
-    go : (x y z : Bool) → AllFit (s .detectors .list) (leftOf (cond x (cond y (refused 12 0 b) (cond z (refused 13 0 b) (done (b ++ h ∷ [])))) (refused 9 0 b)))
+    go : (x y z : Bool) → AllFit (s .detectors .list) (memoryLeft (cond x (cond y (refused 12 0 b) (cond z (refused 13 0 b) (done (b ++ h ∷ [])))) (refused 9 0 b)))
     go false y z = f
     go true true z = f
     go true false true = f
@@ -98,7 +98,7 @@ module _ (s : Memory) (eight : length (s .detectors .list) ≡ 8) (empty : Empty
       none = ap (λ n. hitsFrom (s .values) (s .tags) n 0) (empty .used)
 
   -- one hit of a detector that is there into any such memory, as in a run
-  pub record-books : (m : Memory) (h : DetectorHit) → Fits (s .detectors .list) h → Booked m → Booked (leftOf (recordHit m h))
+  pub record-books : (m : Memory) (h : DetectorHit) → Fits (s .detectors .list) h → Booked m → Booked (memoryLeft (recordOf m h))
   record-books m h g b =
       record { kept = record-keeps s eight empty m h (b .kept); fit = subst (λ b. AllFit (s .detectors .list) b) (sym (record-lists s eight empty m h (b .kept))) (book-fits s (listed m) h (b .fit) g) }
 
@@ -113,18 +113,18 @@ module _ (s : Memory) (eight : length (s .detectors .list) ≡ 8) (empty : Empty
       }
 
   -- the call that is open to hosts, refused or not
-  pub recording-books : (m : Memory) (h : DetectorHit) → Booked m → Booked (leftOf (recordClassifiedOf m h))
-  unfolding recordClassifiedOf
-  recording-books m h b = go (findOf (m .detectors) (h .detector)) (isMemoryOf m) refl
+  pub recording-books : (m : Memory) (h : DetectorHit) → Booked m → Booked (memoryLeft (recordHitClassifiedOf m h))
+  unfolding recordHitClassifiedOf
+  recording-books m h b = go (findOf (m .detectors) (h .detector)) (isMemory m) refl
     where
-      go : (c : Checked Placed) (x : Bool) → findOf (m .detectors) (h .detector) ≡ c → Booked (leftOf (unless c m (cond x (recordHit m h) (refused 9 0 m))))
+      go : (c : Checked Placed) (x : Bool) → findOf (m .detectors) (h .detector) ≡ c → Booked (memoryLeft (unless c m (cond x (recordOf m h) (refused 9 0 m))))
       go (passed p) true e = record-books m h (asked-fits m h p b e) b
       go (passed p) false e = b
       go (refusedAt n place) x e = b
 
   -- each detector's maps, total and count are what zeros become when its listed hits are added in list order
-  pub booked-view : (m : Memory) (d : ℕ) → Booked m → viewOf m d ≡ plusAll d (detectorAt (s .detectors .list) d) (viewOf s d) (listed m)
-  booked-view m d b = ap (λ x. viewOf x d) (sym (b .kept)) ∙ views (listed m) s d (b .fit)
+  pub booked-view : (m : Memory) (d : ℕ) → Booked m → viewIn m d ≡ plusAll d (detectorAt (s .detectors .list) d) (viewIn s d) (listed m)
+  booked-view m d b = ap (λ x. viewIn x d) (sym (b .kept)) ∙ views (listed m) s d (b .fit)
 
   -- its pixels are those that it began with
   pub booked-pixels : (m : Memory) (d : ℕ) → Booked m → pixelsOf (detectorAt (m .detectors .list) d) ≡ pixelsOf (detectorAt (s .detectors .list) d)

@@ -8,7 +8,7 @@ use Rattle.detector.specs.declared.Detector2D.{Detector2D}
 use Rattle.detector.specs.Pixels.{pixelsOf, pixelAtOf}
 use Rattle.detector.specs.declared.DetectorHit.{DetectorHit}
 use Rattle.detectors.specs.Detectors.{detectorAt, firstPixelOf, placedOf}
-use Rattle.memory.specs.Memory.{Memory, capacityOf, raised, four, cellInOf, cellOf, holdsOf, writtenAt}
+use Rattle.memory.specs.Memory.{Memory, capacity, raised, four, cellOf, cellIn, hasPixel, writtenAt}
 use Rattle.memory.specs.Plain.{added}
 
 pub length-four : (A : Type 0) (l : List A) (i : ℕ) (a b c d : A) → length (four A l i a b c d) ≡ length l
@@ -39,8 +39,8 @@ unfolding firstPixelOf
 first-kept l i zero f = refl
 first-kept l i (suc n) f = rw (first-kept l i n f, kept pixelsOf same-pixels l i n f)
 
-cell-kept : (l : List Detector2D) (i : ℕ) (f : Float) (h : DetectorHit) → cellOf (set l i (raised (detectorAt l i) f)) h ≡ cellOf l h
-unfolding cellOf cellInOf placedOf
+cell-kept : (l : List Detector2D) (i : ℕ) (f : Float) (h : DetectorHit) → cellIn (set l i (raised (detectorAt l i) f)) h ≡ cellIn l h
+unfolding cellIn cellOf placedOf
 cell-kept l i f h = rw (first-kept l i (h .detector .0) f, kept (λ d. pixelAtOf d (h .«local_x») (h .«local_y»)) (same-pixel (h .«local_x») (h .«local_y»)) l i (h .detector .0) f)
 
 -- ---- one hit written at any place
@@ -58,7 +58,7 @@ module _ (s : Memory) (p : ℕ) (k : DetectorHit) where
   unfolding writtenAt
   written-first d = first-kept (s .detectors .list) (k .detector .0) d (k .«flux_watts»)
 
-  pub written-cell : (h : DetectorHit) → cellOf (writtenAt s p k .detectors .list) h ≡ cellOf (s .detectors .list) h
+  pub written-cell : (h : DetectorHit) → cellIn (writtenAt s p k .detectors .list) h ≡ cellIn (s .detectors .list) h
   unfolding writtenAt
   written-cell h = cell-kept (s .detectors .list) (k .detector .0) (k .«flux_watts») h
 
@@ -90,8 +90,8 @@ unfolding added
 added-keeps g e [] s = refl
 added-keeps g e (k ∷ b) s = added-keeps g e b (writtenAt s _ k) ∙ e s _ k
 
-pub added-cell : (b : List DetectorHit) (s : Memory) (h : DetectorHit) → cellOf (added s b .detectors .list) h ≡ cellOf (s .detectors .list) h
-added-cell b s h = added-keeps (λ m. cellOf (m .detectors .list) h) (λ s p k. written-cell s p k h) b s
+pub added-cell : (b : List DetectorHit) (s : Memory) (h : DetectorHit) → cellIn (added s b .detectors .list) h ≡ cellIn (s .detectors .list) h
+added-cell b s h = added-keeps (λ m. cellIn (m .detectors .list) h) (λ s p k. written-cell s p k h) b s
 
 added-flux : (b : List DetectorHit) (s : Memory) → length (added s b .flux) ≡ length (s .flux)
 added-flux = added-keeps (λ m. length (m .flux)) written-flux
@@ -105,10 +105,10 @@ added-values = added-keeps (λ m. length (m .values)) written-values
 added-tags : (b : List DetectorHit) (s : Memory) → length (added s b .tags) ≡ length (s .tags)
 added-tags = added-keeps (λ m. length (m .tags)) written-tags
 
-pub added-holds : (b : List DetectorHit) (s : Memory) (h : DetectorHit) → holdsOf (added s b) h ≡ holdsOf s h
-unfolding holdsOf
+pub added-holds : (b : List DetectorHit) (s : Memory) (h : DetectorHit) → hasPixel (added s b) h ≡ hasPixel s h
+unfolding hasPixel
 added-holds b s h = rw (added-cell b s h, added-flux b s, added-hits b s, added-values b s, added-tags b s)
 
-pub added-capacity : (b : List DetectorHit) (s : Memory) → capacityOf (added s b) ≡ capacityOf s
-unfolding capacityOf
+pub added-capacity : (b : List DetectorHit) (s : Memory) → capacity (added s b) ≡ capacity s
+unfolding capacity
 added-capacity b s = rw (added-values b s)

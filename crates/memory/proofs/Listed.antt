@@ -9,7 +9,7 @@ use lib.ListN.{length, getD, set, length-set}
 use lib.Seq.{getD-set-same, getD-set-other}
 use borrow.Author.Tests.{lt-ltb}
 use Rattle.detector.specs.declared.DetectorHit.{DetectorHit}
-use Rattle.memory.specs.Memory.{Memory, capacityOf, readHit, hitAt, hitsFrom, listed, four, cellOf, writtenAt}
+use Rattle.memory.specs.Memory.{Memory, capacity, readHitOf, hitAtOf, hitsFrom, listed, four, cellIn, writtenAt}
 use Rattle.memory.specs.Plain.{added}
 use Rattle.memory.proofs.Keeps.{written-values, written-tags}
 
@@ -49,27 +49,27 @@ module _ (A : Type 0) (l : List A) (i : ℕ) (a b c d e : A) where
 
 -- ---- one more hit
 
-hits-snoc : (v : List Float) (t : List ℕ) (n k : ℕ) → hitsFrom v t (n + 1) k ≡ hitsFrom v t n k ++ hitAt v t (k + n) ∷ []
+hits-snoc : (v : List Float) (t : List ℕ) (n k : ℕ) → hitsFrom v t (n + 1) k ≡ hitsFrom v t n k ++ hitAtOf v t (k + n) ∷ []
 unfolding hitsFrom
 hits-snoc v t zero k = rw add-zero
 hits-snoc v t (suc n) k =
     let e : suc n + 1 ≡ suc (n + 1) = omega arith in
     let f : k + 1 + n ≡ k + suc n = omega arith in
-    ap (λ m. hitsFrom v t m k) e ∙ ap (λ r. hitAt v t k ∷ r) (hits-snoc v t n (k + 1) ∙ ap (λ m. hitsFrom v t n (k + 1) ++ hitAt v t m ∷ []) f)
+    ap (λ m. hitsFrom v t m k) e ∙ ap (λ r. hitAtOf v t k ∷ r) (hits-snoc v t n (k + 1) ∙ ap (λ m. hitsFrom v t n (k + 1) ++ hitAtOf v t m ∷ []) f)
 
-hits-same : (v v′ : List Float) (t t′ : List ℕ) (n k : ℕ) → ((i : ℕ) → i < k + n → hitAt v t i ≡ hitAt v′ t′ i) → hitsFrom v t n k ≡ hitsFrom v′ t′ n k
+hits-same : (v v′ : List Float) (t t′ : List ℕ) (n k : ℕ) → ((i : ℕ) → i < k + n → hitAtOf v t i ≡ hitAtOf v′ t′ i) → hitsFrom v t n k ≡ hitsFrom v′ t′ n k
 unfolding hitsFrom
 hits-same v v′ t t′ zero k e = refl
 hits-same v v′ t t′ (suc n) k e =
-    ap (λ h. h ∷ hitsFrom v t n (k + 1)) (e k (omega arith)) ∙ ap (λ r. hitAt v′ t′ k ∷ r) (hits-same v v′ t t′ n (k + 1) (λ i l. e i (omega arith)))
+    ap (λ h. h ∷ hitsFrom v t n (k + 1)) (e k (omega arith)) ∙ ap (λ r. hitAtOf v′ t′ k ∷ r) (hits-same v v′ t t′ n (k + 1) (λ i l. e i (omega arith)))
 
 -- a hit that the slices hold
-pub hit-is : (v : List Float) (t : List ℕ) (i : ℕ) → i < length v / 4 → i < length t / 4 → hitAt v t i ≡ readHit v t i
-unfolding hitAt
+pub hit-is : (v : List Float) (t : List ℕ) (i : ℕ) → i < length v / 4 → i < length t / 4 → hitAtOf v t i ≡ readHitOf v t i
+unfolding hitAtOf
 hit-is v t i a b = rw (lt-ltb i (length v / 4) a, lt-ltb i (length t / 4) b)
 
 module _ (s : Memory) (p : ℕ) (h : DetectorHit) (even : length (s .values) ≡ length (s .tags)) (room : s .used < length (s .values) / 4) where
-  read-old : (i : ℕ) → i < s .used → readHit (writtenAt s p h .values) (writtenAt s p h .tags) i ≡ readHit (s .values) (s .tags) i
+  read-old : (i : ℕ) → i < s .used → readHitOf (writtenAt s p h .values) (writtenAt s p h .tags) i ≡ readHitOf (s .values) (s .tags) i
   unfolding writtenAt
   read-old i k =
       let p : 4 * i < 4 * s .used = omega arith in
@@ -78,31 +78,31 @@ module _ (s : Memory) (p : ℕ) (h : DetectorHit) (even : length (s .values) ≡
       let u : 4 * i + 3 < 4 * s .used = omega arith in
       simp four-before
 
-  read-new : readHit (writtenAt s p h .values) (writtenAt s p h .tags) (s .used) ≡ h
+  read-new : readHitOf (writtenAt s p h .values) (writtenAt s p h .tags) (s .used) ≡ h
   unfolding writtenAt
   read-new =
       let p : 4 * s .used + 4 ≤ length (s .values) = omega arith in
       let q : 4 * s .used + 4 ≤ length (s .tags) = omega arith in
       simp (four-0, four-1, four-2, four-3)
 
-  hit-there : (i : ℕ) → i ≤ s .used → hitAt (writtenAt s p h .values) (writtenAt s p h .tags) i ≡ readHit (writtenAt s p h .values) (writtenAt s p h .tags) i
+  hit-there : (i : ℕ) → i ≤ s .used → hitAtOf (writtenAt s p h .values) (writtenAt s p h .tags) i ≡ readHitOf (writtenAt s p h .values) (writtenAt s p h .tags) i
   hit-there i k = hit-is _ _ i (rw (written-values s p h) (omega arith)) (rw (written-tags s p h, sym even) (omega arith))
 
-  hit-old : (i : ℕ) → i < s .used → hitAt (writtenAt s p h .values) (writtenAt s p h .tags) i ≡ hitAt (s .values) (s .tags) i
+  hit-old : (i : ℕ) → i < s .used → hitAtOf (writtenAt s p h .values) (writtenAt s p h .tags) i ≡ hitAtOf (s .values) (s .tags) i
   hit-old i k = hit-there i (omega arith) ∙ read-old i k ∙ sym (hit-is (s .values) (s .tags) i (omega arith) (rw (sym even) (omega arith)))
 
   pub listed-written : hitsFrom (writtenAt s p h .values) (writtenAt s p h .tags) (s .used + 1) 0 ≡ listed s ++ h ∷ []
   listed-written =
       hits-snoc (writtenAt s p h .values) (writtenAt s p h .tags) (s .used) 0
-      ∙ ap (λ r. r ++ hitAt (writtenAt s p h .values) (writtenAt s p h .tags) (0 + s .used) ∷ []) (hits-same _ _ _ _ (s .used) 0 (λ i l. hit-old i (omega arith)))
-      ∙ ap (λ k. listed s ++ k ∷ []) (ap (hitAt (writtenAt s p h .values) (writtenAt s p h .tags)) (zero-add (s .used)) ∙ hit-there (s .used) (omega arith) ∙ read-new)
+      ∙ ap (λ r. r ++ hitAtOf (writtenAt s p h .values) (writtenAt s p h .tags) (0 + s .used) ∷ []) (hits-same _ _ _ _ (s .used) 0 (λ i l. hit-old i (omega arith)))
+      ∙ ap (λ k. listed s ++ k ∷ []) (ap (hitAtOf (writtenAt s p h .values) (writtenAt s p h .tags)) (zero-add (s .used)) ∙ hit-there (s .used) (omega arith) ∙ read-new)
 
 -- the hits added are read behind those listed before
-pub listed-added : (b : List DetectorHit) (s : Memory) → length (s .values) ≡ length (s .tags) → s .used + length b ≤ capacityOf s → listed (added s b) ≡ listed s ++ b
-unfolding added capacityOf writtenAt
+pub listed-added : (b : List DetectorHit) (s : Memory) → length (s .values) ≡ length (s .tags) → s .used + length b ≤ capacity s → listed (added s b) ≡ listed s ++ b
+unfolding added capacity writtenAt
 listed-added [] s g k = sym (append-nil (listed s))
 listed-added (h ∷ b) s g k =
-    let p = cellOf (s .detectors .list) h in
+    let p = cellIn (s .detectors .list) h in
     listed-added b (writtenAt s p h) (written-values s p h ∙ g ∙ sym (written-tags s p h)) (rw (written-values s p h) (omega arith))
     ∙ ap (λ r. r ++ b) (listed-written s p h g (omega arith))
     ∙ append-assoc (listed s) (h ∷ []) b

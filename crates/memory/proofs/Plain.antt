@@ -17,7 +17,7 @@ use Rattle.detector.specs.declared.DetectorHit.{DetectorHit}
 use Rattle.error.specs.Refusals.{Checked, passed, refusedAt}
 use Rattle.detectors.specs.declared.Placed.{Placed}
 use Rattle.detectors.specs.Detectors.{noDetector, detectorAt, findOf}
-use Rattle.memory.specs.Memory.{Memory, Outcome, done, refused, raised, writtenAt, judged, recordAt, recordHit, cellOf, capacityOf, holdsOf, maxCount, detectorOf, listed, hitsFrom, leftOf, unless, isMemoryOf, recordClassifiedOf}
+use Rattle.memory.specs.Memory.{Memory, Outcome, done, refused, raised, writtenAt, judged, putOf, recordOf, cellIn, capacity, hasPixel, maxCount, hitDetector, listed, hitsFrom, memoryLeft, unless, isMemory, recordHitClassifiedOf}
 use Rattle.memory.specs.Plain.{sharing, numberIn, bookHit, added, Empty}
 use Rattle.memory.proofs.Records.{both, told-lengths}
 use Rattle.memory.proofs.Keeps.{written-cell, written-hits, written-list, added-cell, added-holds, added-capacity}
@@ -25,7 +25,7 @@ use Rattle.memory.proofs.Listed.{listed-added}
 
 -- ---- one more at the end
 
-pub added-snoc : (b : List DetectorHit) (s : Memory) (h : DetectorHit) → added s (b ++ h ∷ []) ≡ writtenAt (added s b) (cellOf (added s b .detectors .list) h) h
+pub added-snoc : (b : List DetectorHit) (s : Memory) (h : DetectorHit) → added s (b ++ h ∷ []) ≡ writtenAt (added s b) (cellIn (added s b .detectors .list) h) h
 unfolding added
 added-snoc [] s h = refl
 added-snoc (k ∷ b) s h = added-snoc b (writtenAt s _ k) h
@@ -52,14 +52,14 @@ raise-at l i j f k =
       | no d ↦ rw (ne-eqb i j d) (ap (λ d. d .«total_rays_hit») (getD-set-other l i j _ noDetector (λ e. d (sym e))) ∙ sym (add-zero _))
     ]
 
-pub pixel-counts : (b : List DetectorHit) (s : Memory) (c : ℕ) → c < length (s .hits) → getD (added s b .hits) c 0 ≡ getD (s .hits) c 0 + sharing (cellOf (s .detectors .list)) c b
+pub pixel-counts : (b : List DetectorHit) (s : Memory) (c : ℕ) → c < length (s .hits) → getD (added s b .hits) c 0 ≡ getD (s .hits) c 0 + sharing (cellIn (s .detectors .list)) c b
 unfolding added sharing writtenAt
 pixel-counts [] s c k = sym (add-zero _)
 pixel-counts (h ∷ b) s c k =
-    let w = writtenAt s (cellOf (s .detectors .list) h) h in
+    let w = writtenAt s (cellIn (s .detectors .list) h) h in
     pixel-counts b w c (rw (written-hits s _ h) k)
-    ∙ ap (λ key. getD (w .hits) c 0 + sharing key c b) (fun-ext (written-cell s (cellOf (s .detectors .list) h) h))
-    ∙ ap (λ n. n + sharing (cellOf (s .detectors .list)) c b) (bump-at (s .hits) (cellOf (s .detectors .list) h) c k)
+    ∙ ap (λ key. getD (w .hits) c 0 + sharing key c b) (fun-ext (written-cell s (cellIn (s .detectors .list) h) h))
+    ∙ ap (λ n. n + sharing (cellIn (s .detectors .list)) c b) (bump-at (s .hits) (cellIn (s .detectors .list) h) c k)
     ∙ add-assoc _ _ _
 
 pub detector-counts : (b : List DetectorHit) (s : Memory) (d : ℕ) → d < length (s .detectors .list)
@@ -88,9 +88,9 @@ judged-same : {M : Type 0} (a a′ b b′ : Bool) (m n n′ : M) → a ≡ a′ 
 judged-same a a′ b b′ m n n′ ea eb en = cc
 
 -- what a memory that holds a hit has
-pub held : (s : Memory) (h : DetectorHit) → holdsOf s h ≡ true
-    → (h .detector .0 < 8) × (cellOf (s .detectors .list) h < length (s .flux)) × (cellOf (s .detectors .list) h < length (s .hits)) × (length (s .values) ≡ length (s .tags))
-unfolding holdsOf
+pub held : (s : Memory) (h : DetectorHit) → hasPixel s h ≡ true
+    → (h .detector .0 < 8) × (cellIn (s .detectors .list) h < length (s .flux)) × (cellIn (s .detectors .list) h < length (s .hits)) × (length (s .values) ≡ length (s .tags))
+unfolding hasPixel
 held s h e =
     let f = both (ltb (h .detector .0) 8) _ e in
     let l = told-lengths _ _ _ _ _ true (sym (f .1)) refl in
@@ -100,34 +100,34 @@ module _ (s : Memory) (eight : length (s .detectors .list) ≡ 8) (empty : Empty
   pub used-by : (b : List DetectorHit) → added s b .used ≡ length b
   used-by b = added-used b s ∙ (let e = empty .used in omega arith)
 
-  put-held : (b : List DetectorHit) (h : DetectorHit) → holdsOf s h ≡ true → recordAt (added s b) (cellOf (added s b .detectors .list) h) h ≡ mapOutcome (added s)
-      (judged (leb (capacityOf s) (length b)) (eqb (sharing (cellOf (s .detectors .list)) (cellOf (s .detectors .list) h) b) maxCount || eqb (sharing numberIn (h .detector .0) b) maxCount) b (b ++ h ∷ []))
-  unfolding recordAt
+  put-held : (b : List DetectorHit) (h : DetectorHit) → hasPixel s h ≡ true → putOf (added s b) (cellIn (added s b .detectors .list) h) h ≡ mapOutcome (added s)
+      (judged (leb (capacity s) (length b)) (eqb (sharing (cellIn (s .detectors .list)) (cellIn (s .detectors .list) h) b) maxCount || eqb (sharing numberIn (h .detector .0) b) maxCount) b (b ++ h ∷ []))
+  unfolding putOf
   put-held b h k =
       let t = held s h k in
-      let c = cellOf (s .detectors .list) h in
-      let full : leb (capacityOf (added s b)) (added s b .used) ≡ leb (capacityOf s) (length b) = rw (added-capacity b s, used-by b) in
-      let pixel : getD (added s b .hits) (cellOf (added s b .detectors .list) h) 0 ≡ sharing (cellOf (s .detectors .list)) c b =
+      let c = cellIn (s .detectors .list) h in
+      let full : leb (capacity (added s b)) (added s b .used) ≡ leb (capacity s) (length b) = rw (added-capacity b s, used-by b) in
+      let pixel : getD (added s b .hits) (cellIn (added s b .detectors .list) h) 0 ≡ sharing (cellIn (s .detectors .list)) c b =
       ap (λ c. getD (added s b .hits) c 0) (added-cell b s h) ∙ pixel-counts b s c (t .2) ∙ (let e = empty .hits c (t .2) in omega arith) in
-      let count : detectorOf (added s b) h .«total_rays_hit» ≡ sharing numberIn (h .detector .0) b =
+      let count : hitDetector (added s b) h .«total_rays_hit» ≡ sharing numberIn (h .detector .0) b =
       detector-counts b s (h .detector .0) (let z = t .0 in omega arith) ∙ (let e = empty .counts (h .detector .0) (t .0) in omega arith) in
-      judged-same _ _ _ _ _ _ _ full (ap (λ n. eqb n maxCount || eqb (detectorOf (added s b) h .«total_rays_hit») maxCount) pixel ∙ ap (λ n. eqb (sharing (cellOf (s .detectors .list)) c b) maxCount || eqb n maxCount) count) (sym (added-snoc b s h))
+      judged-same _ _ _ _ _ _ _ full (ap (λ n. eqb n maxCount || eqb (hitDetector (added s b) h .«total_rays_hit») maxCount) pixel ∙ ap (λ n. eqb (sharing (cellIn (s .detectors .list)) c b) maxCount || eqb n maxCount) count) (sym (added-snoc b s h))
       ∙ map-judged (added s) _ _ b (b ++ h ∷ [])
 
   -- recording in the empty memory with the book's hits added is adding to the book
-  pub same-put : (b : List DetectorHit) (h : DetectorHit) → recordHit (added s b) h ≡ mapOutcome (added s) (bookHit s b h)
-  unfolding recordHit bookHit
-  same-put b h = go (holdsOf s h) refl
+  pub same-put : (b : List DetectorHit) (h : DetectorHit) → recordOf (added s b) h ≡ mapOutcome (added s) (bookHit s b h)
+  unfolding recordOf bookHit
+  same-put b h = go (hasPixel s h) refl
     where
-      go : (x : Bool) → holdsOf s h ≡ x → cond (holdsOf (added s b) h) (recordAt (added s b) (cellOf (added s b .detectors .list) h) h) (refused 9 0 (added s b))
-          ≡ mapOutcome (added s) (cond (holdsOf s h)
-          (judged (leb (capacityOf s) (length b)) (eqb (sharing (cellOf (s .detectors .list)) (cellOf (s .detectors .list) h) b) maxCount || eqb (sharing numberIn (h .detector .0) b) maxCount) b (b ++ h ∷ []))
+      go : (x : Bool) → hasPixel s h ≡ x → cond (hasPixel (added s b) h) (putOf (added s b) (cellIn (added s b .detectors .list) h) h) (refused 9 0 (added s b))
+          ≡ mapOutcome (added s) (cond (hasPixel s h)
+          (judged (leb (capacity s) (length b)) (eqb (sharing (cellIn (s .detectors .list)) (cellIn (s .detectors .list) h) b) maxCount || eqb (sharing numberIn (h .detector .0) b) maxCount) b (b ++ h ∷ []))
           (refused 9 0 b))
       go true e = rw (added-holds b s h, e) (put-held b h e)
       go false e = rw (added-holds b s h, e)
 
   -- the list of the memory is the book, as long as it holds no more than the slices
-  pub same-list : (b : List DetectorHit) → length (s .values) ≡ length (s .tags) → length b ≤ capacityOf s → listed (added s b) ≡ b
+  pub same-list : (b : List DetectorHit) → length (s .values) ≡ length (s .tags) → length b ≤ capacity s → listed (added s b) ≡ b
   unfolding hitsFrom
   same-list b g k = listed-added b s g (let e = empty .used in omega arith) ∙ ap (λ n. hitsFrom (s .values) (s .tags) n 0 ++ b) (empty .used)
 
@@ -136,49 +136,49 @@ module _ (s : Memory) (eight : length (s .detectors .list) ≡ 8) (empty : Empty
   abbrev pub Kept : Memory → Type 0
   Kept m = added s (listed m) ≡ m
 
-  book-listed : (b : List DetectorHit) (h : DetectorHit) → listed (added s b) ≡ b → listed (added s (leftOf (bookHit s b h))) ≡ leftOf (bookHit s b h)
+  book-listed : (b : List DetectorHit) (h : DetectorHit) → listed (added s b) ≡ b → listed (added s (memoryLeft (bookHit s b h))) ≡ memoryLeft (bookHit s b h)
   unfolding bookHit judged
-  book-listed b h e = go (holdsOf s h) (leb (capacityOf s) (length b)) (eqb (sharing (cellOf (s .detectors .list)) (cellOf (s .detectors .list) h) b) maxCount || eqb (sharing numberIn (h .detector .0) b) maxCount) refl refl
+  book-listed b h e = go (hasPixel s h) (leb (capacity s) (length b)) (eqb (sharing (cellIn (s .detectors .list)) (cellIn (s .detectors .list) h) b) maxCount || eqb (sharing numberIn (h .detector .0) b) maxCount) refl refl
     where
-      go : (x y z : Bool) → holdsOf s h ≡ x → leb (capacityOf s) (length b) ≡ y
-          → let o = cond x (cond y (refused 12 0 b) (cond z (refused 13 0 b) (done (b ++ h ∷ [])))) (refused 9 0 b) in listed (added s (leftOf o)) ≡ leftOf o
+      go : (x y z : Bool) → hasPixel s h ≡ x → leb (capacity s) (length b) ≡ y
+          → let o = cond x (cond y (refused 12 0 b) (cond z (refused 13 0 b) (done (b ++ h ∷ [])))) (refused 9 0 b) in listed (added s (memoryLeft o)) ≡ memoryLeft o
       go false y z p q = e
       go true true z p q = e
       go true false true p q = e
       go true false false p q =
-          let n : length b < capacityOf s = leb-false (capacityOf s) (length b) q in
+          let n : length b < capacity s = leb-false (capacity s) (length b) q in
           same-list (b ++ h ∷ []) (held s h p .3) (rw length-append (omega arith))
 
-  map-left : (o : Outcome (List DetectorHit)) → leftOf (mapOutcome (added s) o) ≡ added s (leftOf o)
+  map-left : (o : Outcome (List DetectorHit)) → memoryLeft (mapOutcome (added s) o) ≡ added s (memoryLeft o)
   map-left (done b) = refl
   map-left (refused n p b) = refl
 
-  left-is : (b : List DetectorHit) (h : DetectorHit) → leftOf (recordHit (added s b) h) ≡ added s (leftOf (bookHit s b h))
-  left-is b h = ap leftOf (same-put b h) ∙ map-left (bookHit s b h)
+  left-is : (b : List DetectorHit) (h : DetectorHit) → memoryLeft (recordOf (added s b) h) ≡ added s (memoryLeft (bookHit s b h))
+  left-is b h = ap memoryLeft (same-put b h) ∙ map-left (bookHit s b h)
 
-  added-keeps : (b : List DetectorHit) (h : DetectorHit) → listed (added s b) ≡ b → Kept (leftOf (recordHit (added s b) h))
+  added-keeps : (b : List DetectorHit) (h : DetectorHit) → listed (added s b) ≡ b → Kept (memoryLeft (recordOf (added s b) h))
   added-keeps b h e = rw (left-is b h) (ap (added s) (book-listed b h e))
 
   -- one hit into any memory
-  pub record-keeps : (m : Memory) (h : DetectorHit) → Kept m → Kept (leftOf (recordHit m h))
+  pub record-keeps : (m : Memory) (h : DetectorHit) → Kept m → Kept (memoryLeft (recordOf m h))
   record-keeps m h e = rw e at (added-keeps (listed m) h (ap listed e))
 
-  pub record-lists : (m : Memory) (h : DetectorHit) → Kept m → listed (leftOf (recordHit m h)) ≡ leftOf (bookHit s (listed m) h)
-  record-lists m h e = ap (λ x. listed (leftOf (recordHit x h))) (sym e) ∙ ap listed (left-is (listed m) h) ∙ book-listed (listed m) h (ap listed e)
+  pub record-lists : (m : Memory) (h : DetectorHit) → Kept m → listed (memoryLeft (recordOf m h)) ≡ memoryLeft (bookHit s (listed m) h)
+  record-lists m h e = ap (λ x. listed (memoryLeft (recordOf x h))) (sym e) ∙ ap listed (left-is (listed m) h) ∙ book-listed (listed m) h (ap listed e)
 
   -- the call that is open to hosts, refused or not
-  pub recording-keeps : (m : Memory) (h : DetectorHit) → Kept m → Kept (leftOf (recordClassifiedOf m h))
-  unfolding recordClassifiedOf
-  recording-keeps m h e = go (findOf (m .detectors) (h .detector)) (isMemoryOf m)
+  pub recording-keeps : (m : Memory) (h : DetectorHit) → Kept m → Kept (memoryLeft (recordHitClassifiedOf m h))
+  unfolding recordHitClassifiedOf
+  recording-keeps m h e = go (findOf (m .detectors) (h .detector)) (isMemory m)
     where
-      go : (c : Checked Placed) (x : Bool) → Kept (leftOf (unless c m (cond x (recordHit m h) (refused 9 0 m))))
+      go : (c : Checked Placed) (x : Bool) → Kept (memoryLeft (unless c m (cond x (recordOf m h) (refused 9 0 m))))
       go (passed p) true = record-keeps m h e
       go (passed p) false = e
       go (refusedAt n place) x = e
 
   -- ---- stored counts are numbers of listed hits
 
-  pub kept-pixel-counts : (m : Memory) (c : ℕ) → Kept m → c < length (s .hits) → getD (m .hits) c 0 ≡ sharing (cellOf (s .detectors .list)) c (listed m)
+  pub kept-pixel-counts : (m : Memory) (c : ℕ) → Kept m → c < length (s .hits) → getD (m .hits) c 0 ≡ sharing (cellIn (s .detectors .list)) c (listed m)
   kept-pixel-counts m c e k =
       ap (λ x. getD (x .hits) c 0) (sym e) ∙ pixel-counts (listed m) s c k ∙ (let z = empty .hits c k in omega arith)
 

@@ -17,8 +17,8 @@ use Rattle.detector.specs.Pixels.{pixelsOf, pixelAtOf}
 use Rattle.detector.proofs.Grid.{Gridded, pixel-in}
 use Rattle.detector.specs.declared.DetectorHit.{DetectorHit}
 use Rattle.detectors.specs.Detectors.{noDetector, detectorAt, firstPixelOf, placedOf}
-use Rattle.memory.specs.Memory.{Memory, raised, writtenAt, cellInOf, cellOf}
-use Rattle.memory.specs.Plain.{added, View, partOf, viewOf, plusHit, plusAll}
+use Rattle.memory.specs.Memory.{Memory, raised, writtenAt, cellOf, cellIn}
+use Rattle.memory.specs.Plain.{added, View, partIn, viewIn, plusHit, plusAll}
 use Rattle.detectors.proofs.Passed.{apart}
 use Rattle.memory.proofs.Keeps.{kept, written-pixels, written-pixel, written-first}
 
@@ -46,16 +46,16 @@ same-view t t′ c c′ f f′ n n′ et ec ef en = cc
 -- ---- a detector's part of a map, seen by two lists of detectors with the same pixels
 
 module _ (A : Type 0) (l l′ : List Detector2D) (d : ℕ) (m : List A) (e : pixelsOf (detectorAt l′ d) ≡ pixelsOf (detectorAt l d)) (f : firstPixelOf l′ d ≡ firstPixelOf l d) where
-  own-part : (p : ℕ) (v : A) → p < pixelsOf (detectorAt l d) → partOf A l′ d (set m (firstPixelOf l d + p) v) ≡ set (partOf A l d m) p v
-  unfolding partOf
+  own-part : (p : ℕ) (v : A) → p < pixelsOf (detectorAt l d) → partIn A l′ d (set m (firstPixelOf l d + p) v) ≡ set (partIn A l d m) p v
+  unfolding partIn
   own-part p v k = rw (e, f) (part-set A m (firstPixelOf l d) (pixelsOf (detectorAt l d)) p v k)
 
-  own-read : (p : ℕ) (z : A) → p < pixelsOf (detectorAt l d) → getD m (firstPixelOf l d + p) z ≡ getD (partOf A l d m) p z
-  unfolding partOf
+  own-read : (p : ℕ) (z : A) → p < pixelsOf (detectorAt l d) → getD m (firstPixelOf l d + p) z ≡ getD (partIn A l d m) p z
+  unfolding partIn
   own-read p z k = sym (part-get A m (firstPixelOf l d) (pixelsOf (detectorAt l d)) p z k)
 
-  other-part : (c : ℕ) (v : A) → (c < firstPixelOf l d) ⊎ (firstPixelOf l d + pixelsOf (detectorAt l d) ≤ c) → partOf A l′ d (set m c v) ≡ partOf A l d m
-  unfolding partOf
+  other-part : (c : ℕ) (v : A) → (c < firstPixelOf l d) ⊎ (firstPixelOf l d + pixelsOf (detectorAt l d) ≤ c) → partIn A l′ d (set m c v) ≡ partIn A l d m
+  unfolding partIn
   other-part c v (inl k) = rw (e, f) (part-before A m (firstPixelOf l d) (pixelsOf (detectorAt l d)) c v k)
   other-part c v (inr k) = rw (e, f) (part-behind A m (firstPixelOf l d) (pixelsOf (detectorAt l d)) c v k)
 
@@ -74,7 +74,7 @@ module _ (s : Memory) (h : DetectorHit) (fits : Fits (s .detectors .list) h) whe
   own = h .detector .0
 
   abbrev cell : ℕ
-  cell = cellOf list h
+  cell = cellIn list h
 
   abbrev next : Memory
   next = writtenAt s cell h
@@ -86,7 +86,7 @@ module _ (s : Memory) (h : DetectorHit) (fits : Fits (s .detectors .list) h) whe
   inside = pixel-in (detectorAt list own) (h .«local_x») (h .«local_y») (fits .grid)
 
   cell-is : cell ≡ firstPixelOf list own + pixel
-  unfolding cellOf cellInOf placedOf
+  unfolding cellIn cellOf placedOf
   cell-is = refl
 
   raised-own : detectorAt (next .detectors .list) own ≡ raised (detectorAt list own) (h .«flux_watts»)
@@ -94,28 +94,28 @@ module _ (s : Memory) (h : DetectorHit) (fits : Fits (s .detectors .list) h) whe
   raised-own = getD-set-same list own _ noDetector (fits .named)
 
   flux-stored : next .flux ≡ set (s .flux) (firstPixelOf list own + pixel) (add binary64 (getD (s .flux) (firstPixelOf list own + pixel) nan) (h .«flux_watts»))
-  unfolding writtenAt cellOf cellInOf placedOf
+  unfolding writtenAt cellIn cellOf placedOf
   flux-stored = refl
 
   hits-stored : next .hits ≡ set (s .hits) (firstPixelOf list own + pixel) (getD (s .hits) (firstPixelOf list own + pixel) 0 + 1)
-  unfolding writtenAt cellOf cellInOf placedOf
+  unfolding writtenAt cellIn cellOf placedOf
   hits-stored = refl
 
-  flux-own : partOf Float (next .detectors .list) own (next .flux) ≡ set (partOf Float list own (s .flux)) pixel (add binary64 (getD (partOf Float list own (s .flux)) pixel nan) (h .«flux_watts»))
+  flux-own : partIn Float (next .detectors .list) own (next .flux) ≡ set (partIn Float list own (s .flux)) pixel (add binary64 (getD (partIn Float list own (s .flux)) pixel nan) (h .«flux_watts»))
   flux-own =
-      ap (partOf Float (next .detectors .list) own) flux-stored
+      ap (partIn Float (next .detectors .list) own) flux-stored
       ∙ own-part Float list (next .detectors .list) own (s .flux) (written-pixels s cell h own) (written-first s cell h own) pixel _ inside
-      ∙ ap (λ x. set (partOf Float list own (s .flux)) pixel (add binary64 x (h .«flux_watts»))) (own-read Float list list own (s .flux) refl refl pixel nan inside)
+      ∙ ap (λ x. set (partIn Float list own (s .flux)) pixel (add binary64 x (h .«flux_watts»))) (own-read Float list list own (s .flux) refl refl pixel nan inside)
 
-  hits-own : partOf ℕ (next .detectors .list) own (next .hits) ≡ set (partOf ℕ list own (s .hits)) pixel (getD (partOf ℕ list own (s .hits)) pixel 0 + 1)
+  hits-own : partIn ℕ (next .detectors .list) own (next .hits) ≡ set (partIn ℕ list own (s .hits)) pixel (getD (partIn ℕ list own (s .hits)) pixel 0 + 1)
   hits-own =
-      ap (partOf ℕ (next .detectors .list) own) hits-stored
+      ap (partIn ℕ (next .detectors .list) own) hits-stored
       ∙ own-part ℕ list (next .detectors .list) own (s .hits) (written-pixels s cell h own) (written-first s cell h own) pixel _ inside
-      ∙ ap (λ x. set (partOf ℕ list own (s .hits)) pixel (x + 1)) (own-read ℕ list list own (s .hits) refl refl pixel 0 inside)
+      ∙ ap (λ x. set (partIn ℕ list own (s .hits)) pixel (x + 1)) (own-read ℕ list list own (s .hits) refl refl pixel 0 inside)
 
   -- its own detector takes it
-  view-own : viewOf next own ≡ plusHit (detectorAt list own) (viewOf s own) h
-  unfolding viewOf plusHit
+  view-own : viewIn next own ≡ plusHit (detectorAt list own) (viewIn s own) h
+  unfolding viewIn plusHit
   view-own =
       same-view _ _ _ _ _ _ _ _ (ap (λ e. e .«total_flux_watts») raised-own) (ap (λ e. e .«total_rays_hit») raised-own) flux-own hits-own
 
@@ -140,14 +140,14 @@ module _ (s : Memory) (h : DetectorHit) (fits : Fits (s .detectors .list) h) whe
   hits-set = refl
 
   -- every other keeps what it has
-  view-other : (d : ℕ) → (own ≡ d → ⊥) → viewOf next d ≡ viewOf s d
-  unfolding viewOf
+  view-other : (d : ℕ) → (own ≡ d → ⊥) → viewIn next d ≡ viewIn s d
+  unfolding viewIn
   view-other d n =
       same-view _ _ _ _ _ _ _ _ (ap (λ e. e .«total_flux_watts») (kept-other d n)) (ap (λ e. e .«total_rays_hit») (kept-other d n))
-      (ap (partOf Float (next .detectors .list) d) flux-set ∙ other-part Float list (next .detectors .list) d (s .flux) (written-pixels s cell h d) (written-first s cell h d) cell _ (outside d n))
-      (ap (partOf ℕ (next .detectors .list) d) hits-set ∙ other-part ℕ list (next .detectors .list) d (s .hits) (written-pixels s cell h d) (written-first s cell h d) cell _ (outside d n))
+      (ap (partIn Float (next .detectors .list) d) flux-set ∙ other-part Float list (next .detectors .list) d (s .flux) (written-pixels s cell h d) (written-first s cell h d) cell _ (outside d n))
+      (ap (partIn ℕ (next .detectors .list) d) hits-set ∙ other-part ℕ list (next .detectors .list) d (s .hits) (written-pixels s cell h d) (written-first s cell h d) cell _ (outside d n))
 
-  view-written : (d : ℕ) → viewOf next d ≡ cond (eqb own d) (plusHit (detectorAt list d) (viewOf s d) h) (viewOf s d)
+  view-written : (d : ℕ) → viewIn next d ≡ cond (eqb own d) (plusHit (detectorAt list d) (viewIn s d) h) (viewIn s d)
   view-written d =
       elim (ℕ-discrete own d) [
         | yes e ↦ rw (sym e, eq-eqb own own refl) view-own
@@ -184,12 +184,12 @@ plus-same d e e′ f [] v = refl
 plus-same d e e′ f (h ∷ b) v = rw (f (h .«local_x») (h .«local_y»)) (plus-same d e e′ f b _)
 
 -- each detector's maps, total and count are what its own hits of b, in list order, make of its own
-pub views : (b : List DetectorHit) (s : Memory) (d : ℕ) → AllFit (s .detectors .list) b → viewOf (added s b) d ≡ plusAll d (detectorAt (s .detectors .list) d) (viewOf s d) b
+pub views : (b : List DetectorHit) (s : Memory) (d : ℕ) → AllFit (s .detectors .list) b → viewIn (added s b) d ≡ plusAll d (detectorAt (s .detectors .list) d) (viewIn s d) b
 unfolding added plusAll AllFit
 views [] s d f = refl
 views (h ∷ b) s d f =
-    let c = cellOf (s .detectors .list) h in
+    let c = cellIn (s .detectors .list) h in
     let w = writtenAt s c h in
     views b w d (all-written b s c h (f .1))
-    ∙ plus-same d (detectorAt (s .detectors .list) d) (detectorAt (w .detectors .list) d) (written-pixel s c h d) b (viewOf w d)
+    ∙ plus-same d (detectorAt (s .detectors .list) d) (detectorAt (w .detectors .list) d) (written-pixel s c h d) b (viewIn w d)
     ∙ ap (λ v. plusAll d (detectorAt (s .detectors .list) d) v b) (view-written s h (f .0) d)

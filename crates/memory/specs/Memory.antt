@@ -26,22 +26,22 @@ pub record Memory : Type 0 where
   pub tags : List ℕ
   pub used : ℕ
 
-abbrev pub memoryOf : Detectors → List Float → List ℕ → List Float → List ℕ → ℕ → Memory
-memoryOf ds f h v t n = record { detectors = ds; flux = f; hits = h; values = v; tags = t; used = n }
+abbrev pub lentMemory : Detectors → List Float → List ℕ → List Float → List ℕ → ℕ → Memory
+lentMemory ds f h v t n = record { detectors = ds; flux = f; hits = h; values = v; tags = t; used = n }
 
 -- what a call leaves: done, or the number and the place of the refusal
 pub data Outcome (M : Type 0) : Type 0 where
   done : M → Outcome M
   refused : ℕ → ℕ → M → Outcome M
 
-abbrev pub leftOf : {M : Type 0} → Outcome M → M
-leftOf (done m) = m
-leftOf (refused n place m) = m
+abbrev pub memoryLeft : {M : Type 0} → Outcome M → M
+memoryLeft (done m) = m
+memoryLeft (refused n place m) = m
 
 -- ---- the hit list: x, y, flux, wavelength, and detector, bounce, reflections, total reflections
 
-abbrev pub readHit : List Float → List ℕ → ℕ → DetectorHit
-readHit v t i =
+abbrev pub readHitOf : List Float → List ℕ → ℕ → DetectorHit
+readHitOf v t i =
     record {
       «local_x» = getD v (4 * i) nan;
       «local_y» = getD v (4 * i + 1) nan;
@@ -54,8 +54,8 @@ readHit v t i =
     }
 
 -- what stands for a hit that the slices do not hold
-abbrev pub noHit : DetectorHit
-noHit =
+abbrev pub noHitOf : DetectorHit
+noHitOf =
     record {
       «local_x» = nan;
       «local_y» = nan;
@@ -68,19 +68,19 @@ noHit =
     }
 
 -- hit i of the list
-unfoldable pub hitAt : List Float → List ℕ → ℕ → DetectorHit
-hitAt v t i = cond (ltb i (length v / 4) && ltb i (length t / 4)) (readHit v t i) noHit
+unfoldable pub hitAtOf : List Float → List ℕ → ℕ → DetectorHit
+hitAtOf v t i = cond (ltb i (length v / 4) && ltb i (length t / 4)) (readHitOf v t i) noHitOf
 
 -- the n hits from place i on
 unfoldable pub hitsFrom : List Float → List ℕ → ℕ → ℕ → List DetectorHit
 hitsFrom v t zero i = []
-hitsFrom v t (suc n) i = hitAt v t i ∷ hitsFrom v t n (i + 1)
+hitsFrom v t (suc n) i = hitAtOf v t i ∷ hitsFrom v t n (i + 1)
 
 abbrev pub listed : Memory → List DetectorHit
 listed s = hitsFrom (s .values) (s .tags) (s .used) 0
 
-unfoldable pub capacityOf : Memory → ℕ
-capacityOf s = length (s .values) / 4
+unfoldable pub capacity : Memory → ℕ
+capacity s = length (s .values) / 4
 
 -- four values stored from a place on
 unfoldable pub four : (A : Type 0) → List A → ℕ → A → A → A → A → List A
@@ -88,15 +88,15 @@ four A l i a b c d = set (set (set (set l i a) (i + 1) b) (i + 2) c) (i + 3) d
 
 -- ---- recording
 
-abbrev pub detectorOf : Memory → DetectorHit → Detector2D
-detectorOf s h = detectorAt (s .detectors .list) (h .detector .0)
+abbrev pub hitDetector : Memory → DetectorHit → Detector2D
+hitDetector s h = detectorAt (s .detectors .list) (h .detector .0)
 
 -- the place of a hit's pixel among the pixels of all detectors; p is the hit's detector
-unfoldable pub cellInOf : Placed → DetectorHit → ℕ
-cellInOf p h = p .first + pixelAtOf (p .detector) (h .«local_x») (h .«local_y»)
+unfoldable pub cellOf : Placed → DetectorHit → ℕ
+cellOf p h = p .first + pixelAtOf (p .detector) (h .«local_x») (h .«local_y»)
 
-unfoldable pub cellOf : List Detector2D → DetectorHit → ℕ
-cellOf l h = cellInOf (placedOf l (h .detector .0)) h
+unfoldable pub cellIn : List Detector2D → DetectorHit → ℕ
+cellIn l h = cellOf (placedOf l (h .detector .0)) h
 
 -- a detector that has caught a flux more
 abbrev pub raised : Detector2D → Float → Detector2D
@@ -118,7 +118,7 @@ unfoldable pub writtenAt : Memory → ℕ → DetectorHit → Memory
 writtenAt s p h =
     let i = 4 * s .used in
     record {
-      detectors = record { list = set (s .detectors .list) (h .detector .0) (raised (detectorOf s h) (h .«flux_watts»)); count = s .detectors .count };
+      detectors = record { list = set (s .detectors .list) (h .detector .0) (raised (hitDetector s h) (h .«flux_watts»)); count = s .detectors .count };
       flux = set (s .flux) p (add binary64 (getD (s .flux) p nan) (h .«flux_watts»));
       hits = set (s .hits) p (getD (s .hits) p 0 + 1);
       values = four Float (s .values) i (h .«local_x») (h .«local_y») (h .«flux_watts») (h .«wavelength_nm»);
@@ -133,23 +133,23 @@ maxCount = 4294967295
 unfoldable pub judged : {M : Type 0} → Bool → Bool → M → M → Outcome M
 judged full most m next = cond full (refused 12 0 m) (cond most (refused 13 0 m) (done next))
 
-unfoldable pub recordAt : Memory → ℕ → DetectorHit → Outcome Memory
-recordAt s p h =
-    judged (leb (capacityOf s) (s .used)) (eqb (getD (s .hits) p 0) maxCount || eqb (detectorOf s h .«total_rays_hit») maxCount) s (writtenAt s p h)
+unfoldable pub putOf : Memory → ℕ → DetectorHit → Outcome Memory
+putOf s p h =
+    judged (leb (capacity s) (s .used)) (eqb (getD (s .hits) p 0) maxCount || eqb (hitDetector s h .«total_rays_hit») maxCount) s (writtenAt s p h)
 
 -- whether a place lies in both maps, and the hit slices are alike
 unfoldable pub inMapsOf : ℕ → ℕ → ℕ → ℕ → ℕ → Bool
 inMapsOf p nf nh nv nt = ltb p nf && (ltb p nh && eqb nv nt)
 
 -- whether the memory has the hit's detector and pixel, as one that passed the checks has
-unfoldable pub holdsOf : Memory → DetectorHit → Bool
-holdsOf s h =
+unfoldable pub hasPixel : Memory → DetectorHit → Bool
+hasPixel s h =
     ltb (h .detector .0) maxDetectors
-    && inMapsOf (cellOf (s .detectors .list) h) (length (s .flux)) (length (s .hits)) (length (s .values)) (length (s .tags))
+    && inMapsOf (cellIn (s .detectors .list) h) (length (s .flux)) (length (s .hits)) (length (s .values)) (length (s .tags))
 
 -- one hit into any memory: wholly or not at all
-unfoldable pub recordHit : Memory → DetectorHit → Outcome Memory
-recordHit s h = cond (holdsOf s h) (recordAt s (cellOf (s .detectors .list) h) h) (refused 9 0 s)
+unfoldable pub recordOf : Memory → DetectorHit → Outcome Memory
+recordOf s h = cond (hasPixel s h) (putOf s (cellIn (s .detectors .list) h) h) (refused 9 0 s)
 
 -- ---- the checks of a recording
 
@@ -161,8 +161,8 @@ isHitListOf nv nt used = eqb nv nt && (eqb (nv % 4) 0 && leb used (nv / 4))
 unfoldable pub areLengthsOf : Detectors → ℕ → ℕ → ℕ → ℕ → ℕ → Bool
 areLengthsOf ds nf nh nv nt used = eqb nf (allPixelsOf ds) && (eqb nh (allPixelsOf ds) && isHitListOf nv nt used)
 
-unfoldable pub isMemoryOf : Memory → Bool
-isMemoryOf s = areLengthsOf (s .detectors) (length (s .flux)) (length (s .hits)) (length (s .values)) (length (s .tags)) (s .used)
+unfoldable pub isMemory : Memory → Bool
+isMemory s = areLengthsOf (s .detectors) (length (s .flux)) (length (s .hits)) (length (s .values)) (length (s .tags)) (s .used)
 
 -- an outcome, unless a check before it refuses and leaves all as it is
 abbrev pub unless : {A M : Type 0} → Checked A → M → Outcome M → Outcome M
@@ -170,18 +170,18 @@ unless (passed a) m o = o
 unless (refusedAt n place) m o = refused n place m
 
 -- the call that is open to hosts: 3, 5 to 8, 4, 9, then 12 before 13
-unfoldable pub recordClassifiedOf : Memory → DetectorHit → Outcome Memory
-recordClassifiedOf s h =
-    unless (findOf (s .detectors) (h .detector)) s (cond (isMemoryOf s) (recordHit s h) (refused 9 0 s))
+unfoldable pub recordHitClassifiedOf : Memory → DetectorHit → Outcome Memory
+recordHitClassifiedOf s h =
+    unless (findOf (s .detectors) (h .detector)) s (cond (isMemory s) (recordOf s h) (refused 9 0 s))
 
 -- ---- what the code's answers say
 
-abbrev pub outcomeOf : {M : Type 0} → Check → M → Outcome M
-outcomeOf Passed m = done m
-outcomeOf (Refused e place) m = refused (numberOf e) place m
+abbrev pub asOutcome : {M : Type 0} → Check → M → Outcome M
+asOutcome Passed m = done m
+asOutcome (Refused e place) m = refused (numberOf e) place m
 
-abbrev pub recordedOf : Recorded → List Float → List ℕ → List Float → List ℕ → Outcome Memory
-recordedOf r f h v t = outcomeOf (r .check) (memoryOf (r .detectors) f h v t (r .used))
+abbrev pub asRecorded : Recorded → List Float → List ℕ → List Float → List ℕ → Outcome Memory
+asRecorded r f h v t = asOutcome (r .check) (lentMemory (r .detectors) f h v t (r .used))
 
 abbrev pub refusedOf : NonSeqError → Detectors → ℕ → Recorded
 refusedOf e ds used = record { check = Refused e 0; detectors = ds; used = used }

@@ -10,7 +10,7 @@ use Rattle.detector.specs.declared.Detector2D.{Detector2D}
 use Rattle.detector.specs.Pixels.{pixelsOf, pixelAtOf}
 use Rattle.detector.specs.declared.DetectorHit.{DetectorHit}
 use Rattle.detectors.specs.Detectors.{detectorAt, firstPixelOf}
-use Rattle.memory.specs.Memory.{Memory, Outcome, refused, judged, cellOf, capacityOf, holdsOf, maxCount, writtenAt}
+use Rattle.memory.specs.Memory.{Memory, Outcome, refused, judged, cellIn, capacity, hasPixel, maxCount, writtenAt}
 
 -- how many of the listed hits have the key x
 unfoldable pub sharing : (DetectorHit → ℕ) → ℕ → List DetectorHit → ℕ
@@ -23,15 +23,15 @@ numberIn h = h .detector .0
 -- One hit into the book: 12 if the lent slices hold no more, 13 if 2^32 - 1 listed hits share its pixel or detector, else appended.
 unfoldable pub bookHit : Memory → List DetectorHit → DetectorHit → Outcome (List DetectorHit)
 bookHit s b h =
-    let cell = cellOf (s .detectors .list) in
-    cond (holdsOf s h)
-    (judged (leb (capacityOf s) (length b)) (eqb (sharing cell (cell h) b) maxCount || eqb (sharing numberIn (h .detector .0) b) maxCount) b (b ++ h ∷ []))
+    let cell = cellIn (s .detectors .list) in
+    cond (hasPixel s h)
+    (judged (leb (capacity s) (length b)) (eqb (sharing cell (cell h) b) maxCount || eqb (sharing numberIn (h .detector .0) b) maxCount) b (b ++ h ∷ []))
     (refused 9 0 b)
 
 -- the memory with the listed hits added in list order
 unfoldable pub added : Memory → List DetectorHit → Memory
 added s [] = s
-added s (h ∷ b) = added (writtenAt s (cellOf (s .detectors .list) h) h) b
+added s (h ∷ b) = added (writtenAt s (cellIn (s .detectors .list) h) h) b
 
 abbrev pub #0 : Float
 #0 = ofBits binary64 0
@@ -53,17 +53,17 @@ pub record View : Type 0 where
   pub hits : List ℕ
 
 -- the part of a map that holds a detector's pixels
-unfoldable pub partOf : (A : Type 0) → List Detector2D → ℕ → List A → List A
-partOf A l d map = take (pixelsOf (detectorAt l d)) (drop (firstPixelOf l d) map)
+unfoldable pub partIn : (A : Type 0) → List Detector2D → ℕ → List A → List A
+partIn A l d map = take (pixelsOf (detectorAt l d)) (drop (firstPixelOf l d) map)
 
-unfoldable pub viewOf : Memory → ℕ → View
-viewOf s d =
+unfoldable pub viewIn : Memory → ℕ → View
+viewIn s d =
     let e = detectorAt (s .detectors .list) d in
     record {
       total = e .«total_flux_watts»;
       count = e .«total_rays_hit»;
-      flux = partOf Float (s .detectors .list) d (s .flux);
-      hits = partOf ℕ (s .detectors .list) d (s .hits);
+      flux = partIn Float (s .detectors .list) d (s .flux);
+      hits = partIn ℕ (s .detectors .list) d (s .hits);
     }
 
 -- adding a hit raises its pixel's flux and the total by its flux, and both counts by 1

@@ -5,12 +5,12 @@ ghost use mathlib.Core.Path.{_≡_};
 ghost use Prim.Native.Nat.{ℕ, _+_, _*_, _≤_};
 ghost use lib.Ieee.{Float};
 ghost use lib.ListN.{length};
-ghost use Rattle.memory.specs.Memory.{readHit, noHit, hitAt, four};
+ghost use Rattle.memory.specs.Memory.{readHitOf, noHitOf, hitAtOf, four};
 
 // Hit i of slices that hold it.
 fn read_hit(values: &[f64], tags: &[u32], i: usize) -> DetectorHit
     requires { ⌜ (4 * i + 4 ≤ length (now values)) × (4 * i + 4 ≤ length (now tags)) ⌝ }
-    ensures { λ r. ⌜ r ≡ readHit (now (values .entry)) (now (tags .entry)) i ⌝ }
+    ensures { λ r. ⌜ r ≡ readHitOf (now (values .entry)) (now (tags .entry)) i ⌝ }
 {
     let at = 4 * i;
     DetectorHit {
@@ -27,7 +27,7 @@ fn read_hit(values: &[f64], tags: &[u32], i: usize) -> DetectorHit
 
 // What stands for a hit that the slices do not hold: NaN and 0.
 fn no_hit() -> DetectorHit
-    ensures { λ r. ⌜ r ≡ noHit ⌝ }
+    ensures { λ r. ⌜ r ≡ noHitOf ⌝ }
 {
     let nan = 0.0 / 0.0;
     DetectorHit {
@@ -44,7 +44,7 @@ fn no_hit() -> DetectorHit
 
 // Hit i of the list.
 pub fn hit_at(values: &[f64], tags: &[u32], i: usize) -> DetectorHit
-    ensures { λ r. ⌜ r ≡ hitAt (now (values .entry)) (now (tags .entry)) i ⌝ }
+    ensures { λ r. ⌜ r ≡ hitAtOf (now (values .entry)) (now (tags .entry)) i ⌝ }
 {
     let none = no_hit();
     if i < values.len() / 4 {

@@ -13,7 +13,7 @@ ghost use mathlib.Core.Path.{_≡_};
 ghost use Prim.Native.Nat.{_*_, _^_, _≤_, _<_};
 ghost use lib.ListN.{length, set};
 ghost use Rattle.detectors.specs.Detectors.{detectorAt};
-ghost use Rattle.memory.specs.Memory.{memoryOf, recordedOf, refusedOf, cellInOf, inMapsOf, raised, maxCount, recordAt, recordHit, isHitListOf, areLengthsOf, recordClassifiedOf};
+ghost use Rattle.memory.specs.Memory.{lentMemory, asRecorded, refusedOf, cellOf, inMapsOf, raised, maxCount, putOf, recordOf, isHitListOf, areLengthsOf, recordHitClassifiedOf};
 
 // The refusal or none, and what goes on: the detectors' records and the number of hits used.
 pub struct Recorded {
@@ -36,7 +36,7 @@ fn refused(error: NonSeqError, detectors: Detectors, used: usize) -> Recorded
 // The place of a hit's pixel among the pixels of all detectors; p is the hit's detector.
 fn cell(p: Placed, h: DetectorHit) -> usize
     requires { ⌜ p .first ≤ 8 * 2 ^ 24 ⌝ }
-    ensures { λ r. ⌜ r ≡ cellInOf p h ⌝ }
+    ensures { λ r. ⌜ r ≡ cellOf p h ⌝ }
 {
     let d = p.detector;
     p.first + d.pixel_at(h.local_x, h.local_y)
@@ -79,8 +79,8 @@ fn put(
     p: usize,
 ) -> Recorded
     requires { ⌜ (h .detector .0 < 8) × (p < length (now flux)) × (p < length (now hits)) × (length (now values) ≡ length (now tags)) ⌝ }
-    ensures { λ r. ⌜ recordedOf r (now (flux .exit)) (now (hits .exit)) (now (values .exit)) (now (tags .exit))
-        ≡ recordAt (memoryOf detectors (now (flux .entry)) (now (hits .entry)) (now (values .entry)) (now (tags .entry)) used) p h ⌝ }
+    ensures { λ r. ⌜ asRecorded r (now (flux .exit)) (now (hits .exit)) (now (values .exit)) (now (tags .exit))
+        ≡ putOf (lentMemory detectors (now (flux .entry)) (now (hits .entry)) (now (values .entry)) (now (tags .entry)) used) p h ⌝ }
 {
     let list = detectors.list;
     let d = h.detector.0 as usize;
@@ -119,8 +119,8 @@ pub fn record(
     used: usize,
     h: DetectorHit,
 ) -> Recorded
-    ensures { λ r. ⌜ recordedOf r (now (flux .exit)) (now (hits .exit)) (now (values .exit)) (now (tags .exit))
-        ≡ recordHit (memoryOf detectors (now (flux .entry)) (now (hits .entry)) (now (values .entry)) (now (tags .entry)) used) h ⌝ }
+    ensures { λ r. ⌜ asRecorded r (now (flux .exit)) (now (hits .exit)) (now (values .exit)) (now (tags .exit))
+        ≡ recordOf (lentMemory detectors (now (flux .entry)) (now (hits .entry)) (now (values .entry)) (now (tags .entry)) used) h ⌝ }
 {
     match detectors.at(h.detector) {
         Spot::There(d) => {
@@ -177,8 +177,8 @@ pub fn record_hit_classified(
     used: usize,
     h: DetectorHit,
 ) -> Recorded
-    ensures { λ r. ⌜ recordedOf r (now (flux .exit)) (now (hits .exit)) (now (values .exit)) (now (tags .exit))
-        ≡ recordClassifiedOf (memoryOf detectors (now (flux .entry)) (now (hits .entry)) (now (values .entry)) (now (tags .entry)) used) h ⌝ }
+    ensures { λ r. ⌜ asRecorded r (now (flux .exit)) (now (hits .exit)) (now (values .exit)) (now (tags .exit))
+        ≡ recordHitClassifiedOf (lentMemory detectors (now (flux .entry)) (now (hits .entry)) (now (values .entry)) (now (tags .entry)) used) h ⌝ }
 {
     match detectors.find(h.detector) {
         Found::Refused { error, place } => Recorded {

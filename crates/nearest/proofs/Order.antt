@@ -10,9 +10,9 @@ use lib.Ieee.{Float, nan, inf, fin, up, down, lt, le, ofBits}
 use lib.Ieee.Bits.{is-true}
 use lib.Ieee.Positive.{num, den, positive, den-pos, le→cross, cross→le}
 use Rattle.doubles.proofs.Floats.{clash}
-use Rattle.doubles.specs.Doubles.{finiteOf}
+use Rattle.doubles.specs.Doubles.{isFiniteOf}
 use Rattle.rays.specs.Rays.{minWorldDistance}
-use Rattle.nearest.specs.Nearest.{countsOf, isNearerOf}
+use Rattle.nearest.specs.Nearest.{isCounted, isNearerOf}
 
 holds : {b : Bool} → b ≡ true → T b
 holds e = subst T (sym e) tt
@@ -41,8 +41,8 @@ pub none-below : (a : ℕ) → a < 0 → ⊥
 none-below a h = omega arith
 
 -- above a value that is finite and above zero, and finite: above zero
-above : (m : ℕ) (e : ℤ) (t : Float) → lt (fin false m e) t ≡ true → finiteOf t ≡ true → T (positive t)
-unfolding lt finiteOf
+above : (m : ℕ) (e : ℤ) (t : Float) → lt (fin false m e) t ≡ true → isFiniteOf t ≡ true → T (positive t)
+unfolding lt isFiniteOf
 above m e nan p q = absurd (clash (sym p))
 above m e (inf s) p q = absurd (clash (sym q))
 above m e (fin true n d) p q = absurd (clash (sym p))
@@ -53,8 +53,8 @@ above m e (fin false n d) p q = more n (ltb→lt (m * up e * down d) (n * up d *
     more (suc n) h = lt→ltb 0 (suc n) (zero-lt-suc n)
 
 -- above such a value and below any: finite
-between : (m : ℕ) (e : ℤ) (t u : Float) → lt t u ≡ true → lt (fin false m e) t ≡ true → finiteOf t ≡ true
-unfolding lt finiteOf
+between : (m : ℕ) (e : ℤ) (t u : Float) → lt t u ≡ true → lt (fin false m e) t ≡ true → isFiniteOf t ≡ true
+unfolding lt isFiniteOf
 between m e nan u p q = p
 between m e (inf true) u p q = q
 between m e (inf false) nan p q = p
@@ -62,36 +62,36 @@ between m e (inf false) (inf s) p q = p
 between m e (inf false) (fin s n d) p q = p
 between m e (fin s n d) u p q = refl
 
-pub counts-positive : (t : Float) → countsOf t ≡ true → T (positive t)
-unfolding countsOf
+pub counts-positive : (t : Float) → isCounted t ≡ true → T (positive t)
+unfolding isCounted
 counts-positive t c =
     above _ _ t
-    (subst (λ (l : Float). lt l t ≡ true) limit-is (and-left (lt minWorldDistance t) (finiteOf t) c))
-    (and-right (lt minWorldDistance t) (finiteOf t) c)
+    (subst (λ (l : Float). lt l t ≡ true) limit-is (and-left (lt minWorldDistance t) (isFiniteOf t) c))
+    (and-right (lt minWorldDistance t) (isFiniteOf t) c)
 
-pub nearer-counts : (t u : Float) → isNearerOf t u ≡ true → countsOf t ≡ true
-unfolding countsOf isNearerOf
+pub nearer-counts : (t u : Float) → isNearerOf t u ≡ true → isCounted t ≡ true
+unfolding isCounted isNearerOf
 nearer-counts t u c =
     let p : lt t u ≡ true = and-left (lt t u) (lt minWorldDistance t) c in
     let q : lt minWorldDistance t ≡ true = and-right (lt t u) (lt minWorldDistance t) c in
-    and-both (lt minWorldDistance t) (finiteOf t) q (between _ _ t u p (subst (λ (l : Float). lt l t ≡ true) limit-is q))
+    and-both (lt minWorldDistance t) (isFiniteOf t) q (between _ _ t u p (subst (λ (l : Float). lt l t ≡ true) limit-is q))
 
 pub nearer-below : (t u : Float) → isNearerOf t u ≡ true → lt t u ≡ true
 unfolding isNearerOf
 nearer-below t u c = and-left (lt t u) (lt minWorldDistance t) c
 
 -- a distance that counts and is not nearer is not below
-pub counts-not-below : (t u : Float) → countsOf t ≡ true → isNearerOf t u ≡ false → lt t u ≡ false
-unfolding countsOf isNearerOf
-counts-not-below t u c e = off (lt t u) (lt minWorldDistance t) (and-left (lt minWorldDistance t) (finiteOf t) c) e
+pub counts-not-below : (t u : Float) → isCounted t ≡ true → isNearerOf t u ≡ false → lt t u ≡ false
+unfolding isCounted isNearerOf
+counts-not-below t u c e = off (lt t u) (lt minWorldDistance t) (and-left (lt minWorldDistance t) (isFiniteOf t) c) e
   where
     off : (a b : Bool) → b ≡ true → (a && b) ≡ false → a ≡ false
     off true b p q = absurd (clash (sym p ∙ q))
     off false b p q = refl
 
 -- below infinity
-pub counts-below-infinity : (t : Float) → countsOf t ≡ true → lt t (inf false) ≡ true
-unfolding countsOf lt finiteOf
+pub counts-below-infinity : (t : Float) → isCounted t ≡ true → lt t (inf false) ≡ true
+unfolding isCounted lt isFiniteOf
 counts-below-infinity nan c = absurd (clash (sym (and-right (lt minWorldDistance nan) false c)))
 counts-below-infinity (inf s) c = absurd (clash (sym (and-right (lt minWorldDistance (inf s)) false c)))
 counts-below-infinity (fin s m e) c = refl
@@ -137,22 +137,22 @@ through x y z p q r P Q R h k =
 
 -- ---- of distances that count
 
-pub self-le : (x : Float) → countsOf x ≡ true → le x x ≡ true
+pub self-le : (x : Float) → isCounted x ≡ true → le x x ≡ true
 self-le x c = is-true (le x x) (cross→le x x (counts-positive x c) (counts-positive x c) (le-refl (num x * den x)))
 
-pub below-le : (x y : Float) → countsOf x ≡ true → countsOf y ≡ true → lt x y ≡ true → le x y ≡ true
+pub below-le : (x y : Float) → isCounted x ≡ true → isCounted y ≡ true → lt x y ≡ true → le x y ≡ true
 below-le x y c k h =
     let p = counts-positive x c in
     let q = counts-positive y k in
     is-true (le x y) (cross→le x y p q (le-of-lt (lt→cross x y p q h)))
 
-pub not-below-le : (x y : Float) → countsOf x ≡ true → countsOf y ≡ true → lt x y ≡ false → le y x ≡ true
+pub not-below-le : (x y : Float) → isCounted x ≡ true → isCounted y ≡ true → lt x y ≡ false → le y x ≡ true
 not-below-le x y c k h =
     let p = counts-positive x c in
     let q = counts-positive y k in
     is-true (le y x) (cross→le y x q p (not-lt→cross x y p q h))
 
-pub below-le-below : (x y z : Float) → countsOf x ≡ true → countsOf y ≡ true → countsOf z ≡ true → lt x y ≡ true → le y z ≡ true → lt x z ≡ true
+pub below-le-below : (x y z : Float) → isCounted x ≡ true → isCounted y ≡ true → isCounted z ≡ true → lt x y ≡ true → le y z ≡ true → lt x z ≡ true
 below-le-below x y z a b c h k =
     let p = counts-positive x a in
     let q = counts-positive y b in
@@ -160,7 +160,7 @@ below-le-below x y z a b c h k =
     cross→lt x z p r
     (through (num x) (num y) (num z) (den x) (den y) (den z) (den-pos x) (den-pos y) (den-pos z) (lt→cross x y p q h) (le→cross y z q r (holds k)))
 
-pub below-not-le : (x y : Float) → countsOf x ≡ true → countsOf y ≡ true → lt x y ≡ true → le y x ≡ true → ⊥
+pub below-not-le : (x y : Float) → isCounted x ≡ true → isCounted y ≡ true → lt x y ≡ true → le y x ≡ true → ⊥
 below-not-le x y c k h l =
     let p = counts-positive x c in
     let q = counts-positive y k in

@@ -6,7 +6,7 @@ use mathlib.Core.Option.{Option, none, some}
 use native.Mathlib.Nat.{sub-zero}
 use native.Mathlib.Omega.{arith}
 use lib.Ieee.{Float}
-use Rattle.nearest.specs.Nearest.{isNearerOf, distanceOf, nearerOf, nearestFrom, nearestOf}
+use Rattle.nearest.specs.Nearest.{isNearerOf, distanceOf, nearerOf, nearestFrom, nearestAmong}
 
 pub nearer-nothing : (A : Type 0) (d : A → Float) (b : Option A) → nearerOf A d b none ≡ b
 unfolding nearerOf
@@ -20,8 +20,8 @@ pub nearer-kept : (A : Type 0) (d : A → Float) (b : Option A) (h : A) → isNe
 unfolding nearerOf
 nearer-kept A d b h e = rw e
 
-pub nearest-start : (A : Type 0) (d : A → Float) (f : ℕ → Option A) (n : ℕ) → nearestFrom A d f (n - 0) 0 none ≡ nearestOf A d f n
-unfolding nearestOf
+pub nearest-start : (A : Type 0) (d : A → Float) (f : ℕ → Option A) (n : ℕ) → nearestFrom A d f (n - 0) 0 none ≡ nearestAmong A d f n
+unfolding nearestAmong
 nearest-start A d f n = rw sub-zero
 
 pub nearest-turn : (A : Type 0) (d : A → Float) (f : ℕ → Option A) (n i : ℕ) (b c z : Option A) → i < n → c ≡ nearerOf A d b (f i) → nearestFrom A d f (n - i) i b ≡ z → nearestFrom A d f (n - (i + 1)) (i + 1) c ≡ z

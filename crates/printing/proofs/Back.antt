@@ -13,7 +13,7 @@ use borrow.Author.Tests.{lt-ltb, le-ltb, ne-eqb, ltb-true, ltb-false, eqb-true, 
 use lib.Ieee.{Float, binary64, ofBits, toBits, fits}
 use lib.Ieee.Bits.{ofBits-toBits, toBits-lt}
 use Rattle.io.specs.Digits.{digits, Fewest, glyph}
-use Rattle.fields.specs.Number.{number, digitOf, isHex, hexPad, bitsOf, isDecimal, decimalFrom, ledBy, wholeOf}
+use Rattle.fields.specs.Number.{number, digitOf, isHexOf, hexPadOf, readBitsOf, isDecimal, decimalFrom, isLedByZeroOf, readWholeOf}
 use Rattle.printing.specs.Printing.{glyphOf, hexText, doubleText, decimalText}
 
 pub digit-glyph : (d : ℕ) → d < 16 → digitOf (glyphOf d) ≡ d
@@ -36,8 +36,8 @@ digit-glyph d h = go (ltb d 10) refl
         let e : 87 + d - 87 ≡ d = omega arith in
         simp (q, le-ltb _ _ b, le-ltb _ _ c, le-ltb _ _ c2, lt-ltb _ _ c3, e)
 
-pad-nil : (v k : ℕ) → hexPad v k [] ≡ v * 16 ^ k
-unfolding hexPad
+pad-nil : (v k : ℕ) → hexPadOf v k [] ≡ v * 16 ^ k
+unfolding hexPadOf
 pad-nil v zero = omega arith
 pad-nil v (suc k) = pad-nil (v * 16) k ∙ mul-assoc v 16 (16 ^ k) ∙ ap (λ (n : ℕ). v * n) (mul-comm 16 (16 ^ k) ∙ sym (pow-suc 16 k))
 
@@ -71,8 +71,8 @@ gathered v s Q =
     let d = div-add-mod' s Q in
     omega arith
 
-pub hex-back : (k m v s : ℕ) → k + m ≡ 16 → s < 16 ^ k → hexPad v k (hexText k (s * 16 ^ m)) ≡ v * 16 ^ k + s
-unfolding hexPad hexText
+pub hex-back : (k m v s : ℕ) → k + m ≡ 16 → s < 16 ^ k → hexPadOf v k (hexText k (s * 16 ^ m)) ≡ v * 16 ^ k + s
+unfolding hexPadOf hexText
 hex-back zero m v s e h = omega arith
 hex-back (suc k) m v s e h =
     let Q = 16 ^ k in
@@ -86,10 +86,10 @@ hex-back (suc k) m v s e h =
     let lead : digitOf (glyphOf (s / Q)) ≡ s / Q = digit-glyph (s / Q) (div-lt-iff-lt-mul q .1 h2) in
     rw (lead-is s Q P q p w, left-is s Q P q p w, lead, pow-suc 16 k) (go k m v s Q P p refl ih ∙ gathered v s Q)
   where
-    go : (k m v s Q P : ℕ) → 0 < P → P ≡ 16 ^ m → hexPad (v * 16 + s / Q) k (hexText k (s % Q * 16 ^ suc m)) ≡ (v * 16 + s / Q) * 16 ^ k + s % Q → hexPad (v * 16 + s / Q) k (cond (eqb (s % Q * P) 0) [] (hexText k (s % Q * P * 16))) ≡ (v * 16 + s / Q) * 16 ^ k + s % Q
+    go : (k m v s Q P : ℕ) → 0 < P → P ≡ 16 ^ m → hexPadOf (v * 16 + s / Q) k (hexText k (s % Q * 16 ^ suc m)) ≡ (v * 16 + s / Q) * 16 ^ k + s % Q → hexPadOf (v * 16 + s / Q) k (cond (eqb (s % Q * P) 0) [] (hexText k (s % Q * P * 16))) ≡ (v * 16 + s / Q) * 16 ^ k + s % Q
     go k m v s Q P p w ih = on (eqb (s % Q * P) 0) refl
       where
-        on : (t : Bool) → eqb (s % Q * P) 0 ≡ t → hexPad (v * 16 + s / Q) k (cond t [] (hexText k (s % Q * P * 16))) ≡ (v * 16 + s / Q) * 16 ^ k + s % Q
+        on : (t : Bool) → eqb (s % Q * P) 0 ≡ t → hexPadOf (v * 16 + s / Q) k (cond t [] (hexText k (s % Q * P * 16))) ≡ (v * 16 + s / Q) * 16 ^ k + s % Q
         on true z =
             let y : s % Q ≡ 0 = zero-of (s % Q) P p (eqb-true _ _ z) in
             pad-nil (v * 16 + s / Q) k ∙ omega arith
@@ -97,15 +97,15 @@ hex-back (suc k) m v s e h =
             let y : s % Q * P * 16 ≡ s % Q * 16 ^ suc m = mul-assoc (s % Q) P 16 ∙ ap (λ (n : ℕ). s % Q * n) (ap (λ (n : ℕ). n * 16) w ∙ sym (pow-suc 16 m)) in
             rw y ih
 
-hex-all : (k r : ℕ) → r < 2 ^ 64 → isHex (hexText k r) ≡ true
-unfolding isHex hexText
+hex-all : (k r : ℕ) → r < 2 ^ 64 → isHexOf (hexText k r) ≡ true
+unfolding isHexOf hexText
 hex-all zero r h = refl
 hex-all (suc k) r h =
     let d : r / 2 ^ 60 < 16 = omega arith in
     let l : digitOf (glyphOf (r / 2 ^ 60)) < 16 = rw (digit-glyph (r / 2 ^ 60) d) d in
     simp (lt-ltb _ _ l) (on (eqb (r % 2 ^ 60) 0) (hex-all k (r % 2 ^ 60 * 16) (omega arith)))
   where
-    on : (t : Bool) → isHex (hexText k (r % 2 ^ 60 * 16)) ≡ true → isHex (cond t [] (hexText k (r % 2 ^ 60 * 16))) ≡ true
+    on : (t : Bool) → isHexOf (hexText k (r % 2 ^ 60 * 16)) ≡ true → isHexOf (cond t [] (hexText k (r % 2 ^ 60 * 16))) ≡ true
     on true ih = refl
     on false ih = ih
 
@@ -123,15 +123,15 @@ unfolding hexText
 some-digit k r e = omega arith
 
 -- bits that are printed and read are the bits themselves
-pub bits-back : (b : ℕ) → b < 2 ^ 64 → bitsOf (hexText 16 b) ≡ number b
-unfolding bitsOf
+pub bits-back : (b : ℕ) → b < 2 ^ 64 → readBitsOf (hexText 16 b) ≡ number b
+unfolding readBitsOf
 bits-back b h =
     let one : b * 16 ^ 0 ≡ b = mul-one b in
-    let v : hexPad 0 16 (hexText 16 b) ≡ b = subst (λ (n : ℕ). hexPad 0 16 (hexText 16 n) ≡ b) one (hex-back 16 0 0 b refl h ∙ omega arith) in
+    let v : hexPadOf 0 16 (hexText 16 b) ≡ b = subst (λ (n : ℕ). hexPadOf 0 16 (hexText 16 n) ≡ b) one (hex-back 16 0 0 b refl h ∙ omega arith) in
     simp (ne-eqb _ _ (some-digit 15 b), le-ltb _ _ (hex-short 16 b), hex-all 16 b h, v)
 
 -- A double that is printed and read is the double itself. Every NaN is the one `nan`.
-pub double-back : (x : Float) → T (fits binary64 x) → (bitsOf (doubleText x) ≡ number (toBits binary64 x)) × (ofBits binary64 (toBits binary64 x) ≡ x)
+pub double-back : (x : Float) → T (fits binary64 x) → (readBitsOf (doubleText x) ≡ number (toBits binary64 x)) × (ofBits binary64 (toBits binary64 x) ≡ x)
 unfolding doubleText
 double-back x f = (bits-back (toBits binary64 x) (toBits-lt binary64 x f), ofBits-toBits binary64 x f)
 
@@ -204,8 +204,8 @@ decimal-back (suc k) n h =
     go true q r = let a : n < 10 = ltb-true _ _ q in rw (decimal-small (suc k) n a) (one n a)
     go false q r = let a : 10 ≤ n = ltb-false _ _ q in rw (decimal-more (suc k) n a) (more _ n a r)
 
-not-led : (t : List ℕ) (n : ℕ) → Reads t n → (1 < length t → 0 < n) → ledBy t ≡ false
-unfolding ledBy
+not-led : (t : List ℕ) (n : ℕ) → Reads t n → (1 < length t → 0 < n) → isLedByZeroOf t ≡ false
+unfolding isLedByZeroOf
 not-led t n r g = go (ltb (length t) 2) refl
   where
     go : (c : Bool) → ltb (length t) 2 ≡ c → cond (ltb (length t) 2) false (eqb (getD t 0 0) 48) ≡ false
@@ -220,8 +220,8 @@ long-some k n h = go (ltb n 10) refl
     go false q = let a : 10 ≤ n = ltb-false _ _ q in omega arith
 
 -- A whole number below 2 ^ 32 that is printed and read is the number itself.
-pub whole-back : (n : ℕ) → n < 2 ^ 32 → wholeOf (decimalText 20 n) ≡ number n
-unfolding wholeOf
+pub whole-back : (n : ℕ) → n < 2 ^ 32 → readWholeOf (decimalText 20 n) ≡ number n
+unfolding readWholeOf
 whole-back n h =
     let g : n < 10 ^ 20 = omega arith in
     let r = decimal-back 19 n g in

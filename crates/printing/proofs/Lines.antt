@@ -11,7 +11,7 @@ use lib.ListN.{length, drop, getD, length-drop, drop-of-length-le}
 use lib.Seq.{drop-cons}
 use borrow.Author.Tests.{lt-ltb, le-ltb, eq-eqb, ne-eqb, ltb-true, ltb-false}
 use Rattle.printing.specs.Printing.{Out, out, putAll}
-use Rattle.printing.specs.Rows.{spaced, wholesText, doublesText, rowText, afterOf}
+use Rattle.printing.specs.Rows.{spaced, wholesText, doublesText, rowText, behindOf}
 use Rattle.printing.proofs.Writing.{put-turn, put-append, put-join}
 
 -- what stands behind a number that l follows
@@ -29,8 +29,8 @@ module _ {A : Type 0} (text : A → List ℕ) where
   sep-is [] last = refl
   sep-is (x ∷ l) last = sym (let h : 0 < suc (length l) = omega arith in rw (lt-ltb 0 (suc (length l)) h))
 
-  after-is : (l : List A) (i last : ℕ) → i < length l → sep (drop (suc i) l) last ≡ afterOf i (length l) last
-  unfolding afterOf
+  after-is : (l : List A) (i last : ℕ) → i < length l → sep (drop (suc i) l) last ≡ behindOf i (length l) last
+  unfolding behindOf
   after-is l i last h = sep-is (drop (suc i) l) last ∙ rw (lt-ltb i (length l) h, length-drop) (go (ltb (i + 1) (length l)) refl)
     where
       go : (b : Bool) → ltb (i + 1) (length l) ≡ b → cond (ltb 0 (length l - suc i)) 32 last ≡ cond b 32 last
@@ -38,12 +38,12 @@ module _ {A : Type 0} (text : A → List ℕ) where
       go false e = let k : length l ≤ i + 1 = ltb-false (i + 1) (length l) e in rw (le-ltb 0 (length l - suc i) (omega arith))
 
   -- a number and what stands behind it are written
-  pub spaced-turn : (z : A) (l : List A) (i n last g : ℕ) (b b1 b2 : List ℕ) (p p1 p2 : ℕ) (w : Out) → i < n → n ≡ length l → out b1 p1 ≡ putAll b p (text (getD l i z)) → g ≡ afterOf i n last → out b2 p2 ≡ putAll b1 p1 (g ∷ [])
+  pub spaced-turn : (z : A) (l : List A) (i n last g : ℕ) (b b1 b2 : List ℕ) (p p1 p2 : ℕ) (w : Out) → i < n → n ≡ length l → out b1 p1 ≡ putAll b p (text (getD l i z)) → g ≡ behindOf i n last → out b2 p2 ≡ putAll b1 p1 (g ∷ [])
       → putAll b p (spaced text (drop i l) last) ≡ w → putAll b2 p2 (spaced text (drop (i + 1) l) last) ≡ w
   spaced-turn z l i n last g b b1 b2 p p1 p2 w h e f k q v =
       let i-in : i < length l = omega arith in
       let rest = spaced text (drop (suc i) l) last in
-      let g-is : g ≡ sep (drop (suc i) l) last = k ∙ ap (λ m. afterOf i m last) e ∙ sym (after-is l i last i-in) in
+      let g-is : g ≡ sep (drop (suc i) l) last = k ∙ ap (λ m. behindOf i m last) e ∙ sym (after-is l i last i-in) in
       let s : putAll b p (text (getD l i z) ++ sep (drop (suc i) l) last ∷ rest) ≡ w = ap (putAll b p) (sym (ap (λ m. spaced text m last) (drop-cons l i z i-in) ∙ spaced-cons (getD l i z) (drop (suc i) l) last)) ∙ v in
       let t : putAll b1 p1 (g ∷ rest) ≡ w =
       ap (λ (o : Out). putAll (o .buf) (o .at) (g ∷ rest)) f ∙ put-append b p (text (getD l i z)) (g ∷ rest) ∙ ap (λ m. putAll b p (text (getD l i z) ++ m ∷ rest)) g-is ∙ s in

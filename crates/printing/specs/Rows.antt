@@ -24,5 +24,5 @@ unfoldable pub rowText : List ℕ → List Float → List ℕ
 rowText ws ds = cond (eqb (length ds) 0) (wholesText ws 10) (wholesText ws 32 ++ doublesText ds 10)
 
 -- what stands behind number i of n
-unfoldable pub afterOf : ℕ → ℕ → ℕ → ℕ
-afterOf i n last = cond (ltb i n && ltb (i + 1) n) 32 last
+unfoldable pub behindOf : ℕ → ℕ → ℕ → ℕ
+behindOf i n last = cond (ltb i n && ltb (i + 1) n) 32 last

@@ -4,11 +4,11 @@ use crate::put_decimal;
 use crate::put_double;
 ghost use mathlib.Core.Path.{_≡_};
 ghost use Rattle.printing.specs.Printing.{out, putAll};
-ghost use Rattle.printing.specs.Rows.{afterOf, wholesText, doublesText, rowText};
+ghost use Rattle.printing.specs.Rows.{behindOf, wholesText, doublesText, rowText};
 
 // What stands behind number i of n: a space, or `last` behind the last one.
 fn behind(i: usize, n: usize, last: u8) -> u8
-    ensures { λ r. ⌜ r ≡ afterOf i n last ⌝ }
+    ensures { λ r. ⌜ r ≡ behindOf i n last ⌝ }
 {
     if i < n {
         if i + 1 < n {

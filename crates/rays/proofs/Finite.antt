@@ -2,10 +2,10 @@
 use mathlib.Core.Path.{_≡_, refl, ap, _∙_}
 use mathlib.Core.Bool.{Bool, true, false, cond, _&&_}
 use lib.Ieee.{Float, nan, binary64, add, sub, eq, ofBits}
-use Rattle.doubles.specs.Doubles.{finiteOf}
+use Rattle.doubles.specs.Doubles.{isFiniteOf}
 use Rattle.doubles.proofs.Small.{difference-of-itself}
 use Rattle.rays.specs.declared.vector.Vec3.{Vec3}
-use Rattle.rays.specs.Vectors.{finiteVecOf}
+use Rattle.rays.specs.Vectors.{isFiniteVecOf}
 
 abbrev zero-or-nan : Bool → Float
 zero-or-nan b = cond b (ofBits binary64 0) nan
@@ -21,12 +21,12 @@ all-zero false true false = refl
 all-zero false false true = refl
 all-zero false false false = refl
 
-pub all-finite : (x y z : Float) → eq (add binary64 (add binary64 (sub binary64 x x) (sub binary64 y y)) (sub binary64 z z)) (ofBits binary64 0) ≡ (finiteOf x && finiteOf y && finiteOf z)
+pub all-finite : (x y z : Float) → eq (add binary64 (add binary64 (sub binary64 x x) (sub binary64 y y)) (sub binary64 z z)) (ofBits binary64 0) ≡ (isFiniteOf x && isFiniteOf y && isFiniteOf z)
 all-finite x y z =
     ap (λ (t : Float). eq (add binary64 (add binary64 t (sub binary64 y y)) (sub binary64 z z)) (ofBits binary64 0)) (difference-of-itself x)
-    ∙ ap (λ (t : Float). eq (add binary64 (add binary64 (zero-or-nan (finiteOf x)) t) (sub binary64 z z)) (ofBits binary64 0)) (difference-of-itself y)
-    ∙ ap (λ (t : Float). eq (add binary64 (add binary64 (zero-or-nan (finiteOf x)) (zero-or-nan (finiteOf y))) t) (ofBits binary64 0)) (difference-of-itself z)
-    ∙ all-zero (finiteOf x) (finiteOf y) (finiteOf z)
+    ∙ ap (λ (t : Float). eq (add binary64 (add binary64 (zero-or-nan (isFiniteOf x)) t) (sub binary64 z z)) (ofBits binary64 0)) (difference-of-itself y)
+    ∙ ap (λ (t : Float). eq (add binary64 (add binary64 (zero-or-nan (isFiniteOf x)) (zero-or-nan (isFiniteOf y))) t) (ofBits binary64 0)) (difference-of-itself z)
+    ∙ all-zero (isFiniteOf x) (isFiniteOf y) (isFiniteOf z)
 
 -- ---- more than three
 
@@ -60,28 +60,28 @@ regroup-more : (a b c d : Bool) → (a && (b && (c && d))) ≡ (a && b && c && d
 regroup-more true b c d = regroup b c d
 regroup-more false b c d = refl
 
-vector-is : (v : Vec3) → vector-less v ≡ zero-or-nan (finiteVecOf v)
-unfolding finiteVecOf
+vector-is : (v : Vec3) → vector-less v ≡ zero-or-nan (isFiniteVecOf v)
+unfolding isFiniteVecOf
 vector-is v =
-    sum-of (finiteOf (v .x) && finiteOf (v .y)) (finiteOf (v .z)) (add binary64 (sub binary64 (v .x) (v .x)) (sub binary64 (v .y) (v .y))) (sub binary64 (v .z) (v .z))
-    (sum-of (finiteOf (v .x)) (finiteOf (v .y)) (sub binary64 (v .x) (v .x)) (sub binary64 (v .y) (v .y)) (difference-of-itself (v .x)) (difference-of-itself (v .y)))
+    sum-of (isFiniteOf (v .x) && isFiniteOf (v .y)) (isFiniteOf (v .z)) (add binary64 (sub binary64 (v .x) (v .x)) (sub binary64 (v .y) (v .y))) (sub binary64 (v .z) (v .z))
+    (sum-of (isFiniteOf (v .x)) (isFiniteOf (v .y)) (sub binary64 (v .x) (v .x)) (sub binary64 (v .y) (v .y)) (difference-of-itself (v .x)) (difference-of-itself (v .y)))
     (difference-of-itself (v .z))
 
 abbrev pair-less : Float → Float → Float
 pair-less a b = add binary64 (sub binary64 a a) (sub binary64 b b)
 
-pair-is : (a b : Float) → pair-less a b ≡ zero-or-nan (finiteOf a && finiteOf b)
-pair-is a b = sum-of (finiteOf a) (finiteOf b) (sub binary64 a a) (sub binary64 b b) (difference-of-itself a) (difference-of-itself b)
+pair-is : (a b : Float) → pair-less a b ≡ zero-or-nan (isFiniteOf a && isFiniteOf b)
+pair-is a b = sum-of (isFiniteOf a) (isFiniteOf b) (sub binary64 a a) (sub binary64 b b) (difference-of-itself a) (difference-of-itself b)
 
-pub five-finite : (v : Vec3) (a b : Float) → eq (add binary64 (vector-less v) (pair-less a b)) (ofBits binary64 0) ≡ (finiteVecOf v && finiteOf a && finiteOf b)
+pub five-finite : (v : Vec3) (a b : Float) → eq (add binary64 (vector-less v) (pair-less a b)) (ofBits binary64 0) ≡ (isFiniteVecOf v && isFiniteOf a && isFiniteOf b)
 five-finite v a b =
-    is-zero (finiteVecOf v && (finiteOf a && finiteOf b)) (add binary64 (vector-less v) (pair-less a b))
-    (sum-of (finiteVecOf v) (finiteOf a && finiteOf b) (vector-less v) (pair-less a b) (vector-is v) (pair-is a b))
-    ∙ regroup (finiteVecOf v) (finiteOf a) (finiteOf b)
+    is-zero (isFiniteVecOf v && (isFiniteOf a && isFiniteOf b)) (add binary64 (vector-less v) (pair-less a b))
+    (sum-of (isFiniteVecOf v) (isFiniteOf a && isFiniteOf b) (vector-less v) (pair-less a b) (vector-is v) (pair-is a b))
+    ∙ regroup (isFiniteVecOf v) (isFiniteOf a) (isFiniteOf b)
 
-pub eight-finite : (o d : Vec3) (a b : Float) → eq (add binary64 (vector-less o) (add binary64 (vector-less d) (pair-less a b))) (ofBits binary64 0) ≡ (finiteVecOf o && finiteVecOf d && finiteOf a && finiteOf b)
+pub eight-finite : (o d : Vec3) (a b : Float) → eq (add binary64 (vector-less o) (add binary64 (vector-less d) (pair-less a b))) (ofBits binary64 0) ≡ (isFiniteVecOf o && isFiniteVecOf d && isFiniteOf a && isFiniteOf b)
 eight-finite o d a b =
-    is-zero (finiteVecOf o && (finiteVecOf d && (finiteOf a && finiteOf b))) (add binary64 (vector-less o) (add binary64 (vector-less d) (pair-less a b)))
-    (sum-of (finiteVecOf o) (finiteVecOf d && (finiteOf a && finiteOf b)) (vector-less o) (add binary64 (vector-less d) (pair-less a b)) (vector-is o)
-    (sum-of (finiteVecOf d) (finiteOf a && finiteOf b) (vector-less d) (pair-less a b) (vector-is d) (pair-is a b)))
-    ∙ regroup-more (finiteVecOf o) (finiteVecOf d) (finiteOf a) (finiteOf b)
+    is-zero (isFiniteVecOf o && (isFiniteVecOf d && (isFiniteOf a && isFiniteOf b))) (add binary64 (vector-less o) (add binary64 (vector-less d) (pair-less a b)))
+    (sum-of (isFiniteVecOf o) (isFiniteVecOf d && (isFiniteOf a && isFiniteOf b)) (vector-less o) (add binary64 (vector-less d) (pair-less a b)) (vector-is o)
+    (sum-of (isFiniteVecOf d) (isFiniteOf a && isFiniteOf b) (vector-less d) (pair-less a b) (vector-is d) (pair-is a b)))
+    ∙ regroup-more (isFiniteVecOf o) (isFiniteVecOf d) (isFiniteOf a) (isFiniteOf b)

@@ -1,7 +1,7 @@
 -- Vectors of three doubles. Every sum goes left to right and starts at its first product.
 use mathlib.Core.Bool.{Bool, _&&_}
 use lib.Ieee.{Float, binary64, add, sub, mul, div, neg}
-use Rattle.doubles.specs.Doubles.{finiteOf}
+use Rattle.doubles.specs.Doubles.{isFiniteOf}
 use Rattle.doubles.specs.Root.{sqrtOf}
 use Rattle.rays.specs.declared.vector.Vec3.{Vec3}
 
@@ -42,5 +42,5 @@ normOf a = sqrtOf (dotOf a a)
 unfoldable pub normalizeOf : Vec3 → Vec3
 normalizeOf a = divideOf a (normOf a)
 
-unfoldable pub finiteVecOf : Vec3 → Bool
-finiteVecOf a = finiteOf (a .x) && finiteOf (a .y) && finiteOf (a .z)
+unfoldable pub isFiniteVecOf : Vec3 → Bool
+isFiniteVecOf a = isFiniteOf (a .x) && isFiniteOf (a .y) && isFiniteOf (a .z)

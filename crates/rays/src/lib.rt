@@ -8,7 +8,7 @@ pub use matrix::Mat4;
 pub use matrix::Row;
 pub use vector::Vec3;
 ghost use mathlib.Core.Path.{_≡_};
-ghost use Rattle.rays.specs.Rays.{atOf, finiteRayOf, validRayOf, newRayOf, answerOf};
+ghost use Rattle.rays.specs.Rays.{atOf, isFiniteRayOf, isValidRayOf, newRayOf, asRay};
 
 // A ray: where it starts, where it goes, its wavelength in nanometres and its power in watts.
 #[repr(C)]
@@ -36,7 +36,7 @@ impl Ray {
 
     // Refuses a part that is not finite (16).
     pub fn new(origin: Vec3, direction: Vec3, wavelength: f64, power: f64) -> NewRay
-        ensures { λ r. ⌜ answerOf r ≡ newRayOf origin direction wavelength power ⌝ }
+        ensures { λ r. ⌜ asRay r ≡ newRayOf origin direction wavelength power ⌝ }
     {
         let ray = Ray {
             origin,
@@ -52,7 +52,7 @@ impl Ray {
 
     // Whether all eight parts are finite, by one test.
     pub fn is_finite(self) -> bool
-        ensures { λ r. ⌜ r ≡ finiteRayOf self ⌝ }
+        ensures { λ r. ⌜ r ≡ isFiniteRayOf self ⌝ }
     {
         let o = self.origin;
         let d = self.direction;
@@ -66,7 +66,7 @@ impl Ray {
     // Whether this is a ray that a caller may give: all parts finite, a power that is not below 0, and a
     // direction dotted with itself within 1e-9 of 1. Any other is refused by 10.
     pub fn is_valid(self) -> bool
-        ensures { λ r. ⌜ r ≡ validRayOf self ⌝ }
+        ensures { λ r. ⌜ r ≡ isValidRayOf self ⌝ }
     {
         let direction = self.direction;
         if self.is_finite() {

@@ -1,8 +1,8 @@
 // Vectors of three doubles.
 ghost use mathlib.Core.Path.{_≡_};
 ghost use mathlib.Core.Bool.{_&&_};
-ghost use Rattle.doubles.specs.Doubles.{finiteOf};
-ghost use Rattle.rays.specs.Vectors.{dotOf, crossOf, plusOf, minusOf, scaleOf, divideOf, negateOf, normOf, normalizeOf, finiteVecOf};
+ghost use Rattle.doubles.specs.Doubles.{isFiniteOf};
+ghost use Rattle.rays.specs.Vectors.{dotOf, crossOf, plusOf, minusOf, scaleOf, divideOf, negateOf, normOf, normalizeOf, isFiniteVecOf};
 
 #[repr(C)]
 pub struct Vec3 {
@@ -96,14 +96,14 @@ impl Vec3 {
 
     // Whether all three parts are finite. A part less itself is 0 if it is, and else not a number.
     pub fn is_finite(self) -> bool
-        ensures { λ r. ⌜ r ≡ finiteVecOf self ⌝ }
+        ensures { λ r. ⌜ r ≡ isFiniteVecOf self ⌝ }
     {
         (self.x - self.x) + (self.y - self.y) + (self.z - self.z) == 0.0
     }
 
     // Whether all three parts and two numbers are finite, by one test.
     pub fn is_finite_with(self, a: f64, b: f64) -> bool
-        ensures { λ r. ⌜ r ≡ finiteVecOf self && finiteOf a && finiteOf b ⌝ }
+        ensures { λ r. ⌜ r ≡ isFiniteVecOf self && isFiniteOf a && isFiniteOf b ⌝ }
     {
         (self.x - self.x) + (self.y - self.y) + (self.z - self.z) + ((a - a) + (b - b)) == 0.0
     }

@@ -12,8 +12,8 @@ abbrev pub #0 : Float
 
 -- ---- the ledger, in step order
 
-unfoldable pub detecting : Ledger → Float → Ledger
-detecting l x =
+unfoldable pub detectOf : Ledger → Float → Ledger
+detectOf l x =
     record {
       «launched_flux_watts» = l .«launched_flux_watts»;
       «detected_flux_watts» = add binary64 (l .«detected_flux_watts») x;
@@ -21,8 +21,8 @@ detecting l x =
       «escaped_flux_watts» = l .«escaped_flux_watts»;
     }
 
-unfoldable pub absorbing : Ledger → Float → Ledger
-absorbing l x =
+unfoldable pub absorbOf : Ledger → Float → Ledger
+absorbOf l x =
     record {
       «launched_flux_watts» = l .«launched_flux_watts»;
       «detected_flux_watts» = l .«detected_flux_watts»;
@@ -30,8 +30,8 @@ absorbing l x =
       «escaped_flux_watts» = l .«escaped_flux_watts»;
     }
 
-unfoldable pub escaping : Ledger → Float → Ledger
-escaping l x =
+unfoldable pub escapeOf : Ledger → Float → Ledger
+escapeOf l x =
     record {
       «launched_flux_watts» = l .«launched_flux_watts»;
       «detected_flux_watts» = l .«detected_flux_watts»;
@@ -40,81 +40,81 @@ escaping l x =
     }
 
 -- the power of a ray that is not made is absorbed
-unfoldable pub unmade : Bool → Ledger → Float → Ledger
-unmade made l x = cond made l (absorbing l x)
+unfoldable pub unlessMadeOf : Bool → Ledger → Float → Ledger
+unlessMadeOf made l x = cond made l (absorbOf l x)
 
 -- power is the ray's; made and also are the step's two flags
-unfoldable pub ledgerAfter : Ledger → Float → End → Bool → Bool → Ledger
-ledgerAfter l power dim made also = absorbing l power
-ledgerAfter l power spent made also = absorbing l power
-ledgerAfter l power gone made also = escaping l power
-ledgerAfter l power (caught h) made also = detecting l power
-ledgerAfter l power (stopped x) made also = absorbing l x
-ledgerAfter l power (parted r t total) made also = unmade also (unmade made l r) t
-ledgerAfter l power (refusing n) made also = l
+unfoldable pub ledgerAfterOf : Ledger → Float → End → Bool → Bool → Ledger
+ledgerAfterOf l power dim made also = absorbOf l power
+ledgerAfterOf l power spent made also = absorbOf l power
+ledgerAfterOf l power gone made also = escapeOf l power
+ledgerAfterOf l power (caught h) made also = detectOf l power
+ledgerAfterOf l power (stopped x) made also = absorbOf l x
+ledgerAfterOf l power (parted r t total) made also = unlessMadeOf also (unlessMadeOf made l r) t
+ledgerAfterOf l power (refusing n) made also = l
 
 -- ---- the tallies
 
-unfoldable pub moreIf : Bool → ℕ → ℕ
-moreIf b n = cond b (moreOf n) n
+unfoldable pub moreIfOf : Bool → ℕ → ℕ
+moreIfOf b n = cond b (moreOf n) n
 
-unfoldable pub dimmer : Tallies → Tallies
-dimmer t = record { made = t .made; dim = moreOf (t .dim); spent = t .spent; caught = t .caught; gone = t .gone; surface = t .surface; weak = t .weak }
+unfoldable pub addDimOf : Tallies → Tallies
+addDimOf t = record { made = t .made; dim = moreOf (t .dim); spent = t .spent; caught = t .caught; gone = t .gone; surface = t .surface; weak = t .weak }
 
-unfoldable pub spending : Tallies → Tallies
-spending t = record { made = t .made; dim = t .dim; spent = moreOf (t .spent); caught = t .caught; gone = t .gone; surface = t .surface; weak = t .weak }
+unfoldable pub addSpentOf : Tallies → Tallies
+addSpentOf t = record { made = t .made; dim = t .dim; spent = moreOf (t .spent); caught = t .caught; gone = t .gone; surface = t .surface; weak = t .weak }
 
-unfoldable pub catching : Tallies → Tallies
-catching t = record { made = t .made; dim = t .dim; spent = t .spent; caught = moreOf (t .caught); gone = t .gone; surface = t .surface; weak = t .weak }
+unfoldable pub addCaughtOf : Tallies → Tallies
+addCaughtOf t = record { made = t .made; dim = t .dim; spent = t .spent; caught = moreOf (t .caught); gone = t .gone; surface = t .surface; weak = t .weak }
 
-unfoldable pub going : Tallies → Tallies
-going t = record { made = t .made; dim = t .dim; spent = t .spent; caught = t .caught; gone = moreOf (t .gone); surface = t .surface; weak = t .weak }
+unfoldable pub addGoneOf : Tallies → Tallies
+addGoneOf t = record { made = t .made; dim = t .dim; spent = t .spent; caught = t .caught; gone = moreOf (t .gone); surface = t .surface; weak = t .weak }
 
--- a solid was nearest: up to two rays are made; the flags after them say whether the threshold left one unmade at a clear surface
-unfoldable pub surfacing : Tallies → Bool → Bool → Bool → Bool → Tallies
-surfacing t made also weak faint =
+-- a solid was nearest: up to two rays are made; the flags after them say whether the threshold left one unlessMadeOf at a clear surface
+unfoldable pub addSurfaceOf : Tallies → Bool → Bool → Bool → Bool → Tallies
+addSurfaceOf t made also weak faint =
     record {
-      made = moreIf also (moreIf made (t .made));
+      made = moreIfOf also (moreIfOf made (t .made));
       dim = t .dim;
       spent = t .spent;
       caught = t .caught;
       gone = t .gone;
       surface = moreOf (t .surface);
-      weak = moreIf faint (moreIf weak (t .weak));
+      weak = moreIfOf faint (moreIfOf weak (t .weak));
     }
 
--- whether the threshold left the second ray unmade: the missing one of a radicand at most 0 isn't weak
+-- whether the threshold left the second ray unlessMadeOf: the missing one of a radicand at most 0 isn't weak
 unfoldable pub faintOf : Bool → Bool → Bool
 faintOf total also = cond total false (cond also false true)
 
-unfoldable pub talliesAfter : Tallies → End → Bool → Bool → Tallies
-talliesAfter t dim made also = dimmer t
-talliesAfter t spent made also = spending t
-talliesAfter t gone made also = going t
-talliesAfter t (caught h) made also = catching t
-talliesAfter t (stopped x) made also = surfacing t made also false false
-talliesAfter t (parted r p total) made also = surfacing t made also (cond made false true) (faintOf total also)
-talliesAfter t (refusing n) made also = t
+unfoldable pub talliesAfterOf : Tallies → End → Bool → Bool → Tallies
+talliesAfterOf t dim made also = addDimOf t
+talliesAfterOf t spent made also = addSpentOf t
+talliesAfterOf t gone made also = addGoneOf t
+talliesAfterOf t (caught h) made also = addCaughtOf t
+talliesAfterOf t (stopped x) made also = addSurfaceOf t made also false false
+talliesAfterOf t (parted r p total) made also = addSurfaceOf t made also (cond made false true) (faintOf total also)
+talliesAfterOf t (refusing n) made also = t
 
 -- ---- the report
 
 -- whether the step is an interaction: all but dim and spent are
-unfoldable pub interacts : End → Bool
-interacts dim = false
-interacts spent = false
-interacts gone = true
-interacts (caught h) = true
-interacts (stopped x) = true
-interacts (parted r t total) = true
-interacts (refusing n) = true
+unfoldable pub isInteractionOf : End → Bool
+isInteractionOf dim = false
+isInteractionOf spent = false
+isInteractionOf gone = true
+isInteractionOf (caught h) = true
+isInteractionOf (stopped x) = true
+isInteractionOf (parted r t total) = true
+isInteractionOf (refusing n) = true
 
-unfoldable pub reportAfter : NonSeqTraceReport → Float → Step → NonSeqTraceReport
-reportAfter r power s =
+unfoldable pub reportAfterOf : NonSeqTraceReport → Float → Step → NonSeqTraceReport
+reportAfterOf r power s =
     record {
-      ledger = ledgerAfter (r .ledger) power (s .end) (s .«first») (s .second);
+      ledger = ledgerAfterOf (r .ledger) power (s .end) (s .«first») (s .second);
       «total_rays_traced» = r .«total_rays_traced»;
-      «total_interactions» = moreIf (interacts (s .end)) (r .«total_interactions»);
-      tallies = talliesAfter (r .tallies) (s .end) (s .«first») (s .second);
+      «total_interactions» = moreIfOf (isInteractionOf (s .end)) (r .«total_interactions»);
+      tallies = talliesAfterOf (r .tallies) (s .end) (s .«first») (s .second);
     }
 
 -- a step that is refused: as it found the report, but its interaction is counted
@@ -138,7 +138,7 @@ startReportOf rays launched =
     }
 
 -- detected, absorbed and escaped over launched; 1 where nothing was launched
-unfoldable pub energyRatioOf : Ledger → Float
-energyRatioOf l =
+unfoldable pub energyConservationRatioOf : Ledger → Float
+energyConservationRatioOf l =
     cond (le (l .«launched_flux_watts») #0) (ofBits binary64 0x3ff0000000000000)
     (div binary64 (add binary64 (add binary64 (l .«detected_flux_watts») (l .«absorbed_flux_watts»)) (l .«escaped_flux_watts»)) (l .«launched_flux_watts»))

@@ -1,8 +1,8 @@
 // The ledger: the powers of a tracing, in watts, added up in step order.
 use step::Fate;
 ghost use mathlib.Core.Path.{_≡_};
-ghost use Rattle.step.specs.Rays.{endOf};
-ghost use Rattle.report.specs.Report.{detecting, absorbing, escaping, unmade, ledgerAfter, energyRatioOf};
+ghost use Rattle.step.specs.Rays.{asEnd};
+ghost use Rattle.report.specs.Report.{detectOf, absorbOf, escapeOf, unlessMadeOf, ledgerAfterOf, energyConservationRatioOf};
 
 #[repr(C)]
 pub struct Ledger {
@@ -14,7 +14,7 @@ pub struct Ledger {
 
 impl Ledger {
     fn detect(self, power: f64) -> Ledger
-        ensures { λ r. ⌜ r ≡ detecting self power ⌝ }
+        ensures { λ r. ⌜ r ≡ detectOf self power ⌝ }
     {
         Ledger {
             launched_flux_watts: self.launched_flux_watts,
@@ -25,7 +25,7 @@ impl Ledger {
     }
 
     fn absorb(self, power: f64) -> Ledger
-        ensures { λ r. ⌜ r ≡ absorbing self power ⌝ }
+        ensures { λ r. ⌜ r ≡ absorbOf self power ⌝ }
     {
         Ledger {
             launched_flux_watts: self.launched_flux_watts,
@@ -36,7 +36,7 @@ impl Ledger {
     }
 
     fn escape(self, power: f64) -> Ledger
-        ensures { λ r. ⌜ r ≡ escaping self power ⌝ }
+        ensures { λ r. ⌜ r ≡ escapeOf self power ⌝ }
     {
         Ledger {
             launched_flux_watts: self.launched_flux_watts,
@@ -48,7 +48,7 @@ impl Ledger {
 
     // The power of a ray that is not made is absorbed.
     fn unless_made(self, made: bool, power: f64) -> Ledger
-        ensures { λ r. ⌜ r ≡ unmade made self power ⌝ }
+        ensures { λ r. ⌜ r ≡ unlessMadeOf made self power ⌝ }
     {
         if made {
             return self;
@@ -58,7 +58,7 @@ impl Ledger {
 
     // After what became of a ray of some power; the flags say which of its rays were made.
     pub fn after(self, power: f64, fate: Fate, first: bool, second: bool) -> Ledger
-        ensures { λ r. ⌜ r ≡ ledgerAfter self power (endOf fate) first second ⌝ }
+        ensures { λ r. ⌜ r ≡ ledgerAfterOf self power (asEnd fate) first second ⌝ }
     {
         match fate {
             Fate::Dim => self.absorb(power),
@@ -80,7 +80,7 @@ impl Ledger {
 
     // Detected, absorbed and escaped power over launched; 1 where none was launched.
     pub fn energy_conservation_ratio(self) -> f64
-        ensures { λ r. ⌜ r ≡ energyRatioOf self ⌝ }
+        ensures { λ r. ⌜ r ≡ energyConservationRatioOf self ⌝ }
     {
         if self.launched_flux_watts <= 0.0 {
             return 1.0;

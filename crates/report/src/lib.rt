@@ -9,8 +9,8 @@ use step::Event;
 use step::Fate;
 use step::more;
 ghost use mathlib.Core.Path.{_≡_};
-ghost use Rattle.step.specs.Rays.{endOf, stepOf};
-ghost use Rattle.report.specs.Report.{interacts, reportAfter, countedOf, startReportOf};
+ghost use Rattle.step.specs.Rays.{asEnd, asStep};
+ghost use Rattle.report.specs.Report.{isInteractionOf, reportAfterOf, countedOf, startReportOf};
 
 // What a tracing adds up to.
 #[repr(C)]
@@ -23,7 +23,7 @@ pub struct NonSeqTraceReport {
 
 // Whether what became of a ray is an interaction.
 fn is_interaction(fate: Fate) -> bool
-    ensures { λ r. ⌜ r ≡ interacts (endOf fate) ⌝ }
+    ensures { λ r. ⌜ r ≡ isInteractionOf (asEnd fate) ⌝ }
 {
     match fate {
         Fate::Dim => false,
@@ -68,7 +68,7 @@ impl NonSeqTraceReport {
 
     // After a step that was not refused.
     pub fn after(self, power: f64, event: Event) -> NonSeqTraceReport
-        ensures { λ r. ⌜ r ≡ reportAfter self power (stepOf event) ⌝ }
+        ensures { λ r. ⌜ r ≡ reportAfterOf self power (asStep event) ⌝ }
     {
         let ledger = self.ledger;
         let tallies = self.tallies;

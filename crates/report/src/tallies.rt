@@ -3,8 +3,8 @@ use step::Fate;
 use step::more;
 ghost use mathlib.Core.Path.{_≡_};
 ghost use mathlib.Core.Bool.{true, false, cond};
-ghost use Rattle.step.specs.Rays.{endOf};
-ghost use Rattle.report.specs.Report.{moreIf, dimmer, spending, catching, going, surfacing, faintOf, talliesAfter};
+ghost use Rattle.step.specs.Rays.{asEnd};
+ghost use Rattle.report.specs.Report.{moreIfOf, addDimOf, addSpentOf, addCaughtOf, addGoneOf, addSurfaceOf, faintOf, talliesAfterOf};
 
 #[repr(C)]
 pub struct Tallies {
@@ -18,7 +18,7 @@ pub struct Tallies {
 }
 
 pub(crate) fn more_if(b: bool, n: u32) -> u32
-    ensures { λ r. ⌜ r ≡ moreIf b n ⌝ }
+    ensures { λ r. ⌜ r ≡ moreIfOf b n ⌝ }
 {
     if b {
         return more(n);
@@ -47,7 +47,7 @@ fn faint(total: bool, second: bool) -> bool
 
 impl Tallies {
     fn add_dim(self) -> Tallies
-        ensures { λ r. ⌜ r ≡ dimmer self ⌝ }
+        ensures { λ r. ⌜ r ≡ addDimOf self ⌝ }
     {
         let mut t = self;
         t.dim = more(self.dim);
@@ -55,7 +55,7 @@ impl Tallies {
     }
 
     fn add_spent(self) -> Tallies
-        ensures { λ r. ⌜ r ≡ spending self ⌝ }
+        ensures { λ r. ⌜ r ≡ addSpentOf self ⌝ }
     {
         let mut t = self;
         t.spent = more(self.spent);
@@ -63,7 +63,7 @@ impl Tallies {
     }
 
     fn add_caught(self) -> Tallies
-        ensures { λ r. ⌜ r ≡ catching self ⌝ }
+        ensures { λ r. ⌜ r ≡ addCaughtOf self ⌝ }
     {
         let mut t = self;
         t.caught = more(self.caught);
@@ -71,7 +71,7 @@ impl Tallies {
     }
 
     fn add_gone(self) -> Tallies
-        ensures { λ r. ⌜ r ≡ going self ⌝ }
+        ensures { λ r. ⌜ r ≡ addGoneOf self ⌝ }
     {
         let mut t = self;
         t.gone = more(self.gone);
@@ -80,7 +80,7 @@ impl Tallies {
 
     // A solid was nearest; the flags say which rays were made, and which the threshold left unmade.
     fn add_surface(self, first: bool, second: bool, weak: bool, faint: bool) -> Tallies
-        ensures { λ r. ⌜ r ≡ surfacing self first second weak faint ⌝ }
+        ensures { λ r. ⌜ r ≡ addSurfaceOf self first second weak faint ⌝ }
     {
         let mut t = self;
         let made = more_if(first, self.made);
@@ -93,7 +93,7 @@ impl Tallies {
 
     // After what became of a ray; the flags say which of its rays were made.
     pub fn after(self, fate: Fate, first: bool, second: bool) -> Tallies
-        ensures { λ r. ⌜ r ≡ talliesAfter self (endOf fate) first second ⌝ }
+        ensures { λ r. ⌜ r ≡ talliesAfterOf self (asEnd fate) first second ⌝ }
     {
         match fate {
             Fate::Dim => self.add_dim(),

@@ -9,18 +9,18 @@ use Rattle.error.specs.declared.Check.{Check}
 use Rattle.error.specs.declared.Check.the-variants.{Passed, Refused}
 use Rattle.error.specs.Refusals.{Checked, passed, refusedAt}
 use Rattle.detector.specs.declared.DetectorHit.{DetectorHit}
-use Rattle.memory.specs.Memory.{Memory, memoryOf, Outcome, done, refused, unless, outcomeOf}
+use Rattle.memory.specs.Memory.{Memory, lentMemory, Outcome, done, refused, unless, asOutcome}
 use Rattle.step.specs.declared.ActiveRay.{ActiveRay}
 use Rattle.step.specs.Rays.{Scene, Step, End, dim, spent, gone, caught, stopped, parted, refusing}
-use Rattle.step.specs.Turn.{turnOf}
+use Rattle.step.specs.Turn.{takeStepOf}
 use Rattle.report.specs.declared.NonSeqTraceReport.{NonSeqTraceReport}
-use Rattle.report.specs.Report.{reportAfter, countedOf}
+use Rattle.report.specs.Report.{reportAfterOf, countedOf}
 use Rattle.run.specs.declared.stack.Taken.{Taken}
 use Rattle.run.specs.declared.Progress.{Progress}
 use Rattle.run.specs.declared.Advanced.{Advanced}
 use Rattle.run.specs.declared.settling.Catch.{Catch}
 use Rattle.run.specs.declared.settling.Catch.the-variants.{Hit, Nothing}
-use Rattle.run.specs.Stack.{takenOf, afterOf}
+use Rattle.run.specs.Stack.{takenFrom, stackAfter}
 
 -- where a run stands: the memory or a refusal, and the progress
 pub record Run (M : Type 0) : Type 0 where
@@ -33,24 +33,24 @@ pub record Settled (M : Type 0) : Type 0 where
   pub report : NonSeqTraceReport
 
 -- the hit that a step brings, if any
-unfoldable pub hitIn : End → Option DetectorHit
-hitIn dim = none
-hitIn spent = none
-hitIn gone = none
-hitIn (caught h) = some h
-hitIn (stopped x) = none
-hitIn (parted r t total) = none
-hitIn (refusing n) = none
+unfoldable pub hitInOf : End → Option DetectorHit
+hitInOf dim = none
+hitInOf spent = none
+hitInOf gone = none
+hitInOf (caught h) = some h
+hitInOf (stopped x) = none
+hitInOf (parted r t total) = none
+hitInOf (refusing n) = none
 
 -- 14 to 16, at the given ray's place
-unfoldable pub refusalIn : End → ℕ → Checked Unit
-refusalIn dim place = passed tt
-refusalIn spent place = passed tt
-refusalIn gone place = passed tt
-refusalIn (caught h) place = passed tt
-refusalIn (stopped x) place = passed tt
-refusalIn (parted r t total) place = passed tt
-refusalIn (refusing n) place = refusedAt n place
+unfoldable pub refusalInOf : End → ℕ → Checked Unit
+refusalInOf dim place = passed tt
+refusalInOf spent place = passed tt
+refusalInOf gone place = passed tt
+refusalInOf (caught h) place = passed tt
+refusalInOf (stopped x) place = passed tt
+refusalInOf (parted r t total) place = passed tt
+refusalInOf (refusing n) place = refusedAt n place
 
 -- the hit is in the memory; or 12 or 13, and the report is as the step found it, but its interaction is counted
 abbrev pub putFrom : {M : Type 0} → ℕ → NonSeqTraceReport → NonSeqTraceReport → Outcome M → Settled M
@@ -72,18 +72,18 @@ module _ {M : Type 0} (put : M → DetectorHit → Outcome M) where
   settleWith m place found after c (some h) = putFrom place found after (put m h)
   settleWith m place found after c none = record { outcome = unless c m (done m); report = after }
 
-  abbrev pub settleOf : M → ℕ → NonSeqTraceReport → Float → Step → Settled M
-  settleOf m place r power s = settleWith m place r (reportAfter r power s) (refusalIn (s .end) place) (hitIn (s .end))
+  abbrev pub settle : M → ℕ → NonSeqTraceReport → Float → Step → Settled M
+  settle m place r power s = settleWith m place r (reportAfterOf r power s) (refusalInOf (s .end) place) (hitInOf (s .end))
 
   module _ (S : Scene) (given : ℕ → ActiveRay) where
     abbrev pub stepFrom : M → Progress → Taken → Step → Run M
     stepFrom m p t s =
-        let r = settleOf m (t .left) (p .report) (t .ray .ray .energy) s in
-        record { outcome = r .outcome; progress = record { stack = afterOf (p .stack) s; left = t .left; report = r .report } }
+        let r = settle m (t .left) (p .report) (t .ray .ray .energy) s in
+        record { outcome = r .outcome; progress = record { stack = stackAfter (p .stack) s; left = t .left; report = r .report } }
 
     -- one step: the newest ray is taken, and what becomes of it is settled
     unfoldable pub stepOn : M → Progress → Run M
-    stepOn m p = stepFrom m p (takenOf given (p .stack) (p .left)) (turnOf S (takenOf given (p .stack) (p .left) .ray))
+    stepOn m p = stepFrom m p (takenFrom given (p .stack) (p .left)) (takeStepOf S (takenFrom given (p .stack) (p .left) .ray))
 
     -- at most k steps, while a ray is left
     unfoldable pub drive : ℕ → M → Progress → Run M
@@ -93,15 +93,15 @@ module _ {M : Type 0} (put : M → DetectorHit → Outcome M) where
 
 -- ---- what the code's answers say
 
-abbrev pub catchOf : Catch → Option DetectorHit
-catchOf (Hit h) = some h
-catchOf Nothing = none
+abbrev pub asCatch : Catch → Option DetectorHit
+asCatch (Hit h) = some h
+asCatch Nothing = none
 
-abbrev pub runOf : Check → Memory → Progress → Run Memory
-runOf c m p = record { outcome = outcomeOf c m; progress = p }
+abbrev pub asRun : Check → Memory → Progress → Run Memory
+asRun c m p = record { outcome = asOutcome c m; progress = p }
 
-abbrev pub advancedOf : Advanced → List Float → List ℕ → List Float → List ℕ → Run Memory
-advancedOf r f h v t = runOf (r .check) (memoryOf (r .detectors) f h v t (r .used)) (r .progress)
+abbrev pub asAdvanced : Advanced → List Float → List ℕ → List Float → List ℕ → Run Memory
+asAdvanced r f h v t = asRun (r .check) (lentMemory (r .detectors) f h v t (r .used)) (r .progress)
 
 -- whether the loop goes on: not refused, steps left to take, a ray left
 unfoldable pub goesOnOf : Check → ℕ → ℕ → ℕ → Bool
@@ -109,10 +109,10 @@ goesOnOf Passed k len left = ltb 0 k && (ltb 0 len || ltb 0 left)
 goesOnOf (Refused e place) k len left = false
 
 -- a refusal at another place
-abbrev pub replaced : Check → ℕ → Check
-replaced Passed place = Passed
-replaced (Refused e at) place = Refused e place
+abbrev pub placedOf : Check → ℕ → Check
+placedOf Passed place = Passed
+placedOf (Refused e at) place = Refused e place
 
-abbrev pub settledBy : Check → NonSeqTraceReport → NonSeqTraceReport → NonSeqTraceReport
-settledBy Passed found after = after
-settledBy (Refused e at) found after = countedOf found
+abbrev pub settledOf : Check → NonSeqTraceReport → NonSeqTraceReport → NonSeqTraceReport
+settledOf Passed found after = after
+settledOf (Refused e at) found after = countedOf found

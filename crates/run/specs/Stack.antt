@@ -8,7 +8,7 @@ use lib.ListN.{getD, set, replicate}
 use Rattle.rays.specs.Vectors.{vec3}
 use Rattle.step.specs.declared.ActiveRay.{ActiveRay}
 use Rattle.step.specs.Rays.{Step}
-use Rattle.given_rays.specs.Given.{blank}
+use Rattle.given_rays.specs.Given.{noRayOf}
 use Rattle.run.specs.declared.stack.Stack.{Stack}
 use Rattle.run.specs.declared.stack.Taken.{Taken}
 use Rattle.run.specs.declared.stack.Coming.{Coming}
@@ -28,18 +28,18 @@ noRay =
       media = record { list = []; depth = 0 };
     }
 
-unfoldable pub emptyStack : Stack
-emptyStack = record { rays = replicate 17 blank; len = 0 }
+unfoldable pub emptyStackOf : Stack
+emptyStackOf = record { rays = replicate 17 noRayOf; len = 0 }
 
 -- the last given ray that is left
-unfoldable pub loadedOf : (ℕ → ActiveRay) → ℕ → Taken
-loadedOf given left = record { ray = given (left - 1); left = left - 1 }
+unfoldable pub loadOf : (ℕ → ActiveRay) → ℕ → Taken
+loadOf given left = record { ray = given (left - 1); left = left - 1 }
 
 -- the newest ray and the given rays left: the top of the stack, or else a given ray
-unfoldable pub takenOf : (ℕ → ActiveRay) → Stack → ℕ → Taken
-takenOf given s left =
+unfoldable pub takenFrom : (ℕ → ActiveRay) → Stack → ℕ → Taken
+takenFrom given s left =
     cond (ltb 0 (s .len) && leb (s .len) maxRays) (record { ray = getD (s .rays) (s .len - 1) noRay; left = left })
-    (loadedOf given left)
+    (loadOf given left)
 
 unfoldable pub pushed : Stack → ActiveRay → Stack
 pushed s a = record { rays = set (s .rays) (s .len) a; len = s .len + 1 }
@@ -51,30 +51,30 @@ unfoldable pub popped : Stack → Stack
 popped s = record { rays = s .rays; len = s .len - 1 }
 
 -- the newest ray is gone, the reflected one is pushed, then the transmitted one; a stack without room for both takes neither, which no tracing meets
-unfoldable pub afterOf : Stack → Step → Stack
-afterOf s e =
+unfoldable pub stackAfter : Stack → Step → Stack
+stackAfter s e =
     cond (ltb (popped s .len) 16) (pushedIf (e .second) (pushedIf (e .«first») (popped s) (e .reflected)) (e .transmitted)) (popped s)
 
 -- ---- the same as the code does it
 
-unfoldable pub topAt : ℕ → ℕ
-topAt len = cond (ltb 0 len && leb len maxRays) (len - 1) 0
+unfoldable pub topAtOf : ℕ → ℕ
+topAtOf len = cond (ltb 0 len && leb len maxRays) (len - 1) 0
 
-unfoldable pub takenBy : (ℕ → ActiveRay) → ActiveRay → ℕ → ℕ → Taken
-takenBy given top len left = cond (ltb 0 len && leb len maxRays) (record { ray = top; left = left }) (loadedOf given left)
+unfoldable pub takeOf : (ℕ → ActiveRay) → ActiveRay → ℕ → ℕ → Taken
+takeOf given top len left = cond (ltb 0 len && leb len maxRays) (record { ray = top; left = left }) (loadOf given left)
 
 unfoldable pub slotOf : ℕ → ℕ
 slotOf at = cond (ltb at 16) at 0
 
-unfoldable pub comingOf : Bool → Bool → ℕ → Coming
-comingOf made also at = cond (ltb at 16) (cond made (cond also Both Reflected) (cond also Transmitted Nothing)) Nothing
+unfoldable pub raysComingOf : Bool → Bool → ℕ → Coming
+raysComingOf made also at = cond (ltb at 16) (cond made (cond also Both Reflected) (cond also Transmitted Nothing)) Nothing
 
 -- the places with the rays that come, from place i on
-abbrev pub storedOf : Coming → List ActiveRay → ℕ → ActiveRay → ActiveRay → List ActiveRay
-storedOf Both l i r t = set (set l i r) (i + 1) t
-storedOf Reflected l i r t = set l i r
-storedOf Transmitted l i r t = set l i t
-storedOf Nothing l i r t = l
+abbrev pub storedRays : Coming → List ActiveRay → ℕ → ActiveRay → ActiveRay → List ActiveRay
+storedRays Both l i r t = set (set l i r) (i + 1) t
+storedRays Reflected l i r t = set l i r
+storedRays Transmitted l i r t = set l i t
+storedRays Nothing l i r t = l
 
 unfoldable pub heightOf : Bool → Bool → ℕ → ℕ
 heightOf made also at = cond (ltb at 16) (cond made (cond also (at + 1 + 1) (at + 1)) (cond also (at + 1) at)) at

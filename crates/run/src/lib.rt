@@ -13,10 +13,10 @@ pub use stack::Stack;
 pub use stack::Taken;
 use step::NonSeqTraceConfig;
 ghost use mathlib.Core.Path.{_≡_};
-ghost use Rattle.memory.specs.Memory.{memoryOf, recordHit};
-ghost use Rattle.step.specs.Rays.{sceneOf};
-ghost use Rattle.given_rays.specs.Given.{givenOf};
-ghost use Rattle.run.specs.Run.{advancedOf, drive};
+ghost use Rattle.memory.specs.Memory.{lentMemory, recordOf};
+ghost use Rattle.step.specs.Rays.{listedScene};
+ghost use Rattle.given_rays.specs.Given.{givenAtOf};
+ghost use Rattle.run.specs.Run.{asAdvanced, drive};
 
 // Where a run stands: the work stack, how many given rays are left, what it has added up.
 pub struct Progress {
@@ -52,10 +52,10 @@ pub fn advance(
     kinds: &mut [u32],
     used: usize,
 ) -> Advanced
-    ensures { λ r. ⌜ advancedOf r (now (flux .exit)) (now (hits .exit)) (now (places .exit)) (now (kinds .exit))
-        ≡ drive recordHit (sceneOf (now (values .entry)) (now (tags .entry)) count faces config)
-        (givenOf (now (rays .entry)) (now (marks .entry))) steps
-        (memoryOf detectors (now (flux .entry)) (now (hits .entry)) (now (places .entry)) (now (kinds .entry)) used) progress ⌝ }
+    ensures { λ r. ⌜ asAdvanced r (now (flux .exit)) (now (hits .exit)) (now (places .exit)) (now (kinds .exit))
+        ≡ drive recordOf (listedScene (now (values .entry)) (now (tags .entry)) count faces config)
+        (givenAtOf (now (rays .entry)) (now (marks .entry))) steps
+        (lentMemory detectors (now (flux .entry)) (now (hits .entry)) (now (places .entry)) (now (kinds .entry)) used) progress ⌝ }
 {
     let mut check = Check::Passed;
     let mut stack = progress.stack;

@@ -4,9 +4,9 @@ use detector::DetectorHit;
 use report::NonSeqTraceReport;
 use step::Fate;
 ghost use mathlib.Core.Path.{_≡_};
-ghost use Rattle.error.specs.Refusals.{checkOf};
-ghost use Rattle.step.specs.Rays.{endOf};
-ghost use Rattle.run.specs.Run.{hitIn, refusalIn, catchOf, goesOnOf, replaced, settledBy};
+ghost use Rattle.error.specs.Refusals.{asChecked};
+ghost use Rattle.step.specs.Rays.{asEnd};
+ghost use Rattle.run.specs.Run.{hitInOf, refusalInOf, asCatch, goesOnOf, placedOf, settledOf};
 
 // The hit that a step brings, if any.
 pub enum Catch {
@@ -15,7 +15,7 @@ pub enum Catch {
 }
 
 pub(crate) fn hit_in(fate: Fate) -> Catch
-    ensures { λ r. ⌜ catchOf r ≡ hitIn (endOf fate) ⌝ }
+    ensures { λ r. ⌜ asCatch r ≡ hitInOf (asEnd fate) ⌝ }
 {
     match fate {
         Fate::Dim => Catch::Nothing,
@@ -34,7 +34,7 @@ pub(crate) fn hit_in(fate: Fate) -> Catch
 
 // A step's refusal (14 to 16), at the given ray's place.
 pub(crate) fn refusal_in(fate: Fate, place: u32) -> Check
-    ensures { λ r. ⌜ checkOf r ≡ refusalIn (endOf fate) place ⌝ }
+    ensures { λ r. ⌜ asChecked r ≡ refusalInOf (asEnd fate) place ⌝ }
 {
     match fate {
         Fate::Dim => Check::Passed,
@@ -53,7 +53,7 @@ pub(crate) fn refusal_in(fate: Fate, place: u32) -> Check
 
 // A recording's refusal, at the given ray's place.
 pub(crate) fn placed(check: Check, place: u32) -> Check
-    ensures { λ r. ⌜ r ≡ replaced check place ⌝ }
+    ensures { λ r. ⌜ r ≡ placedOf check place ⌝ }
 {
     match check {
         Check::Passed => Check::Passed,
@@ -67,7 +67,7 @@ pub(crate) fn settled(
     found: NonSeqTraceReport,
     after: NonSeqTraceReport,
 ) -> NonSeqTraceReport
-    ensures { λ r. ⌜ r ≡ settledBy check found after ⌝ }
+    ensures { λ r. ⌜ r ≡ settledOf check found after ⌝ }
 {
     match check {
         Check::Passed => after,

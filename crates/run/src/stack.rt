@@ -2,8 +2,8 @@
 use step::ActiveRay;
 ghost use mathlib.Core.Path.{_≡_};
 ghost use Prim.Native.Nat.{_-_, _<_};
-ghost use Rattle.given_rays.specs.Given.{givenOf};
-ghost use Rattle.run.specs.Stack.{emptyStack, loadedOf, topAt, takenBy, slotOf, comingOf, heightOf};
+ghost use Rattle.given_rays.specs.Given.{givenAtOf};
+ghost use Rattle.run.specs.Stack.{emptyStackOf, loadOf, topAtOf, takeOf, slotOf, raysComingOf, heightOf};
 
 pub struct Stack {
     pub rays: [ActiveRay; 17],
@@ -36,7 +36,7 @@ fn fewer(left: u32) -> u32
 
 // The last given ray that is left.
 fn load(left: u32, values: &[f64], tags: &[u32]) -> Taken
-    ensures { λ r. ⌜ r ≡ loadedOf (givenOf (now (values .entry)) (now (tags .entry))) left ⌝ }
+    ensures { λ r. ⌜ r ≡ loadOf (givenAtOf (now (values .entry)) (now (tags .entry))) left ⌝ }
 {
     let next = fewer(left);
     Taken {
@@ -47,7 +47,7 @@ fn load(left: u32, values: &[f64], tags: &[u32]) -> Taken
 
 // Where the newest ray stands; 0 for a stack that holds none.
 pub(crate) fn top_at(len: usize) -> usize
-    ensures { λ r. ⌜ (r ≡ topAt len) × (r < 17) ⌝ }
+    ensures { λ r. ⌜ (r ≡ topAtOf len) × (r < 17) ⌝ }
 {
     if 0 < len {
         if len <= 17 {
@@ -60,7 +60,7 @@ pub(crate) fn top_at(len: usize) -> usize
 
 // The newest ray: the top of the stack, or else the last given ray that is left.
 pub(crate) fn take(top: ActiveRay, len: usize, left: u32, values: &[f64], tags: &[u32]) -> Taken
-    ensures { λ r. ⌜ r ≡ takenBy (givenOf (now (values .entry)) (now (tags .entry))) top len left ⌝ }
+    ensures { λ r. ⌜ r ≡ takeOf (givenAtOf (now (values .entry)) (now (tags .entry))) top len left ⌝ }
 {
     if 0 < len {
         if len <= 17 {
@@ -93,7 +93,7 @@ pub(crate) fn slot(at: usize) -> usize
 
 // Which rays come of a step; a stack without room for two takes none.
 pub(crate) fn rays_coming(first: bool, second: bool, at: usize) -> Coming
-    ensures { λ r. ⌜ r ≡ comingOf first second at ⌝ }
+    ensures { λ r. ⌜ r ≡ raysComingOf first second at ⌝ }
 {
     if at < 16 {
         if first {
@@ -131,7 +131,7 @@ pub(crate) fn height(first: bool, second: bool, at: usize) -> usize
 
 impl Stack {
     pub fn empty() -> Stack
-        ensures { λ r. ⌜ r ≡ emptyStack ⌝ }
+        ensures { λ r. ⌜ r ≡ emptyStackOf ⌝ }
     {
         let blank = given_rays::no_ray();
         let rays = [blank; 17];

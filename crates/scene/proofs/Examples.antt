@@ -5,24 +5,24 @@ use mathlib.Core.Bool.{true}
 use mathlib.Core.List.{List, [], _∷_}
 use mathlib.Core.Option.{none, some}
 use lib.Ieee.{Float, binary64, add, sub, mul, div, neg, lt, le, ofBits, toBits}
-use Rattle.doubles.specs.Doubles.{absOf, finiteOf}
+use Rattle.doubles.specs.Doubles.{absOf, isFiniteOf}
 use Rattle.doubles.specs.Root.{sqrtOf}
 use Rattle.error.specs.Refusals.{passed, refusedAt}
 use Rattle.rays.specs.declared.Ray.{Ray}
 use Rattle.rays.specs.declared.matrix.Mat4.{Mat4}
-use Rattle.rays.specs.Rays.{atOf, newRayOf, finiteRayOf}
-use Rattle.rays.specs.Vectors.{vec3, dotOf, plusOf, minusOf, scaleOf, divideOf, negateOf, normOf, finiteVecOf}
+use Rattle.rays.specs.Rays.{atOf, newRayOf, isFiniteRayOf}
+use Rattle.rays.specs.Vectors.{vec3, dotOf, plusOf, minusOf, scaleOf, divideOf, negateOf, normOf, isFiniteVecOf}
 use Rattle.rays.specs.Matrices.{rowTimesOf, timesOf, transposeOf, transformPointOf, transformDirectionOf, transformNormalOf}
 use Rattle.geometry.specs.declared.PrimitiveGeometry.the-variants.{Sphere}
-use Rattle.geometry.specs.Hits.{firstOf}
+use Rattle.geometry.specs.Hits.{firstThere}
 use Rattle.geometry.specs.Round.{intersectSphereOf, sphereAmongOf, sphereAtOf, solveOf}
 use Rattle.geometry.specs.Shapes.{intersectLocalOf}
-use Rattle.geometry.specs.Transforms.{unitOf, madeOf, rayAlongOf, inverseTransformRayOf, worldNormalOf}
-use Rattle.nearest.specs.Nearest.{nearestFrom, nearestOf}
+use Rattle.geometry.specs.Transforms.{unitOf, madeRay, rayAlong, inverseTransformRayOf, worldNormalOf}
+use Rattle.nearest.specs.Nearest.{nearestFrom, nearestAmong}
 use Rattle.scene.specs.declared.NonSeqObject.{NonSeqObject}
-use Rattle.scene.specs.Objects.{approachAtOf, approachByOf, approachAlongOf, approachFromOf, approachOf, facingOf, turnedOf, arriveWithOf, arriveOf, arriveFromOf, intersectOf}
+use Rattle.scene.specs.Objects.{approachPoint, approachBy, approachAlong, approachFrom, approachOf, facingOf, turnedOf, arriveWith, arriveOf, arriveFrom, intersectOf}
 use Rattle.scene.specs.Solids.{tagsFitOf, checkTagsOf, checkSolidsOf}
-use Rattle.scene.specs.Closest.{closestOf, intersectClosestOf}
+use Rattle.scene.specs.Closest.{closestObjectOf, intersectClosestObjectOf}
 
 abbrev #0 : Float
 #0 = ofBits binary64 0
@@ -52,23 +52,23 @@ zeros a (suc n) = a ∷ zeros a n
 -- ---- refusals
 
 -- no solids, no hit
-pub empty-scene : (r : Ray) → intersectClosestOf [] [] 0 r ≡ passed none
-unfolding intersectClosestOf checkSolidsOf checkTagsOf closestOf nearestOf nearestFrom
+pub empty-scene : (r : Ray) → intersectClosestObjectOf [] [] 0 r ≡ passed none
+unfolding intersectClosestObjectOf checkSolidsOf checkTagsOf closestObjectOf nearestAmong nearestFrom
 empty-scene r = refl
 
 -- one solid announced and none given
-pub short-lists : (r : Ray) → intersectClosestOf [] [] 1 r ≡ refusedAt 17 0
-unfolding intersectClosestOf checkSolidsOf
+pub short-lists : (r : Ray) → intersectClosestObjectOf [] [] 1 r ≡ refusedAt 17 0
+unfolding intersectClosestObjectOf checkSolidsOf
 short-lists r = refl
 
 -- the second of two solids has shape 9
-pub shape-9 : (r : Ray) → intersectClosestOf (zeros #0 84) (0 ∷ 0 ∷ 0 ∷ 0 ∷ 9 ∷ 0 ∷ 0 ∷ 0 ∷ []) 2 r ≡ refusedAt 17 1
-unfolding intersectClosestOf checkSolidsOf checkTagsOf tagsFitOf
+pub shape-9 : (r : Ray) → intersectClosestObjectOf (zeros #0 84) (0 ∷ 0 ∷ 0 ∷ 0 ∷ 9 ∷ 0 ∷ 0 ∷ 0 ∷ []) 2 r ≡ refusedAt 17 1
+unfolding intersectClosestObjectOf checkSolidsOf checkTagsOf tagsFitOf
 shape-9 r = refl
 
 -- 33 solids
-pub too-many : (r : Ray) → intersectClosestOf (zeros #0 1386) (zeros 0 132) 33 r ≡ refusedAt 3 0
-unfolding intersectClosestOf checkSolidsOf checkTagsOf tagsFitOf
+pub too-many : (r : Ray) → intersectClosestObjectOf (zeros #0 1386) (zeros 0 132) 33 r ≡ refusedAt 3 0
+unfolding intersectClosestObjectOf checkSolidsOf checkTagsOf tagsFitOf
 too-many r = refl
 
 -- ---- a sphere of radius 1 at (0, 0, 10), twice as long along z, met from the origin along +z: 4 away in its own coordinates, 8 in the world
@@ -96,5 +96,5 @@ abbrev ahead : Ray
 ahead = record { origin = vec3 #0 #0 #0; direction = vec3 #0 #0 #1; «wavelength_nm» = #1; energy = #1 }
 
 pub world-distance : intersectOf long-sphere ahead ≡ some (record { t = #8; point = vec3 #0 #0 #8; normal = vec3 #0 #0 (neg #1); «geometric_normal» = vec3 #0 #0 (neg #1); «object_id» = record { 0 = 3 }; entering = true })
-unfolding intersectOf arriveFromOf arriveOf arriveWithOf turnedOf facingOf approachOf approachFromOf approachAlongOf approachByOf approachAtOf inverseTransformRayOf rayAlongOf unitOf madeOf worldNormalOf intersectLocalOf intersectSphereOf sphereAmongOf sphereAtOf solveOf firstOf rowTimesOf timesOf transposeOf transformPointOf transformDirectionOf transformNormalOf atOf newRayOf finiteRayOf dotOf plusOf minusOf scaleOf divideOf negateOf normOf finiteVecOf sqrtOf absOf finiteOf add sub mul div neg lt le ofBits toBits
+unfolding intersectOf arriveFrom arriveOf arriveWith turnedOf facingOf approachOf approachFrom approachAlong approachBy approachPoint inverseTransformRayOf rayAlong unitOf madeRay worldNormalOf intersectLocalOf intersectSphereOf sphereAmongOf sphereAtOf solveOf firstThere rowTimesOf timesOf transposeOf transformPointOf transformDirectionOf transformNormalOf atOf newRayOf isFiniteRayOf dotOf plusOf minusOf scaleOf divideOf negateOf normOf isFiniteVecOf sqrtOf absOf isFiniteOf add sub mul div neg lt le ofBits toBits
 world-distance = refl

@@ -18,33 +18,33 @@ use Rattle.scene.specs.declared.SolidNo.{SolidNo}
 use Rattle.scene.specs.declared.NonSeqObject.{NonSeqObject}
 use Rattle.scene.specs.declared.NonSeqHit.{NonSeqHit}
 use Rattle.scene.specs.declared.object.Approach.{Approach}
-use Rattle.scene.specs.Objects.{approachOf, turnedOf, arriveWithOf, arriveOf, arriveFromOf, intersectOf}
-use Rattle.scene.specs.Solids.{holds, solidAt, readObjectOf}
-use Rattle.scene.specs.Closest.{hitDistance, offerOf, offersOf, closestOf}
+use Rattle.scene.specs.Objects.{approachOf, turnedOf, arriveWith, arriveOf, arriveFrom, intersectOf}
+use Rattle.scene.specs.Solids.{holds, objectAtOf, readObjectOf}
+use Rattle.scene.specs.Closest.{hitDistance, offerBy, offersIn, closestObjectOf}
 
 -- below all others, first among equals
-pub closest-is : (f : ℕ → Option NonSeqObject) (n : ℕ) (r : Ray) → IsNearest NonSeqHit hitDistance (offersOf f r) n (closestOf f n r)
-unfolding closestOf
-closest-is f n r = nearest-is NonSeqHit hitDistance (offersOf f r) n
+pub closest-is : (f : ℕ → Option NonSeqObject) (n : ℕ) (r : Ray) → IsNearest NonSeqHit hitDistance (offersIn f r) n (closestObjectOf f n r)
+unfolding closestObjectOf
+closest-is f n r = nearest-is NonSeqHit hitDistance (offersIn f r) n
 
 -- and nothing else is
-pub closest-only : (f : ℕ → Option NonSeqObject) (n : ℕ) (r : Ray) (h : Option NonSeqHit) → IsNearest NonSeqHit hitDistance (offersOf f r) n h → h ≡ closestOf f n r
-closest-only f n r h p = nearest-only NonSeqHit hitDistance (offersOf f r) n h (closestOf f n r) p (closest-is f n r)
+pub closest-only : (f : ℕ → Option NonSeqObject) (n : ℕ) (r : Ray) (h : Option NonSeqHit) → IsNearest NonSeqHit hitDistance (offersIn f r) n h → h ≡ closestObjectOf f n r
+closest-only f n r h p = nearest-only NonSeqHit hitDistance (offersIn f r) n h (closestObjectOf f n r) p (closest-is f n r)
 
 -- "no hit" is given precisely if no solid offers a distance that counts
-pub no-hit-iff : (f : ℕ → Option NonSeqObject) (n : ℕ) (r : Ray) → (closestOf f n r ≡ none) ↔ NoneCounts NonSeqHit hitDistance (offersOf f r) n
-unfolding closestOf
-no-hit-iff f n r = none-iff NonSeqHit hitDistance (offersOf f r) n
+pub no-hit-iff : (f : ℕ → Option NonSeqObject) (n : ℕ) (r : Ray) → (closestObjectOf f n r ≡ none) ↔ NoneCounts NonSeqHit hitDistance (offersIn f r) n
+unfolding closestObjectOf
+no-hit-iff f n r = none-iff NonSeqHit hitDistance (offersIn f r) n
 
 -- ---- a hit names its solid
 
-number-with : (o : NonSeqObject) (r : Ray) (a : Approach) (n : Option Vec3) (h : NonSeqHit) → arriveWithOf o r a n ≡ some h → h .«object_id» ≡ o .id
-unfolding arriveWithOf turnedOf
+number-with : (o : NonSeqObject) (r : Ray) (a : Approach) (n : Option Vec3) (h : NonSeqHit) → arriveWith o r a n ≡ some h → h .«object_id» ≡ o .id
+unfolding arriveWith turnedOf
 number-with o r a none h e = absurd (Option·none-ne-some h e)
 number-with o r a (some n) h e = ap (λ (g : NonSeqHit). g .«object_id») (sym (Option·some-injective (turnedOf o r a n) h e))
 
-number-from : (o : NonSeqObject) (r : Ray) (a : Option Approach) (h : NonSeqHit) → arriveFromOf o r a ≡ some h → h .«object_id» ≡ o .id
-unfolding arriveFromOf arriveOf
+number-from : (o : NonSeqObject) (r : Ray) (a : Option Approach) (h : NonSeqHit) → arriveFrom o r a ≡ some h → h .«object_id» ≡ o .id
+unfolding arriveFrom arriveOf
 number-from o r none h e = absurd (Option·none-ne-some h e)
 number-from o r (some a) h e = number-with o r a (worldNormalOf (o .transform) (a .local .normal)) h e
 
@@ -53,10 +53,10 @@ unfolding intersectOf
 number-is o r h e = number-from o r (approachOf o r) h e
 
 -- of flat lists: the place
-pub place-is : (x : List Float) (k : List ℕ) (r : Ray) (i : ℕ) (h : NonSeqHit) → offersOf (solidAt x k) r i ≡ some h → h .«object_id» .0 ≡ i
-unfolding solidAt offerOf readObjectOf
+pub place-is : (x : List Float) (k : List ℕ) (r : Ray) (i : ℕ) (h : NonSeqHit) → offersIn (objectAtOf x k) r i ≡ some h → h .«object_id» .0 ≡ i
+unfolding objectAtOf offerBy readObjectOf
 place-is x k r i h e = at-place (holds x k i && leb (getD k (i * 4) 0) lastShape) e
   where
-    at-place : (b : Bool) → offerOf (cond b (some (readObjectOf x k i)) none) r ≡ some h → h .«object_id» .0 ≡ i
+    at-place : (b : Bool) → offerBy (cond b (some (readObjectOf x k i)) none) r ≡ some h → h .«object_id» .0 ≡ i
     at-place true p = ap (λ (s : SolidNo). s .0) (number-is (readObjectOf x k i) r h p)
     at-place false p = absurd (Option·none-ne-some h p)

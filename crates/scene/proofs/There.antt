@@ -14,7 +14,7 @@ use Rattle.doubles.proofs.Floats.{clash}
 use Rattle.nearest.proofs.Order.{and-left}
 use Rattle.error.specs.Refusals.{Checked, passed, refusedAt}
 use Rattle.geometry.specs.Shapes.{lastShape}
-use Rattle.scene.specs.Solids.{holds, solidAt, readObjectOf, tagsFitOf, checkTagsOf, checkSolidsOf}
+use Rattle.scene.specs.Solids.{holds, objectAtOf, readObjectOf, tagsFitOf, checkTagsOf, checkSolidsOf}
 use Rattle.scene.proofs.Checks.{fit-at}
 
 equal : {a b : ℕ} → eqb a b ≡ true → a ≡ b
@@ -57,8 +57,8 @@ pub checked-fit : (x : List Float) (k : List ℕ) (n i : ℕ) → checkSolidsOf 
 checked-fit x k n i e l = tags-passed k n 0 i (lengths x k n e .1) (omega arith) (omega arith)
 
 -- so the search looks at every solid of the count
-pub checked-there : (x : List Float) (k : List ℕ) (n i : ℕ) → checkSolidsOf x k n ≡ passed tt → i < n → solidAt x k i ≡ some (readObjectOf x k i)
-unfolding solidAt holds tagsFitOf
+pub checked-there : (x : List Float) (k : List ℕ) (n i : ℕ) → checkSolidsOf x k n ≡ passed tt → i < n → objectAtOf x k i ≡ some (readObjectOf x k i)
+unfolding objectAtOf holds tagsFitOf
 checked-there x k n i e l =
     let u = lengths x k n e in
     let v : length x ≡ n * 42 = u .0 .0 in

@@ -21,36 +21,36 @@ use Rattle.scene.specs.declared.object.Approach.{Approach}
 use Rattle.scene.specs.declared.object.Approached as met
 
 -- what the code's answers say
-abbrev pub hitOf : hits.Intersection → Option NonSeqHit
-hitOf (hits.the-variants.Hit h) = some h
-hitOf hits.the-variants.Miss = none
+abbrev pub asHit : hits.Intersection → Option NonSeqHit
+asHit (hits.the-variants.Hit h) = some h
+asHit hits.the-variants.Miss = none
 
-abbrev pub metOf : met.Approached → Option Approach
-metOf (met.the-variants.At a) = some a
-metOf met.the-variants.Miss = none
+abbrev pub asApproach : met.Approached → Option Approach
+asApproach (met.the-variants.At a) = some a
+asApproach met.the-variants.Miss = none
 
 -- a point and a hit in the solid's coordinates: the distance is the world offset dotted with the direction
-unfoldable pub approachAtOf : NonSeqObject → Ray → Vec3 → LocalHit → Option Approach
-approachAtOf o r p h =
+unfoldable pub approachPoint : NonSeqObject → Ray → Vec3 → LocalHit → Option Approach
+approachPoint o r p h =
     let q = transformPointOf (o .transform .matrix) p in
     let t = dotOf (minusOf q (r .origin)) (r .direction) in
     cond (le t minWorldDistance) none (some (record { t = t; point = q; local = h }))
 
-unfoldable pub approachByOf : NonSeqObject → Ray → Ray → Option LocalHit → Option Approach
-approachByOf o r q (some h) = approachAtOf o r (atOf q (h .t)) h
-approachByOf o r q none = none
+unfoldable pub approachBy : NonSeqObject → Ray → Ray → Option LocalHit → Option Approach
+approachBy o r q (some h) = approachPoint o r (atOf q (h .t)) h
+approachBy o r q none = none
 
 -- q is the ray in the solid's coordinates
-unfoldable pub approachAlongOf : NonSeqObject → Ray → Ray → Option Approach
-approachAlongOf o r q = approachByOf o r q (intersectLocalOf (o .geometry) q)
+unfoldable pub approachAlong : NonSeqObject → Ray → Ray → Option Approach
+approachAlong o r q = approachBy o r q (intersectLocalOf (o .geometry) q)
 
-unfoldable pub approachFromOf : NonSeqObject → Ray → Option Ray → Option Approach
-approachFromOf o r (some q) = approachAlongOf o r q
-approachFromOf o r none = none
+unfoldable pub approachFrom : NonSeqObject → Ray → Option Ray → Option Approach
+approachFrom o r (some q) = approachAlong o r q
+approachFrom o r none = none
 
 -- an inactive solid is not met
 unfoldable pub approachOf : NonSeqObject → Ray → Option Approach
-approachOf o r = cond (o .«is_active») (approachFromOf o r (inverseTransformRayOf (o .transform) r)) none
+approachOf o r = cond (o .«is_active») (approachFrom o r (inverseTransformRayOf (o .transform) r)) none
 
 unfoldable pub facingOf : Vec3 → Bool → Vec3
 facingOf n entering = cond entering n (negateOf n)
@@ -68,19 +68,19 @@ turnedOf o r a n =
       entering = entering;
     }
 
-unfoldable pub arriveWithOf : NonSeqObject → Ray → Approach → Option Vec3 → Option NonSeqHit
-arriveWithOf o r a (some n) = some (turnedOf o r a n)
-arriveWithOf o r a none = none
+unfoldable pub arriveWith : NonSeqObject → Ray → Approach → Option Vec3 → Option NonSeqHit
+arriveWith o r a (some n) = some (turnedOf o r a n)
+arriveWith o r a none = none
 
 unfoldable pub arriveOf : NonSeqObject → Ray → Approach → Option NonSeqHit
-arriveOf o r a = arriveWithOf o r a (worldNormalOf (o .transform) (a .local .normal))
+arriveOf o r a = arriveWith o r a (worldNormalOf (o .transform) (a .local .normal))
 
-unfoldable pub arriveFromOf : NonSeqObject → Ray → Option Approach → Option NonSeqHit
-arriveFromOf o r (some a) = arriveOf o r a
-arriveFromOf o r none = none
+unfoldable pub arriveFrom : NonSeqObject → Ray → Option Approach → Option NonSeqHit
+arriveFrom o r (some a) = arriveOf o r a
+arriveFrom o r none = none
 
 unfoldable pub intersectOf : NonSeqObject → Ray → Option NonSeqHit
-intersectOf o r = arriveFromOf o r (approachOf o r)
+intersectOf o r = arriveFrom o r (approachOf o r)
 
 -- ---- the same approach by a solid's parts: matrix m, inverse w, shape g
 
@@ -90,9 +90,9 @@ reachedOf m r p h =
     let t = dotOf (minusOf q (r .origin)) (r .direction) in
     cond (le t minWorldDistance) none (some (record { t = t; point = q; local = h }))
 
-unfoldable pub reachedByOf : Mat4 → Ray → Option Meeting → Option Approach
-reachedByOf m r (some k) = reachedOf m r (k .point) (k .hit)
-reachedByOf m r none = none
+unfoldable pub reachedBy : Mat4 → Ray → Option Meeting → Option Approach
+reachedBy m r (some k) = reachedOf m r (k .point) (k .hit)
+reachedBy m r none = none
 
-unfoldable pub partsOf : Bool → PrimitiveGeometry → Mat4 → Mat4 → Ray → Option Approach
-partsOf active g m w r = cond active (reachedByOf m r (meetOf g w r)) none
+unfoldable pub approachParts : Bool → PrimitiveGeometry → Mat4 → Mat4 → Ray → Option Approach
+approachParts active g m w r = cond active (reachedBy m r (meetOf g w r)) none

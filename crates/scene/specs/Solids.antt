@@ -13,33 +13,33 @@ use Rattle.material.specs.declared.OpticalMedium.{OpticalMedium}
 use Rattle.material.specs.declared.OpticalMedium.the-variants.{Air}
 use Rattle.material.specs.declared.SurfaceFinish.{SurfaceFinish}
 use Rattle.material.specs.declared.SurfaceFinish.the-variants.{Specular}
-use Rattle.material.specs.Media.{lastFinish, finishOf, lastMedium, mediumOf}
-use Rattle.geometry.specs.Shapes.{lastShape, shapeOf}
+use Rattle.material.specs.Media.{lastFinish, numberedFinishOf, lastMedium, numberedMediumOf}
+use Rattle.geometry.specs.Shapes.{lastShape, numberedGeometryOf}
 use Rattle.scene.specs.declared.SolidNo.{SolidNo}
 use Rattle.scene.specs.declared.NonSeqObject.{NonSeqObject}
 use Rattle.scene.specs.declared.solids.Listed.{Listed}
 use Rattle.scene.specs.declared.solids.Listed.the-variants.{Object, Nothing}
 
 -- double j and whole number j of solid i
-abbrev valueOf : List Float → ℕ → ℕ → Float
-valueOf x i j = getD x (i * 42 + j) nan
+abbrev valueAt : List Float → ℕ → ℕ → Float
+valueAt x i j = getD x (i * 42 + j) nan
 
-abbrev tagOf : List ℕ → ℕ → ℕ → ℕ
-tagOf k i j = getD k (i * 4 + j) 0
+abbrev tagAt : List ℕ → ℕ → ℕ → ℕ
+tagAt k i j = getD k (i * 4 + j) 0
 
-unfoldable pub rowAt : List Float → ℕ → Row
-rowAt x i = record { a = getD x i nan; b = getD x (i + 1) nan; c = getD x (i + 2) nan; d = getD x (i + 3) nan }
+unfoldable pub rowAtOf : List Float → ℕ → Row
+rowAtOf x i = record { a = getD x i nan; b = getD x (i + 1) nan; c = getD x (i + 2) nan; d = getD x (i + 3) nan }
 
-unfoldable pub matAt : List Float → ℕ → Mat4
-matAt x i = record { r0 = rowAt x i; r1 = rowAt x (i + 4); r2 = rowAt x (i + 8); r3 = rowAt x (i + 12) }
+unfoldable pub matAtOf : List Float → ℕ → Mat4
+matAtOf x i = record { r0 = rowAtOf x i; r1 = rowAtOf x (i + 4); r2 = rowAtOf x (i + 8); r3 = rowAtOf x (i + 12) }
 
 unfoldable pub readObjectOf : List Float → List ℕ → ℕ → NonSeqObject
 readObjectOf x k i =
     record {
       id = record { 0 = i };
-      geometry = shapeOf (getD k (i * 4) 0) (getD x (i * 42) nan) (valueOf x i 1) (valueOf x i 2);
-      transform = record { matrix = matAt x (i * 42 + 10); inverse = matAt x (i * 42 + 26) };
-      «is_active» = eqb (tagOf k i 1) 1;
+      geometry = numberedGeometryOf (getD k (i * 4) 0) (getD x (i * 42) nan) (valueAt x i 1) (valueAt x i 2);
+      transform = record { matrix = matAtOf x (i * 42 + 10); inverse = matAtOf x (i * 42 + 26) };
+      «is_active» = eqb (tagAt k i 1) 1;
     }
 
 -- whether both lists reach to the end of solid i
@@ -47,21 +47,21 @@ unfoldable pub holds : List Float → List ℕ → ℕ → Bool
 holds x k i = leb (i * 42 + 42) (length x) && leb (i * 4 + 4) (length k)
 
 -- solid i, where the lists hold it and its shape has a number that is one
-unfoldable pub solidAt : List Float → List ℕ → ℕ → Option NonSeqObject
-solidAt x k i = cond (holds x k i && leb (getD k (i * 4) 0) lastShape) (some (readObjectOf x k i)) none
+unfoldable pub objectAtOf : List Float → List ℕ → ℕ → Option NonSeqObject
+objectAtOf x k i = cond (holds x k i && leb (getD k (i * 4) 0) lastShape) (some (readObjectOf x k i)) none
 
 -- what the code's answer says
-abbrev pub listedOf : Listed → Option NonSeqObject
-listedOf (Object o) = some o
-listedOf Nothing = none
+abbrev pub asObject : Listed → Option NonSeqObject
+asObject (Object o) = some o
+asObject Nothing = none
 
-unfoldable pub finishAt : List Float → List ℕ → SolidNo → SurfaceFinish
-finishAt x k s = cond (holds x k (s .0)) (finishOf (tagOf k (s .0) 2) (valueOf x (s .0) 3)) Specular
+unfoldable pub finishAtOf : List Float → List ℕ → SolidNo → SurfaceFinish
+finishAtOf x k s = cond (holds x k (s .0)) (numberedFinishOf (tagAt k (s .0) 2) (valueAt x (s .0) 3)) Specular
 
-unfoldable pub mediumAt : List Float → List ℕ → SolidNo → OpticalMedium
-mediumAt x k s =
+unfoldable pub mediumAtOf : List Float → List ℕ → SolidNo → OpticalMedium
+mediumAtOf x k s =
     let i = s .0 in
-    cond (holds x k i) (mediumOf (tagOf k i 3) (valueOf x i 4) (valueOf x i 5) (valueOf x i 6) (valueOf x i 7) (valueOf x i 8) (valueOf x i 9)) Air
+    cond (holds x k i) (numberedMediumOf (tagAt k i 3) (valueAt x i 4) (valueAt x i 5) (valueAt x i 6) (valueAt x i 7) (valueAt x i 8) (valueAt x i 9)) Air
 
 -- shape 0 to 4, active 0 or 1, finish 0 to 2, medium 0 to 3
 unfoldable pub tagsFitOf : ℕ → ℕ → ℕ → ℕ → Bool
@@ -71,7 +71,7 @@ tagsFitOf shape active finish medium = leb shape lastShape && (leb active 1 && (
 unfoldable pub checkTagsOf : List ℕ → ℕ → ℕ → Checked Unit
 checkTagsOf k zero i = passed tt
 checkTagsOf k (suc n) i =
-    cond (tagsFitOf (getD k (i * 4) 0) (tagOf k i 1) (tagOf k i 2) (tagOf k i 3)) (checkTagsOf k n (i + 1)) (refusedAt 17 i)
+    cond (tagsFitOf (getD k (i * 4) 0) (tagAt k i 1) (tagAt k i 2) (tagAt k i 3)) (checkTagsOf k n (i + 1)) (refusedAt 17 i)
 
 -- 17 at 0 for lists of another length than n solids need
 unfoldable pub checkSolidsOf : List Float → List ℕ → ℕ → Checked Unit

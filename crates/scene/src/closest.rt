@@ -8,11 +8,11 @@ use error::Check;
 use error::NonSeqError;
 use rays::Ray;
 ghost use mathlib.Core.Path.{_≡_};
-ghost use Rattle.nearest.specs.Nearest.{distanceOf, nearerOf, nearestOf};
-ghost use Rattle.scene.specs.Objects.{hitOf};
-ghost use Rattle.scene.specs.Solids.{solidAt};
+ghost use Rattle.nearest.specs.Nearest.{distanceOf, nearerOf, nearestAmong};
+ghost use Rattle.scene.specs.Objects.{asHit};
+ghost use Rattle.scene.specs.Solids.{objectAtOf};
 ghost use Rattle.scene.specs.declared.closest.Candidate.{Candidate};
-ghost use Rattle.scene.specs.Closest.{closestOf, closestAnswerOf, intersectClosestOf, arrivedOf, keptOf, candidateDistance, candidatesOf, nearestIn};
+ghost use Rattle.scene.specs.Closest.{closestObjectOf, asClosest, intersectClosestObjectOf, arriveAtOf, isKeptOf, candidateDistance, candidatesIn, asCandidate};
 
 // The nearest solid or none, or the refusal and its place.
 pub enum Closest {
@@ -33,7 +33,7 @@ pub enum Nearest {
 
 // Infinite for nothing.
 fn distance(best: Nearest) -> f64
-    ensures { λ r. ⌜ r ≡ distanceOf Candidate candidateDistance (nearestIn best) ⌝ }
+    ensures { λ r. ⌜ r ≡ distanceOf Candidate candidateDistance (asCandidate best) ⌝ }
 {
     match best {
         Nearest::At(c) => c.approach.t,
@@ -43,7 +43,7 @@ fn distance(best: Nearest) -> f64
 
 // The hit of an approach to the solid at a place, if its normal can be made.
 fn arrive_at(values: &[f64], tags: &[u32], place: u32, ray: Ray, approach: Approach) -> Intersection
-    ensures { λ r. ⌜ hitOf r ≡ arrivedOf (solidAt (now (values .entry)) (now (tags .entry)) place) ray approach ⌝ }
+    ensures { λ r. ⌜ asHit r ≡ arriveAtOf (objectAtOf (now (values .entry)) (now (tags .entry)) place) ray approach ⌝ }
 {
     match solids::object_at(values, tags, place) {
         Listed::Object(object) => object.arrive(ray, approach),
@@ -53,7 +53,7 @@ fn arrive_at(values: &[f64], tags: &[u32], place: u32, ray: Ray, approach: Appro
 
 // Whether an approach to solid i is kept: in a strict search only if its normal can be made.
 fn is_kept(values: &[f64], tags: &[u32], i: u32, ray: Ray, strict: bool, approach: Approach) -> bool
-    ensures { λ r. ⌜ r ≡ keptOf strict (arrivedOf (solidAt (now (values .entry)) (now (tags .entry)) i) ray approach) ⌝ }
+    ensures { λ r. ⌜ r ≡ isKeptOf strict (arriveAtOf (objectAtOf (now (values .entry)) (now (tags .entry)) i) ray approach) ⌝ }
 {
     if strict {
         return match arrive_at(values, tags, i, ray, approach) {
@@ -73,7 +73,7 @@ fn nearer_candidate(
     strict: bool,
     best: Nearest,
 ) -> Nearest
-    ensures { λ r. ⌜ nearestIn r ≡ nearerOf Candidate candidateDistance (nearestIn best) (candidatesOf strict (solidAt (now (values .entry)) (now (tags .entry))) ray i) ⌝ }
+    ensures { λ r. ⌜ asCandidate r ≡ nearerOf Candidate candidateDistance (asCandidate best) (candidatesIn strict (objectAtOf (now (values .entry)) (now (tags .entry))) ray i) ⌝ }
 {
     match solids::approach_at(values, tags, i, ray) {
         Approached::At(approach) => {
@@ -91,7 +91,7 @@ fn nearer_candidate(
 
 // The nearest approach of the first `count` solids.
 fn nearest_candidate(values: &[f64], tags: &[u32], count: u32, ray: Ray, strict: bool) -> Nearest
-    ensures { λ r. ⌜ nearestIn r ≡ nearestOf Candidate candidateDistance (candidatesOf strict (solidAt (now (values .entry)) (now (tags .entry))) ray) count ⌝ }
+    ensures { λ r. ⌜ asCandidate r ≡ nearestAmong Candidate candidateDistance (candidatesIn strict (objectAtOf (now (values .entry)) (now (tags .entry))) ray) count ⌝ }
 {
     let mut best = Nearest::Nothing;
     let mut i: u32 = 0;
@@ -104,7 +104,7 @@ fn nearest_candidate(values: &[f64], tags: &[u32], count: u32, ray: Ray, strict:
 
 // With a normal for each approach that is nearer than those before it.
 fn closest_strictly(values: &[f64], tags: &[u32], count: u32, ray: Ray) -> Intersection
-    ensures { λ r. ⌜ hitOf r ≡ closestOf (solidAt (now (values .entry)) (now (tags .entry))) count ray ⌝ }
+    ensures { λ r. ⌜ asHit r ≡ closestObjectOf (objectAtOf (now (values .entry)) (now (tags .entry))) count ray ⌝ }
 {
     match nearest_candidate(values, tags, count, ray, true) {
         Nearest::At(c) => {
@@ -119,7 +119,7 @@ fn closest_strictly(values: &[f64], tags: &[u32], count: u32, ray: Ray) -> Inter
 // that have checked them. Only the nearest approach gets a normal; where that can't be made, the search is
 // made again.
 pub fn closest_object(values: &[f64], tags: &[u32], count: u32, ray: Ray) -> Intersection
-    ensures { λ r. ⌜ hitOf r ≡ closestOf (solidAt (now (values .entry)) (now (tags .entry))) count ray ⌝ }
+    ensures { λ r. ⌜ asHit r ≡ closestObjectOf (objectAtOf (now (values .entry)) (now (tags .entry))) count ray ⌝ }
 {
     match nearest_candidate(values, tags, count, ray, false) {
         Nearest::At(c) => {
@@ -135,7 +135,7 @@ pub fn closest_object(values: &[f64], tags: &[u32], count: u32, ray: Ray) -> Int
 
 // The nearest solid. Lists that do not fit are refused (17), then more than 32 solids (3).
 pub fn intersect_closest_object(values: &[f64], tags: &[u32], count: u32, ray: Ray) -> Closest
-    ensures { λ r. ⌜ closestAnswerOf r ≡ intersectClosestOf (now (values .entry)) (now (tags .entry)) count ray ⌝ }
+    ensures { λ r. ⌜ asClosest r ≡ intersectClosestObjectOf (now (values .entry)) (now (tags .entry)) count ray ⌝ }
 {
     match solids::check_solids(values, tags, count) {
         Check::Refused { error, place } => Closest::Refused { error, place },

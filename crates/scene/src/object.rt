@@ -9,7 +9,7 @@ use rays::Mat4;
 use rays::Ray;
 use rays::Vec3;
 ghost use mathlib.Core.Path.{_≡_};
-ghost use Rattle.scene.specs.Objects.{hitOf, metOf, facingOf, reachedOf, approachOf, turnedOf, arriveOf, intersectOf};
+ghost use Rattle.scene.specs.Objects.{asHit, asApproach, facingOf, reachedOf, approachOf, turnedOf, arriveOf, intersectOf};
 
 // Where a ray meets a solid, with the hit in the solid's own coordinates.
 pub struct Approach {
@@ -36,7 +36,7 @@ fn facing(n: Vec3, entering: bool) -> Vec3
 // A point and a hit in a solid's coordinates, brought into the world by the solid's matrix. The distance is
 // along the world's ray, whatever the scale of the solid's coordinates.
 pub(crate) fn reached(matrix: Mat4, ray: Ray, point: Vec3, local: LocalHit) -> Approached
-    ensures { λ a. ⌜ metOf a ≡ reachedOf matrix ray point local ⌝ }
+    ensures { λ a. ⌜ asApproach a ≡ reachedOf matrix ray point local ⌝ }
 {
     let met = matrix.transform_point(point);
     let t = met.minus(ray.origin).dot(ray.direction);
@@ -53,7 +53,7 @@ pub(crate) fn reached(matrix: Mat4, ray: Ray, point: Vec3, local: LocalHit) -> A
 impl NonSeqObject {
     // Where the ray meets the solid, its normal not yet looked at.
     pub fn approach(self, ray: Ray) -> Approached
-        ensures { λ a. ⌜ metOf a ≡ approachOf self ray ⌝ }
+        ensures { λ a. ⌜ asApproach a ≡ approachOf self ray ⌝ }
     {
         let geometry = self.geometry;
         let transform = self.transform;
@@ -89,7 +89,7 @@ impl NonSeqObject {
 
     // The hit, if its normal can be made.
     pub fn arrive(self, ray: Ray, a: Approach) -> Intersection
-        ensures { λ h. ⌜ hitOf h ≡ arriveOf self ray a ⌝ }
+        ensures { λ h. ⌜ asHit h ≡ arriveOf self ray a ⌝ }
     {
         let transform = self.transform;
         let local = a.local;
@@ -102,7 +102,7 @@ impl NonSeqObject {
     // Where a ray in the world meets the solid. An inactive solid, or a local ray or normal that can't
     // be made, is a miss.
     pub fn intersect(self, ray: Ray) -> Intersection
-        ensures { λ h. ⌜ hitOf h ≡ intersectOf self ray ⌝ }
+        ensures { λ h. ⌜ asHit h ≡ intersectOf self ray ⌝ }
     {
         match self.approach(ray) {
             Approached::At(a) => self.arrive(ray, a),

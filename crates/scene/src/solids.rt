@@ -18,10 +18,10 @@ use rays::Row;
 ghost use mathlib.Core.Path.{_≡_};
 ghost use Prim.Native.Nat.{_+_, _*_, _≤_};
 ghost use lib.ListN.{length};
-ghost use Rattle.error.specs.Refusals.{checkOf};
-ghost use Rattle.scene.specs.Objects.{metOf, approachOf};
-ghost use Rattle.scene.specs.Closest.{approachedOf};
-ghost use Rattle.scene.specs.Solids.{rowAt, matAt, readObjectOf, listedOf, solidAt, finishAt, mediumAt, tagsFitOf, checkTagsOf, checkSolidsOf};
+ghost use Rattle.error.specs.Refusals.{asChecked};
+ghost use Rattle.scene.specs.Objects.{asApproach, approachOf};
+ghost use Rattle.scene.specs.Closest.{approachAtOf};
+ghost use Rattle.scene.specs.Solids.{rowAtOf, matAtOf, readObjectOf, asObject, objectAtOf, finishAtOf, mediumAtOf, tagsFitOf, checkTagsOf, checkSolidsOf};
 
 pub enum Listed {
     Object(NonSeqObject),
@@ -30,7 +30,7 @@ pub enum Listed {
 
 fn row_at(values: &[f64], i: usize) -> Row
     requires { ⌜ i + 4 ≤ length (now values) ⌝ }
-    ensures { λ r. ⌜ r ≡ rowAt (now (values .entry)) i ⌝ }
+    ensures { λ r. ⌜ r ≡ rowAtOf (now (values .entry)) i ⌝ }
 {
     Row {
         a: values[i],
@@ -42,7 +42,7 @@ fn row_at(values: &[f64], i: usize) -> Row
 
 fn mat_at(values: &[f64], i: usize) -> Mat4
     requires { ⌜ i + 16 ≤ length (now values) ⌝ }
-    ensures { λ r. ⌜ r ≡ matAt (now (values .entry)) i ⌝ }
+    ensures { λ r. ⌜ r ≡ matAtOf (now (values .entry)) i ⌝ }
 {
     Mat4 {
         r0: row_at(values, i),
@@ -72,7 +72,7 @@ fn read_object(values: &[f64], tags: &[u32], i: u32) -> NonSeqObject
 
 // Solid i, if the lists hold it and its shape has a number that is one.
 pub fn object_at(values: &[f64], tags: &[u32], i: u32) -> Listed
-    ensures { λ r. ⌜ listedOf r ≡ solidAt (now (values .entry)) (now (tags .entry)) i ⌝ }
+    ensures { λ r. ⌜ asObject r ≡ objectAtOf (now (values .entry)) (now (tags .entry)) i ⌝ }
 {
     let b = i as usize * 4;
     if i as usize * 42 + 42 <= values.len() {
@@ -88,7 +88,7 @@ pub fn object_at(values: &[f64], tags: &[u32], i: u32) -> Listed
 // Where a ray meets solid i of lists that hold it. The solid's matrix is read only where its shape is met.
 fn approach_in(values: &[f64], tags: &[u32], i: u32, ray: Ray) -> Approached
     requires { ⌜ (i * 42 + 42 ≤ length (now values)) × (i * 4 + 4 ≤ length (now tags)) ⌝ }
-    ensures { λ r. ⌜ metOf r ≡ approachOf (readObjectOf (now (values .entry)) (now (tags .entry)) i) ray ⌝ }
+    ensures { λ r. ⌜ asApproach r ≡ approachOf (readObjectOf (now (values .entry)) (now (tags .entry)) i) ray ⌝ }
 {
     let a = i as usize * 42;
     let b = i as usize * 4;
@@ -113,7 +113,7 @@ fn approach_in(values: &[f64], tags: &[u32], i: u32, ray: Ray) -> Approached
 
 // Where a ray meets solid i, if the lists hold it.
 pub(crate) fn approach_at(values: &[f64], tags: &[u32], i: u32, ray: Ray) -> Approached
-    ensures { λ r. ⌜ metOf r ≡ approachedOf (solidAt (now (values .entry)) (now (tags .entry)) i) ray ⌝ }
+    ensures { λ r. ⌜ asApproach r ≡ approachAtOf (objectAtOf (now (values .entry)) (now (tags .entry)) i) ray ⌝ }
 {
     let shape = i as usize * 4;
     if i as usize * 42 + 42 <= values.len() {
@@ -128,7 +128,7 @@ pub(crate) fn approach_at(values: &[f64], tags: &[u32], i: u32, ray: Ray) -> App
 
 // The finish of a solid; clear for one that the lists do not hold.
 pub fn finish_at(values: &[f64], tags: &[u32], solid: SolidNo) -> SurfaceFinish
-    ensures { λ r. ⌜ r ≡ finishAt (now (values .entry)) (now (tags .entry)) solid ⌝ }
+    ensures { λ r. ⌜ r ≡ finishAtOf (now (values .entry)) (now (tags .entry)) solid ⌝ }
 {
     let i = solid.0;
     let a = i as usize * 42;
@@ -143,7 +143,7 @@ pub fn finish_at(values: &[f64], tags: &[u32], solid: SolidNo) -> SurfaceFinish
 
 // The medium of a solid; air for one that the lists do not hold.
 pub fn medium_at(values: &[f64], tags: &[u32], solid: SolidNo) -> OpticalMedium
-    ensures { λ r. ⌜ r ≡ mediumAt (now (values .entry)) (now (tags .entry)) solid ⌝ }
+    ensures { λ r. ⌜ r ≡ mediumAtOf (now (values .entry)) (now (tags .entry)) solid ⌝ }
 {
     let i = solid.0;
     let a = i as usize * 42;
@@ -181,7 +181,7 @@ fn tags_fit(shape: u32, active: u32, finish: u32, medium: u32) -> bool
 // The first solid whose whole numbers are not in range is refused (17).
 fn check_tags(tags: &[u32], count: u32) -> Check
     requires { ⌜ count * 4 ≤ length (now tags) ⌝ }
-    ensures { λ r. ⌜ checkOf r ≡ checkTagsOf (now (tags .entry)) count 0 ⌝ }
+    ensures { λ r. ⌜ asChecked r ≡ checkTagsOf (now (tags .entry)) count 0 ⌝ }
 {
     let mut i: u32 = 0;
     while i < count {
@@ -200,7 +200,7 @@ fn check_tags(tags: &[u32], count: u32) -> Check
 
 // Whether the lists are those of so many solids, each with whole numbers in range (17).
 pub fn check_solids(values: &[f64], tags: &[u32], count: u32) -> Check
-    ensures { λ r. ⌜ checkOf r ≡ checkSolidsOf (now (values .entry)) (now (tags .entry)) count ⌝ }
+    ensures { λ r. ⌜ asChecked r ≡ checkSolidsOf (now (values .entry)) (now (tags .entry)) count ⌝ }
 {
     if values.len() == count as usize * 42 {
         if tags.len() == count as usize * 4 {

@@ -8,12 +8,12 @@ use lib.Ieee.{Float, binary64, ofBits}
 use lib.ListN.{length, replicate}
 use borrow.Author.Tests.{ltb-false}
 use Rattle.fields.specs.Split.{before, later, split, isByteOf}
-use Rattle.fields.specs.Number.{digitOf, isHex, hexPad, bitsOf, isDecimal, decimalFrom, ledBy, wholeOf}
+use Rattle.fields.specs.Number.{digitOf, isHexOf, hexPadOf, readBitsOf, isDecimal, decimalFrom, isLedByZeroOf, readWholeOf}
 use Rattle.scene_text.specs.Names.{bytesOf, ended, runNames, runForm, solidNames, solidForm, detectorNames, detectorForm, rayNames, rayForm}
-use Rattle.scene_text.specs.Cells.{values, joined, doubleCell, wholeCell, below, filterOf, numberAs, mediaParts, countFrom, mediaFrom, mediaCell, mediaOf, cellOf}
-use Rattle.scene_text.specs.Lines.{isNil, has, behind, lineOf}
-use Rattle.scene_text.specs.Blocks.{sameOf, lineThen, oneLine, endsWell, linesTo, namesAt}
-use Rattle.scene_text.specs.Scene.{runOf, contentsOf, Tally, tally, tallyOf, Slices, filledWith, refused, answerOf, sceneOf}
+use Rattle.scene_text.specs.Cells.{values, joined, doubleCell, wholeCell, readBelowOf, readFilterOf, readNumberOf, mediaParts, countMediaOf, mediaFrom, mediaCell, readMediaOf, readCellOf}
+use Rattle.scene_text.specs.Lines.{isNil, has, behind, readRowOf}
+use Rattle.scene_text.specs.Blocks.{sameOf, lineThen, readOneOf, endsWellOf, readLinesOf, readNamesOf}
+use Rattle.scene_text.specs.Scene.{readRunOf, contentsIn, Tally, tally, tallied, Slices, filledWith, refused, answered, readSceneOf}
 use Rattle.scene_text.proofs.Gathering.{scene-short}
 
 abbrev #0 : Float
@@ -41,31 +41,31 @@ start =
 abbrev scene : List ℕ
 scene = start ++ line "3ff 3ff 0 0 0 3ff 40813 3ff 0 -"
 
-pub run-line : lineOf runForm (line "0 4 - 0 0 0 0 0 0 0") ≡ values true (#0 ∷ #0 ∷ #0 ∷ #0 ∷ #0 ∷ #0 ∷ #0 ∷ []) (4 ∷ 5 ∷ 0 ∷ [])
-unfolding lineOf runForm bytesOf ended has behind before isNil joined cellOf doubleCell wholeCell numberAs filterOf below isByteOf bitsOf isHex hexPad digitOf wholeOf ledBy isDecimal decimalFrom
+pub run-line : readRowOf runForm (line "0 4 - 0 0 0 0 0 0 0") ≡ values true (#0 ∷ #0 ∷ #0 ∷ #0 ∷ #0 ∷ #0 ∷ #0 ∷ []) (4 ∷ 5 ∷ 0 ∷ [])
+unfolding readRowOf runForm bytesOf ended has behind before isNil joined readCellOf doubleCell wholeCell readNumberOf readFilterOf readBelowOf isByteOf readBitsOf isHexOf hexPadOf digitOf readWholeOf isLedByZeroOf isDecimal decimalFrom
 run-line = refl
 
-pub counted : tallyOf (contentsOf scene) ≡ tally true 8 0 1 1
-unfolding tallyOf contentsOf runOf namesAt linesTo oneLine lineThen endsWell sameOf split before later lineOf runNames runForm solidNames solidForm detectorNames detectorForm rayNames rayForm bytesOf ended has behind isNil joined cellOf doubleCell wholeCell numberAs filterOf below isByteOf bitsOf isHex hexPad digitOf wholeOf ledBy isDecimal decimalFrom mediaOf mediaParts mediaCell countFrom mediaFrom
+pub counted : tallied (contentsIn scene) ≡ tally true 8 0 1 1
+unfolding tallied contentsIn readRunOf readNamesOf readLinesOf readOneOf lineThen endsWellOf sameOf split before later readRowOf runNames runForm solidNames solidForm detectorNames detectorForm rayNames rayForm bytesOf ended has behind isNil joined readCellOf doubleCell wholeCell readNumberOf readFilterOf readBelowOf isByteOf readBitsOf isHexOf hexPadOf digitOf readWholeOf isLedByZeroOf isDecimal decimalFrom readMediaOf mediaParts mediaCell countMediaOf mediaFrom
 counted = refl
 
-pub detector-read : contentsOf scene .detectors .read ≡ values true (#0 ∷ #0 ∷ ofBits binary64 0x4024000000000000 ∷ #0 ∷ #0 ∷ #1 ∷ #0 ∷ #1 ∷ #0 ∷ #4 ∷ #4 ∷ []) (2 ∷ 2 ∷ [])
-unfolding contentsOf runOf namesAt linesTo oneLine lineThen endsWell sameOf split before later lineOf runNames runForm solidNames solidForm detectorNames detectorForm rayNames rayForm bytesOf ended has behind isNil joined cellOf doubleCell wholeCell numberAs filterOf below isByteOf bitsOf isHex hexPad digitOf wholeOf ledBy isDecimal decimalFrom mediaOf mediaParts mediaCell countFrom mediaFrom
+pub detector-read : contentsIn scene .detectors .read ≡ values true (#0 ∷ #0 ∷ ofBits binary64 0x4024000000000000 ∷ #0 ∷ #0 ∷ #1 ∷ #0 ∷ #1 ∷ #0 ∷ #4 ∷ #4 ∷ []) (2 ∷ 2 ∷ [])
+unfolding contentsIn readRunOf readNamesOf readLinesOf readOneOf lineThen endsWellOf sameOf split before later readRowOf runNames runForm solidNames solidForm detectorNames detectorForm rayNames rayForm bytesOf ended has behind isNil joined readCellOf doubleCell wholeCell readNumberOf readFilterOf readBelowOf isByteOf readBitsOf isHexOf hexPadOf digitOf readWholeOf isLedByZeroOf isDecimal decimalFrom readMediaOf mediaParts mediaCell countMediaOf mediaFrom
 detector-read = refl
 
-pub ray-read : contentsOf scene .rays .read ≡ values true (#1 ∷ #1 ∷ #0 ∷ #0 ∷ #0 ∷ #1 ∷ ofBits binary64 0x4081300000000000 ∷ #1 ∷ []) (replicate 10 0)
-unfolding contentsOf runOf namesAt linesTo oneLine lineThen endsWell sameOf split before later lineOf runNames runForm solidNames solidForm detectorNames detectorForm rayNames rayForm bytesOf ended has behind isNil joined cellOf doubleCell wholeCell numberAs filterOf below isByteOf bitsOf isHex hexPad digitOf wholeOf ledBy isDecimal decimalFrom mediaOf mediaParts mediaCell countFrom mediaFrom
+pub ray-read : contentsIn scene .rays .read ≡ values true (#1 ∷ #1 ∷ #0 ∷ #0 ∷ #0 ∷ #1 ∷ ofBits binary64 0x4081300000000000 ∷ #1 ∷ []) (replicate 10 0)
+unfolding contentsIn readRunOf readNamesOf readLinesOf readOneOf lineThen endsWellOf sameOf split before later readRowOf runNames runForm solidNames solidForm detectorNames detectorForm rayNames rayForm bytesOf ended has behind isNil joined readCellOf doubleCell wholeCell readNumberOf readFilterOf readBelowOf isByteOf readBitsOf isHexOf hexPadOf digitOf readWholeOf isLedByZeroOf isDecimal decimalFrom readMediaOf mediaParts mediaCell countMediaOf mediaFrom
 ray-read = refl
 
-pub empty-text : (m : Slices) → sceneOf [] m ≡ refused 1 m
-unfolding sceneOf answerOf tallyOf contentsOf runOf namesAt linesTo oneLine endsWell split before later isNil runNames bytesOf ended
+pub empty-text : (m : Slices) → readSceneOf [] m ≡ refused 1 m
+unfolding readSceneOf answered tallied contentsIn readRunOf readNamesOf readLinesOf readOneOf endsWellOf split before later isNil runNames bytesOf ended
 empty-text m = refl
 
 abbrev cut : List ℕ
 cut = start ++ bytesOf "3ff 3ff 0 0 0 3ff 40813 3ff 0 -"
 
-cut-counted : tallyOf (contentsOf cut) ≡ tally false 7 0 1 0
-unfolding tallyOf contentsOf runOf namesAt linesTo oneLine lineThen endsWell sameOf split before later lineOf runNames runForm solidNames solidForm detectorNames detectorForm rayNames rayForm bytesOf ended has behind isNil joined cellOf doubleCell wholeCell numberAs filterOf below isByteOf bitsOf isHex hexPad digitOf wholeOf ledBy isDecimal decimalFrom mediaOf mediaParts mediaCell countFrom mediaFrom
+cut-counted : tallied (contentsIn cut) ≡ tally false 7 0 1 0
+unfolding tallied contentsIn readRunOf readNamesOf readLinesOf readOneOf lineThen endsWellOf sameOf split before later readRowOf runNames runForm solidNames solidForm detectorNames detectorForm rayNames rayForm bytesOf ended has behind isNil joined readCellOf doubleCell wholeCell readNumberOf readFilterOf readBelowOf isByteOf readBitsOf isHexOf hexPadOf digitOf readWholeOf isLedByZeroOf isDecimal decimalFrom readMediaOf mediaParts mediaCell countMediaOf mediaFrom
 cut-counted = refl
 
 cut-short : length cut ≤ 65536
@@ -73,6 +73,6 @@ unfolding bytesOf ended
 cut-short = ltb-false 65536 (length cut) refl
 
 -- the ray's line is the seventh
-pub cut-text : (m : Slices) → sceneOf cut m ≡ refused 7 m
-unfolding answerOf
-cut-text m = scene-short cut m cut-short ∙ ap (λ (t : Tally). answerOf t (filledWith (contentsOf cut) m) m) cut-counted
+pub cut-text : (m : Slices) → readSceneOf cut m ≡ refused 7 m
+unfolding answered
+cut-text m = scene-short cut m cut-short ∙ ap (λ (t : Tally). answered t (filledWith (contentsIn cut) m) m) cut-counted

@@ -10,12 +10,12 @@ use borrow.Author.Tests.{lt-ltb, le-ltb}
 use Rattle.error.specs.Refusals.{Checked, passed, refusedAt}
 use Rattle.fields.specs.Split.{split}
 use Rattle.scene_text.specs.Names.{runNames, runForm, solidNames, solidForm, detectorNames, detectorForm, rayNames, rayForm}
-use Rattle.scene_text.specs.Blocks.{Block, namesAt, oneLine, linesTo}
+use Rattle.scene_text.specs.Blocks.{Block, readNamesOf, readOneOf, readLinesOf}
 use Rattle.scene_text.specs.Steps.{Table, table, put, Reading, reading, onto}
-use Rattle.scene_text.specs.Scene.{runOf, Contents, contentsOf, Tally, tally, tallyOf, Slices, slices, doublesIn, wholesIn, filledWith, answer, answerOf, sceneOf}
+use Rattle.scene_text.specs.Scene.{readRunOf, Contents, contentsIn, Tally, tally, tallied, Slices, slices, doublesIn, wholesIn, filledWith, answer, answered, readSceneOf}
 
-pub names-are : (names : List ℕ) (ls : List (List ℕ)) (n : ℕ) (t t2 : Table) (o : Bool) (m k : ℕ) (rs : List (List ℕ)) → reading o m k t2 rs ≡ onto 0 t (linesTo names [] ls n) → (o ≡ namesAt names ls n .ok) × (m ≡ namesAt names ls n .line) × (rs ≡ namesAt names ls n .rest)
-unfolding namesAt onto
+pub names-are : (names : List ℕ) (ls : List (List ℕ)) (n : ℕ) (t t2 : Table) (o : Bool) (m k : ℕ) (rs : List (List ℕ)) → reading o m k t2 rs ≡ onto 0 t (readLinesOf names [] ls n) → (o ≡ readNamesOf names ls n .ok) × (m ≡ readNamesOf names ls n .line) × (rs ≡ readNamesOf names ls n .rest)
+unfolding readNamesOf onto
 names-are names ls n t t2 o m k rs e = (ap (λ (x : Reading). x .ok) e, ap (λ (x : Reading). x .line) e, ap (λ (x : Reading). x .rest) e)
 
 -- what a block leaves in its slices, and where it ends
@@ -44,8 +44,8 @@ module _ (b : Block) (o q : Bool) (m k : ℕ) (d d2 : List Float) (nd : ℕ) (w 
   unfolding onto put
   wholes-are = ap (λ (x : Reading). x .read .wholes) e
 
-lines-are : (names form : List ℕ) (ls rs : List (List ℕ)) (n m : ℕ) → ls ≡ rs → n ≡ m → linesTo names form ls n ≡ linesTo names form rs m
-lines-are names form ls rs n m a b = ap (λ (x : List (List ℕ)). linesTo names form x n) a ∙ ap (linesTo names form rs) b
+lines-are : (names form : List ℕ) (ls rs : List (List ℕ)) (n m : ℕ) → ls ≡ rs → n ≡ m → readLinesOf names form ls n ≡ readLinesOf names form rs m
+lines-are names form ls rs n m a b = ap (λ (x : List (List ℕ)). readLinesOf names form x n) a ∙ ap (readLinesOf names form rs) b
 
 -- ---- the run
 
@@ -54,7 +54,7 @@ module _
     (ao : Bool)
     (an : ℕ)
     (ar : List (List ℕ))
-    (ea : (ao ≡ namesAt runNames ls 1 .ok) × (an ≡ namesAt runNames ls 1 .line) × (ar ≡ namesAt runNames ls 1 .rest))
+    (ea : (ao ≡ readNamesOf runNames ls 1 .ok) × (an ≡ readNamesOf runNames ls 1 .line) × (ar ≡ readNamesOf runNames ls 1 .rest))
     (o q : Bool)
     (m k : ℕ)
     (d d2 : List Float)
@@ -62,29 +62,29 @@ module _
     (w w2 : List ℕ)
     (nw : ℕ)
     (rs : List (List ℕ))
-    (e : reading o m k (table q d2 nd w2 nw) rs ≡ onto 0 (table true d 0 w 0) (oneLine runForm ar an))
+    (e : reading o m k (table q d2 nd w2 nw) rs ≡ onto 0 (table true d 0 w 0) (readOneOf runForm ar an))
   where
-    run-block : oneLine runForm ar an ≡ runOf ls
-    unfolding runOf
-    run-block = ap (λ (x : List (List ℕ)). oneLine runForm x an) (ea .2) ∙ ap (oneLine runForm (namesAt runNames ls 1 .rest)) (ea .1)
+    run-block : readOneOf runForm ar an ≡ readRunOf ls
+    unfolding readRunOf
+    run-block = ap (λ (x : List (List ℕ)). readOneOf runForm x an) (ea .2) ∙ ap (readOneOf runForm (readNamesOf runNames ls 1 .rest)) (ea .1)
 
-    run-read : reading o m k (table q d2 nd w2 nw) rs ≡ onto 0 (table true d 0 w 0) (runOf ls)
+    run-read : reading o m k (table q d2 nd w2 nw) rs ≡ onto 0 (table true d 0 w 0) (readRunOf ls)
     run-read = e ∙ ap (onto 0 (table true d 0 w 0)) run-block
 
-    run-names : namesAt solidNames rs m ≡ namesAt solidNames (runOf ls .rest) (runOf ls .line)
-    run-names = ap (λ (x : List (List ℕ)). namesAt solidNames x m) (rest-is (runOf ls) o q m k d d2 nd w w2 nw rs run-read) ∙ ap (namesAt solidNames (runOf ls .rest)) (line-is (runOf ls) o q m k d d2 nd w w2 nw rs run-read)
+    run-names : readNamesOf solidNames rs m ≡ readNamesOf solidNames (readRunOf ls .rest) (readRunOf ls .line)
+    run-names = ap (λ (x : List (List ℕ)). readNamesOf solidNames x m) (rest-is (readRunOf ls) o q m k d d2 nd w w2 nw rs run-read) ∙ ap (readNamesOf solidNames (readRunOf ls .rest)) (line-is (readRunOf ls) o q m k d d2 nd w w2 nw rs run-read)
 
     pub run-is :
         (co : Bool) (cn : ℕ) (cr : List (List ℕ)) →
-        (co ≡ namesAt solidNames rs m .ok) × (cn ≡ namesAt solidNames rs m .line) × (cr ≡ namesAt solidNames rs m .rest) →
-        (d2 ≡ doublesIn d (runOf ls))
-        × (w2 ≡ wholesIn w (runOf ls))
-        × (co ≡ namesAt solidNames (runOf ls .rest) (runOf ls .line) .ok)
-        × (cn ≡ namesAt solidNames (runOf ls .rest) (runOf ls .line) .line)
-        × (cr ≡ namesAt solidNames (runOf ls .rest) (runOf ls .line) .rest)
+        (co ≡ readNamesOf solidNames rs m .ok) × (cn ≡ readNamesOf solidNames rs m .line) × (cr ≡ readNamesOf solidNames rs m .rest) →
+        (d2 ≡ doublesIn d (readRunOf ls))
+        × (w2 ≡ wholesIn w (readRunOf ls))
+        × (co ≡ readNamesOf solidNames (readRunOf ls .rest) (readRunOf ls .line) .ok)
+        × (cn ≡ readNamesOf solidNames (readRunOf ls .rest) (readRunOf ls .line) .line)
+        × (cr ≡ readNamesOf solidNames (readRunOf ls .rest) (readRunOf ls .line) .rest)
     run-is co cn cr f = (
-      doubles-are (runOf ls) o q m k d d2 nd w w2 nw rs run-read,
-      wholes-are (runOf ls) o q m k d d2 nd w w2 nw rs run-read,
+      doubles-are (readRunOf ls) o q m k d d2 nd w w2 nw rs run-read,
+      wholes-are (readRunOf ls) o q m k d d2 nd w w2 nw rs run-read,
       f .0 ∙ ap (λ (b : Block). b .ok) run-names,
       f .1 ∙ ap (λ (b : Block). b .line) run-names,
       f .2 ∙ ap (λ (b : Block). b .rest) run-names,
@@ -92,8 +92,8 @@ module _
 
 -- ---- all
 
-tally-is : (c : Contents) (o : Bool) (n i j k : ℕ) → o ≡ c .rays .ok → n ≡ c .rays .line → i ≡ c .solids .rows → j ≡ c .detectors .rows → k ≡ c .rays .rows → tally o n i j k ≡ tallyOf c
-unfolding tallyOf
+tally-is : (c : Contents) (o : Bool) (n i j k : ℕ) → o ≡ c .rays .ok → n ≡ c .rays .line → i ≡ c .solids .rows → j ≡ c .detectors .rows → k ≡ c .rays .rows → tally o n i j k ≡ tallied c
+unfolding tallied
 tally-is c o n i j k a b e f g = rw (a, b, e, f, g)
 
 slices-are :
@@ -119,11 +119,11 @@ module _
     (cn : ℕ)
     (cr : List (List ℕ))
     (c :
-    (run ≡ doublesIn (m .run) (runOf (split 10 s)))
-    × (runs ≡ wholesIn (m .runs) (runOf (split 10 s)))
-    × (co ≡ namesAt solidNames (runOf (split 10 s) .rest) (runOf (split 10 s) .line) .ok)
-    × (cn ≡ namesAt solidNames (runOf (split 10 s) .rest) (runOf (split 10 s) .line) .line)
-    × (cr ≡ namesAt solidNames (runOf (split 10 s) .rest) (runOf (split 10 s) .line) .rest))
+    (run ≡ doublesIn (m .run) (readRunOf (split 10 s)))
+    × (runs ≡ wholesIn (m .runs) (readRunOf (split 10 s)))
+    × (co ≡ readNamesOf solidNames (readRunOf (split 10 s) .rest) (readRunOf (split 10 s) .line) .ok)
+    × (cn ≡ readNamesOf solidNames (readRunOf (split 10 s) .rest) (readRunOf (split 10 s) .line) .line)
+    × (cr ≡ readNamesOf solidNames (readRunOf (split 10 s) .rest) (readRunOf (split 10 s) .line) .rest))
     (o1 q1 : Bool)
     (n1 k1 : ℕ)
     (d1 : List Float)
@@ -131,7 +131,7 @@ module _
     (w1 : List ℕ)
     (j1 : ℕ)
     (r1 : List (List ℕ))
-    (e1 : reading o1 n1 k1 (table q1 d1 i1 w1 j1) r1 ≡ onto 0 (table true (m .solids) 0 (m .tags) 0) (linesTo detectorNames solidForm cr cn))
+    (e1 : reading o1 n1 k1 (table q1 d1 i1 w1 j1) r1 ≡ onto 0 (table true (m .solids) 0 (m .tags) 0) (readLinesOf detectorNames solidForm cr cn))
     (o2 q2 : Bool)
     (n2 k2 : ℕ)
     (d2 : List Float)
@@ -139,7 +139,7 @@ module _
     (w2 : List ℕ)
     (j2 : ℕ)
     (r2 : List (List ℕ))
-    (e2 : reading o2 n2 k2 (table q2 d2 i2 w2 j2) r2 ≡ onto 0 (table true (m .detectors) 0 (m .sizes) 0) (linesTo rayNames detectorForm r1 n1))
+    (e2 : reading o2 n2 k2 (table q2 d2 i2 w2 j2) r2 ≡ onto 0 (table true (m .detectors) 0 (m .sizes) 0) (readLinesOf rayNames detectorForm r1 n1))
     (o3 q3 : Bool)
     (n3 k3 : ℕ)
     (d3 : List Float)
@@ -147,53 +147,53 @@ module _
     (w3 : List ℕ)
     (j3 : ℕ)
     (r3 : List (List ℕ))
-    (e3 : reading o3 n3 k3 (table q3 d3 i3 w3 j3) r3 ≡ onto 0 (table true (m .rays) 0 (m .marks) 0) (linesTo [] rayForm r2 n2))
+    (e3 : reading o3 n3 k3 (table q3 d3 i3 w3 j3) r3 ≡ onto 0 (table true (m .rays) 0 (m .marks) 0) (readLinesOf [] rayForm r2 n2))
   where
-    solids-read : reading o1 n1 k1 (table q1 d1 i1 w1 j1) r1 ≡ onto 0 (table true (m .solids) 0 (m .tags) 0) (contentsOf s .solids)
-    unfolding contentsOf
+    solids-read : reading o1 n1 k1 (table q1 d1 i1 w1 j1) r1 ≡ onto 0 (table true (m .solids) 0 (m .tags) 0) (contentsIn s .solids)
+    unfolding contentsIn
     solids-read = e1 ∙ ap (onto 0 (table true (m .solids) 0 (m .tags) 0)) (lines-are detectorNames solidForm cr _ cn _ (c .4) (c .3))
 
-    detectors-read : reading o2 n2 k2 (table q2 d2 i2 w2 j2) r2 ≡ onto 0 (table true (m .detectors) 0 (m .sizes) 0) (contentsOf s .detectors)
-    unfolding contentsOf
+    detectors-read : reading o2 n2 k2 (table q2 d2 i2 w2 j2) r2 ≡ onto 0 (table true (m .detectors) 0 (m .sizes) 0) (contentsIn s .detectors)
+    unfolding contentsIn
     detectors-read =
-        e2 ∙ ap (onto 0 (table true (m .detectors) 0 (m .sizes) 0)) (lines-are rayNames detectorForm r1 _ n1 _ (rest-is (contentsOf s .solids) o1 q1 n1 k1 (m .solids) d1 i1 (m .tags) w1 j1 r1 solids-read) (line-is (contentsOf s .solids) o1 q1 n1 k1 (m .solids) d1 i1 (m .tags) w1 j1 r1 solids-read))
+        e2 ∙ ap (onto 0 (table true (m .detectors) 0 (m .sizes) 0)) (lines-are rayNames detectorForm r1 _ n1 _ (rest-is (contentsIn s .solids) o1 q1 n1 k1 (m .solids) d1 i1 (m .tags) w1 j1 r1 solids-read) (line-is (contentsIn s .solids) o1 q1 n1 k1 (m .solids) d1 i1 (m .tags) w1 j1 r1 solids-read))
 
-    rays-read : reading o3 n3 k3 (table q3 d3 i3 w3 j3) r3 ≡ onto 0 (table true (m .rays) 0 (m .marks) 0) (contentsOf s .rays)
-    unfolding contentsOf
+    rays-read : reading o3 n3 k3 (table q3 d3 i3 w3 j3) r3 ≡ onto 0 (table true (m .rays) 0 (m .marks) 0) (contentsIn s .rays)
+    unfolding contentsIn
     rays-read =
-        e3 ∙ ap (onto 0 (table true (m .rays) 0 (m .marks) 0)) (lines-are [] rayForm r2 _ n2 _ (rest-is (contentsOf s .detectors) o2 q2 n2 k2 (m .detectors) d2 i2 (m .sizes) w2 j2 r2 detectors-read) (line-is (contentsOf s .detectors) o2 q2 n2 k2 (m .detectors) d2 i2 (m .sizes) w2 j2 r2 detectors-read))
+        e3 ∙ ap (onto 0 (table true (m .rays) 0 (m .marks) 0)) (lines-are [] rayForm r2 _ n2 _ (rest-is (contentsIn s .detectors) o2 q2 n2 k2 (m .detectors) d2 i2 (m .sizes) w2 j2 r2 detectors-read) (line-is (contentsIn s .detectors) o2 q2 n2 k2 (m .detectors) d2 i2 (m .sizes) w2 j2 r2 detectors-read))
 
-    run-kept : (run ≡ doublesIn (m .run) (contentsOf s .run)) × (runs ≡ wholesIn (m .runs) (contentsOf s .run))
-    unfolding contentsOf
+    run-kept : (run ≡ doublesIn (m .run) (contentsIn s .run)) × (runs ≡ wholesIn (m .runs) (contentsIn s .run))
+    unfolding contentsIn
     run-kept = (c .0, c .1)
 
-    pub gathered : (tally o3 n3 k1 k2 k3 ≡ tallyOf (contentsOf s)) × (slices run runs d1 w1 d2 w2 d3 w3 ≡ filledWith (contentsOf s) m)
+    pub gathered : (tally o3 n3 k1 k2 k3 ≡ tallied (contentsIn s)) × (slices run runs d1 w1 d2 w2 d3 w3 ≡ filledWith (contentsIn s) m)
     gathered = (
-      tally-is (contentsOf s) o3 n3 k1 k2 k3 (ok-is (contentsOf s .rays) o3 q3 n3 k3 (m .rays) d3 i3 (m .marks) w3 j3 r3 rays-read) (line-is (contentsOf s .rays) o3 q3 n3 k3 (m .rays) d3 i3 (m .marks) w3 j3 r3 rays-read) (rows-are (contentsOf s .solids) o1 q1 n1 k1 (m .solids) d1 i1 (m .tags) w1 j1 r1 solids-read) (rows-are (contentsOf s .detectors) o2 q2 n2 k2 (m .detectors) d2 i2 (m .sizes) w2 j2 r2 detectors-read) (rows-are (contentsOf s .rays) o3 q3 n3 k3 (m .rays) d3 i3 (m .marks) w3 j3 r3 rays-read),
-      slices-are (contentsOf s) m run runs d1 w1 d2 w2 d3 w3 (run-kept .0) (run-kept .1) (doubles-are (contentsOf s .solids) o1 q1 n1 k1 (m .solids) d1 i1 (m .tags) w1 j1 r1 solids-read) (wholes-are (contentsOf s .solids) o1 q1 n1 k1 (m .solids) d1 i1 (m .tags) w1 j1 r1 solids-read) (doubles-are (contentsOf s .detectors) o2 q2 n2 k2 (m .detectors) d2 i2 (m .sizes) w2 j2 r2 detectors-read) (wholes-are (contentsOf s .detectors) o2 q2 n2 k2 (m .detectors) d2 i2 (m .sizes) w2 j2 r2 detectors-read) (doubles-are (contentsOf s .rays) o3 q3 n3 k3 (m .rays) d3 i3 (m .marks) w3 j3 r3 rays-read) (wholes-are (contentsOf s .rays) o3 q3 n3 k3 (m .rays) d3 i3 (m .marks) w3 j3 r3 rays-read),
+      tally-is (contentsIn s) o3 n3 k1 k2 k3 (ok-is (contentsIn s .rays) o3 q3 n3 k3 (m .rays) d3 i3 (m .marks) w3 j3 r3 rays-read) (line-is (contentsIn s .rays) o3 q3 n3 k3 (m .rays) d3 i3 (m .marks) w3 j3 r3 rays-read) (rows-are (contentsIn s .solids) o1 q1 n1 k1 (m .solids) d1 i1 (m .tags) w1 j1 r1 solids-read) (rows-are (contentsIn s .detectors) o2 q2 n2 k2 (m .detectors) d2 i2 (m .sizes) w2 j2 r2 detectors-read) (rows-are (contentsIn s .rays) o3 q3 n3 k3 (m .rays) d3 i3 (m .marks) w3 j3 r3 rays-read),
+      slices-are (contentsIn s) m run runs d1 w1 d2 w2 d3 w3 (run-kept .0) (run-kept .1) (doubles-are (contentsIn s .solids) o1 q1 n1 k1 (m .solids) d1 i1 (m .tags) w1 j1 r1 solids-read) (wholes-are (contentsIn s .solids) o1 q1 n1 k1 (m .solids) d1 i1 (m .tags) w1 j1 r1 solids-read) (doubles-are (contentsIn s .detectors) o2 q2 n2 k2 (m .detectors) d2 i2 (m .sizes) w2 j2 r2 detectors-read) (wholes-are (contentsIn s .detectors) o2 q2 n2 k2 (m .detectors) d2 i2 (m .sizes) w2 j2 r2 detectors-read) (doubles-are (contentsIn s .rays) o3 q3 n3 k3 (m .rays) d3 i3 (m .marks) w3 j3 r3 rays-read) (wholes-are (contentsIn s .rays) o3 q3 n3 k3 (m .rays) d3 i3 (m .marks) w3 j3 r3 rays-read),
     )
 
 -- ---- the answer
 
 module _ (s : List ℕ) (m : Slices) where
-  pub scene-long : (c : Checked Unit) (i j k : ℕ) → 65536 < length s → (c ≡ refusedAt 17 0) × (i ≡ 0) × (j ≡ 0) × (k ≡ 0) → answer c i j k m ≡ sceneOf s m
-  unfolding sceneOf
+  pub scene-long : (c : Checked Unit) (i j k : ℕ) → 65536 < length s → (c ≡ refusedAt 17 0) × (i ≡ 0) × (j ≡ 0) × (k ≡ 0) → answer c i j k m ≡ readSceneOf s m
+  unfolding readSceneOf
   scene-long c i j k h e = rw (lt-ltb _ _ h, e .0, e .1, e .2, e .3)
 
-  pub scene-short : length s ≤ 65536 → sceneOf s m ≡ answerOf (tallyOf (contentsOf s)) (filledWith (contentsOf s) m) m
-  unfolding sceneOf
+  pub scene-short : length s ≤ 65536 → readSceneOf s m ≡ answered (tallied (contentsIn s)) (filledWith (contentsIn s) m) m
+  unfolding readSceneOf
   scene-short h = rw (le-ltb _ _ h)
 
-  pub scene-refused : (c : Checked Unit) (i j k : ℕ) (o : Bool) (n x y z : ℕ) → length s ≤ 65536 → tally o n x y z ≡ tallyOf (contentsOf s) → o ≡ false → (c ≡ refusedAt 17 n) × (i ≡ 0) × (j ≡ 0) × (k ≡ 0) → answer c i j k m ≡ sceneOf s m
-  unfolding answerOf
+  pub scene-refused : (c : Checked Unit) (i j k : ℕ) (o : Bool) (n x y z : ℕ) → length s ≤ 65536 → tally o n x y z ≡ tallied (contentsIn s) → o ≡ false → (c ≡ refusedAt 17 n) × (i ≡ 0) × (j ≡ 0) × (k ≡ 0) → answer c i j k m ≡ readSceneOf s m
+  unfolding answered
   scene-refused c i j k o n x y z h t b e =
-      (let r : answer c i j k m ≡ answerOf (tally o n x y z) (filledWith (contentsOf s) m) m = rw (b, e .0, e .1, e .2, e .3) in r)
-      ∙ ap (λ (u : Tally). answerOf u (filledWith (contentsOf s) m) m) t
+      (let r : answer c i j k m ≡ answered (tally o n x y z) (filledWith (contentsIn s) m) m = rw (b, e .0, e .1, e .2, e .3) in r)
+      ∙ ap (λ (u : Tally). answered u (filledWith (contentsIn s) m) m) t
       ∙ sym (scene-short h)
 
-  pub scene-filled : (new : Slices) (o : Bool) (n x y z : ℕ) → length s ≤ 65536 → tally o n x y z ≡ tallyOf (contentsOf s) → o ≡ true → new ≡ filledWith (contentsOf s) m → answer (passed tt) x y z new ≡ sceneOf s m
-  unfolding answerOf
+  pub scene-filled : (new : Slices) (o : Bool) (n x y z : ℕ) → length s ≤ 65536 → tally o n x y z ≡ tallied (contentsIn s) → o ≡ true → new ≡ filledWith (contentsIn s) m → answer (passed tt) x y z new ≡ readSceneOf s m
+  unfolding answered
   scene-filled new o n x y z h t b e =
-      (let r : answer (passed tt) x y z new ≡ answerOf (tally o n x y z) (filledWith (contentsOf s) m) m = rw (b, e) in r)
-      ∙ ap (λ (u : Tally). answerOf u (filledWith (contentsOf s) m) m) t
+      (let r : answer (passed tt) x y z new ≡ answered (tally o n x y z) (filledWith (contentsIn s) m) m = rw (b, e) in r)
+      ∙ ap (λ (u : Tally). answered u (filledWith (contentsIn s) m) m) t
       ∙ sym (scene-short h)

@@ -9,13 +9,13 @@ use lib.Dec.{eqb}
 use lib.ListN.{length, take, drop, length-drop}
 use lib.Ieee.{Float}
 use borrow.Author.Tests.{eqb-true}
-use Rattle.fields.specs.Split.{before, split, endOf, partsAt}
+use Rattle.fields.specs.Split.{before, split, endAtOf, partsAt}
 use Rattle.fields.proofs.Parts.{parts-past, parts-in, later-after}
 use Rattle.scene_text.specs.Names.{ended}
 use Rattle.scene_text.specs.Cells.{Values, joined}
-use Rattle.scene_text.specs.Lines.{isNil, lineOf}
+use Rattle.scene_text.specs.Lines.{isNil, readRowOf}
 use Rattle.scene_text.specs.Tables.{putAll}
-use Rattle.scene_text.specs.Blocks.{sameOf, Block, block, over, stopped, lineThen, oneLine, endsWell, linesTo}
+use Rattle.scene_text.specs.Blocks.{sameOf, Block, block, over, stopped, lineThen, readOneOf, endsWellOf, readLinesOf}
 use Rattle.scene_text.specs.Steps.{Table, table, put, Reading, reading, onto, restAt, comesTo}
 use Rattle.scene_text.proofs.Filling.{put-ok, put-any, put-then}
 
@@ -34,9 +34,9 @@ split-not-nil : (b : ℕ) (l : List ℕ) → isNil (split b l) ≡ false
 unfolding isNil split
 split-not-nil b l = refl
 
-module _ (s : List ℕ) (at e : ℕ) (q : e ≡ endOf s at 10) (h : at ≤ length s) where
+module _ (s : List ℕ) (at e : ℕ) (q : e ≡ endAtOf s at 10) (h : at ≤ length s) where
   line-text : e < length s → take (e + 1 - at) (drop at s) ≡ ended (before 10 (drop at s))
-  unfolding ended endOf
+  unfolding ended endAtOf
   line-text g =
       let n : e + 1 - at ≡ suc (length (before 10 (drop at s))) = omega (arith, q) in
       let m : length (before 10 (drop at s)) < length (drop at s) = rw (length-drop at s) (omega (arith, q)) in
@@ -55,29 +55,29 @@ module _ (s : List ℕ) (at e : ℕ) (q : e ≡ endOf s at 10) (h : at ≤ lengt
       ap (λ (m : List (List ℕ)). before 10 (drop at s) ∷ m) (later-after s at 10 h ∙ ap (λ (i : ℕ). partsAt 10 s (i + 1)) (sym q) ∙ parts-past 10 s (e + 1) k)
 
   bytes : length (before 10 (drop at s)) ≡ e - at
-  unfolding endOf
+  unfolding endAtOf
   bytes = omega (arith, q)
 
 -- ---- the first of the lines
 
-lines-row : (names form x : List ℕ) (ls : List (List ℕ)) (n : ℕ) → isNil ls ≡ false → sameOf (ended x) names ≡ false → linesTo names form (x ∷ ls) n ≡ lineThen (lineOf form (ended x)) n (linesTo names form ls (n + 1))
-unfolding linesTo
+lines-row : (names form x : List ℕ) (ls : List (List ℕ)) (n : ℕ) → isNil ls ≡ false → sameOf (ended x) names ≡ false → readLinesOf names form (x ∷ ls) n ≡ lineThen (readRowOf form (ended x)) n (readLinesOf names form ls (n + 1))
+unfolding readLinesOf
 lines-row names form x ls n a b = rw (a, b)
 
-lines-over : (names form x : List ℕ) (ls : List (List ℕ)) (n : ℕ) → isNil ls ≡ false → sameOf (ended x) names ≡ true → linesTo names form (x ∷ ls) n ≡ over (n + 1) ls
-unfolding linesTo
+lines-over : (names form x : List ℕ) (ls : List (List ℕ)) (n : ℕ) → isNil ls ≡ false → sameOf (ended x) names ≡ true → readLinesOf names form (x ∷ ls) n ≡ over (n + 1) ls
+unfolding readLinesOf
 lines-over names form x ls n a b = rw (a, b)
 
-lines-last : (names form x : List ℕ) (n : ℕ) → linesTo names form (x ∷ []) n ≡ cond (endsWell (length x) names) (over n (x ∷ [])) (stopped n)
-unfolding linesTo isNil
+lines-last : (names form x : List ℕ) (n : ℕ) → readLinesOf names form (x ∷ []) n ≡ cond (endsWellOf (length x) names) (over n (x ∷ [])) (stopped n)
+unfolding readLinesOf isNil
 lines-last names form x n = refl
 
-one-row : (form x : List ℕ) (ls : List (List ℕ)) (n : ℕ) → isNil ls ≡ false → oneLine form (x ∷ ls) n ≡ lineThen (lineOf form (ended x)) n (over (n + 1) ls)
-unfolding oneLine
+one-row : (form x : List ℕ) (ls : List (List ℕ)) (n : ℕ) → isNil ls ≡ false → readOneOf form (x ∷ ls) n ≡ lineThen (readRowOf form (ended x)) n (over (n + 1) ls)
+unfolding readOneOf
 one-row form x ls n a = rw a
 
-one-last : (form x : List ℕ) (n : ℕ) → oneLine form (x ∷ []) n ≡ stopped n
-unfolding oneLine isNil
+one-last : (form x : List ℕ) (n : ℕ) → readOneOf form (x ∷ []) n ≡ stopped n
+unfolding readOneOf isNil
 one-last form x n = refl
 
 -- ---- with slices
@@ -114,88 +114,88 @@ unfolding restAt
 rest-no s at = refl
 
 -- a row that was read, by the lines' own words
-module _ (s form : List ℕ) (at e : ℕ) (q : e ≡ endOf s at 10) (h : at ≤ length s) (g : e < length s) (o b : Bool) (d d2 : List Float) (nd nd2 : ℕ) (w w2 : List ℕ) (nw nw2 : ℕ) (r : table b d2 nd2 w2 nw2 ≡ put (lineOf form (take (e + 1 - at) (drop at s))) (table true d nd w nw)) where
-  row-is : (z : Bool) → b ≡ z → table z d2 nd2 w2 nw2 ≡ put (lineOf form (ended (before 10 (drop at s)))) (table o d nd w nw)
-  row-is z y = ap (λ (c : Bool). table c d2 nd2 w2 nw2) (sym y) ∙ r ∙ ap (λ (x : List ℕ). put (lineOf form x) (table true d nd w nw)) (line-text s at e q h g) ∙ put-any (lineOf form (ended (before 10 (drop at s)))) o d nd w nw
+module _ (s form : List ℕ) (at e : ℕ) (q : e ≡ endAtOf s at 10) (h : at ≤ length s) (g : e < length s) (o b : Bool) (d d2 : List Float) (nd nd2 : ℕ) (w w2 : List ℕ) (nw nw2 : ℕ) (r : table b d2 nd2 w2 nw2 ≡ put (readRowOf form (take (e + 1 - at) (drop at s))) (table true d nd w nw)) where
+  row-is : (z : Bool) → b ≡ z → table z d2 nd2 w2 nw2 ≡ put (readRowOf form (ended (before 10 (drop at s)))) (table o d nd w nw)
+  row-is z y = ap (λ (c : Bool). table c d2 nd2 w2 nw2) (sym y) ∙ r ∙ ap (λ (x : List ℕ). put (readRowOf form x) (table true d nd w nw)) (line-text s at e q h g) ∙ put-any (readRowOf form (ended (before 10 (drop at s)))) o d nd w nw
 
-  row-ok : (z : Bool) → b ≡ z → lineOf form (ended (before 10 (drop at s))) .ok ≡ z
-  row-ok z y = sym (put-ok (lineOf form (ended (before 10 (drop at s)))) (table o d nd w nw)) ∙ sym (ap (λ (t : Table). t .ok) (row-is z y))
+  row-ok : (z : Bool) → b ≡ z → readRowOf form (ended (before 10 (drop at s))) .ok ≡ z
+  row-ok z y = sym (put-ok (readRowOf form (ended (before 10 (drop at s)))) (table o d nd w nw)) ∙ sym (ap (λ (t : Table). t .ok) (row-is z y))
 
   module _ (names : List ℕ) (m : Bool) (n k : ℕ) (y : m ≡ true) (x : false ≡ sameOf (take (e + 1 - at) (drop at s)) names) where
-    row-lines : linesTo names form (split 10 (drop at s)) n ≡ lineThen (lineOf form (ended (before 10 (drop at s)))) n (linesTo names form (split 10 (drop (e + 1) s)) (n + 1))
+    row-lines : readLinesOf names form (split 10 (drop at s)) n ≡ lineThen (readRowOf form (ended (before 10 (drop at s)))) n (readLinesOf names form (split 10 (drop (e + 1) s)) (n + 1))
     row-lines =
         let x2 : sameOf (ended (before 10 (drop at s))) names ≡ false = rw (← line-text s at e q h g) (sym x) in
-        ap (λ (ls : List (List ℕ)). linesTo names form ls n) (first s at e q h g) ∙ lines-row names form (before 10 (drop at s)) (split 10 (drop (e + 1) s)) n (split-not-nil 10 (drop (e + 1) s)) x2
+        ap (λ (ls : List (List ℕ)). readLinesOf names form ls n) (first s at e q h g) ∙ lines-row names form (before 10 (drop at s)) (split 10 (drop (e + 1) s)) n (split-not-nil 10 (drop (e + 1) s)) x2
 
     pub stands-row : b ≡ true → comesTo s names form true true (e + 1) (n + 1) (k + 1) (table true d2 nd2 w2 nw2) ≡ comesTo s names form m o at n k (table o d nd w nw)
     unfolding comesTo
     stands-row z =
-        let v = lineOf form (ended (before 10 (drop at s))) in
-        rw (y, row-lines, row-is true z) (onto-then v n k (table o d nd w nw) (linesTo names form (split 10 (drop (e + 1) s)) (n + 1)) (row-ok true z))
+        let v = readRowOf form (ended (before 10 (drop at s))) in
+        rw (y, row-lines, row-is true z) (onto-then v n k (table o d nd w nw) (readLinesOf names form (split 10 (drop (e + 1) s)) (n + 1)) (row-ok true z))
 
     pub stands-bad : b ≡ false → comesTo s names form false false at n k (table false d2 nd2 w2 nw2) ≡ comesTo s names form m o at n k (table o d nd w nw)
     unfolding comesTo restAt
     stands-bad z =
-        let v = lineOf form (ended (before 10 (drop at s))) in
-        rw (y, row-lines, row-is false z) (onto-stop v n k (table o d nd w nw) (linesTo names form (split 10 (drop (e + 1) s)) (n + 1)) (row-ok false z))
+        let v = readRowOf form (ended (before 10 (drop at s))) in
+        rw (y, row-lines, row-is false z) (onto-stop v n k (table o d nd w nw) (readLinesOf names form (split 10 (drop (e + 1) s)) (n + 1)) (row-ok false z))
 
   module _ (n : ℕ) (y : o ≡ true) where
-    row-one : oneLine form (restAt o s at) n ≡ lineThen (lineOf form (ended (before 10 (drop at s)))) n (over (n + 1) (split 10 (drop (e + 1) s)))
+    row-one : readOneOf form (restAt o s at) n ≡ lineThen (readRowOf form (ended (before 10 (drop at s)))) n (over (n + 1) (split 10 (drop (e + 1) s)))
     unfolding restAt
-    row-one = rw y (ap (λ (ls : List (List ℕ)). oneLine form ls n) (first s at e q h g) ∙ one-row form (before 10 (drop at s)) (split 10 (drop (e + 1) s)) n (split-not-nil 10 (drop (e + 1) s)))
+    row-one = rw y (ap (λ (ls : List (List ℕ)). readOneOf form ls n) (first s at e q h g) ∙ one-row form (before 10 (drop at s)) (split 10 (drop (e + 1) s)) n (split-not-nil 10 (drop (e + 1) s)))
 
-    pub one-is : b ≡ true → reading true (n + 1) 1 (table true d2 nd2 w2 nw2) (restAt true s (e + 1)) ≡ onto 0 (table true d nd w nw) (oneLine form (restAt o s at) n)
+    pub one-is : b ≡ true → reading true (n + 1) 1 (table true d2 nd2 w2 nw2) (restAt true s (e + 1)) ≡ onto 0 (table true d nd w nw) (readOneOf form (restAt o s at) n)
     unfolding restAt
     one-is z =
-        let v = lineOf form (ended (before 10 (drop at s))) in
+        let v = readRowOf form (ended (before 10 (drop at s))) in
         let f = over (n + 1) (split 10 (drop (e + 1) s)) in
         onto-over (n + 1) 1 (table true d2 nd2 w2 nw2) (split 10 (drop (e + 1) s))
         ∙ ap (λ (t : Table). onto 1 t f) (row-is true z ∙ sym (put-any v o d nd w nw))
         ∙ onto-then v n 0 (table true d nd w nw) f (row-ok true z)
         ∙ ap (onto 0 (table true d nd w nw)) (sym row-one)
 
-    pub one-not : b ≡ false → reading false n 0 (table false d2 nd2 w2 nw2) (restAt false s at) ≡ onto 0 (table true d nd w nw) (oneLine form (restAt o s at) n)
+    pub one-not : b ≡ false → reading false n 0 (table false d2 nd2 w2 nw2) (restAt false s at) ≡ onto 0 (table true d nd w nw) (readOneOf form (restAt o s at) n)
     unfolding restAt
     one-not z =
-        let v = lineOf form (ended (before 10 (drop at s))) in
+        let v = readRowOf form (ended (before 10 (drop at s))) in
         let f = over (n + 1) (split 10 (drop (e + 1) s)) in
         ap (λ (t : Table). reading false n 0 t []) (row-is false z ∙ sym (put-any v o d nd w nw))
         ∙ onto-stop v n 0 (table true d nd w nw) f (row-ok false z)
         ∙ ap (onto 0 (table true d nd w nw)) (sym row-one)
 
-module _ (s form : List ℕ) (at e : ℕ) (q : e ≡ endOf s at 10) (h : at ≤ length s) (o : Bool) (d : List Float) (nd : ℕ) (w : List ℕ) (nw : ℕ) where
+module _ (s form : List ℕ) (at e : ℕ) (q : e ≡ endAtOf s at 10) (h : at ≤ length s) (o : Bool) (d : List Float) (nd : ℕ) (w : List ℕ) (nw : ℕ) where
   module _ (names : List ℕ) (m : Bool) (n k : ℕ) (y : m ≡ true) where
     pub stands-over : e < length s → true ≡ sameOf (take (e + 1 - at) (drop at s)) names → comesTo s names form false true (e + 1) (n + 1) k (table true d nd w nw) ≡ comesTo s names form m o at n k (table o d nd w nw)
     unfolding comesTo restAt
     stands-over g x =
         let x2 : sameOf (ended (before 10 (drop at s))) names ≡ true = rw (← line-text s at e q h g) (sym x) in
-        let l = ap (λ (ls : List (List ℕ)). linesTo names form ls n) (first s at e q h g) ∙ lines-over names form (before 10 (drop at s)) (split 10 (drop (e + 1) s)) n (split-not-nil 10 (drop (e + 1) s)) x2 in
+        let l = ap (λ (ls : List (List ℕ)). readLinesOf names form ls n) (first s at e q h g) ∙ lines-over names form (before 10 (drop at s)) (split 10 (drop (e + 1) s)) n (split-not-nil 10 (drop (e + 1) s)) x2 in
         rw (y, l) (onto-over (n + 1) k (table o d nd w nw) (split 10 (drop (e + 1) s)))
 
-    pub stands-last : (b : Bool) → length s ≤ e → b ≡ endsWell (e - at) names → comesTo s names form false b at n k (table b d nd w nw) ≡ comesTo s names form m o at n k (table o d nd w nw)
+    pub stands-last : (b : Bool) → length s ≤ e → b ≡ endsWellOf (e - at) names → comesTo s names form false b at n k (table b d nd w nw) ≡ comesTo s names form m o at n k (table o d nd w nw)
     unfolding comesTo
     stands-last b g x =
-        let x2 : endsWell (length (before 10 (drop at s))) names ≡ b = rw (bytes s at e q h) (sym x) in
-        let l = ap (λ (ls : List (List ℕ)). linesTo names form ls n) (only s at e q h g) ∙ lines-last names form (before 10 (drop at s)) n ∙ ap (λ (c : Bool). cond c (over n (before 10 (drop at s) ∷ [])) (stopped n)) x2 in
+        let x2 : endsWellOf (length (before 10 (drop at s))) names ≡ b = rw (bytes s at e q h) (sym x) in
+        let l = ap (λ (ls : List (List ℕ)). readLinesOf names form ls n) (only s at e q h g) ∙ lines-last names form (before 10 (drop at s)) n ∙ ap (λ (c : Bool). cond c (over n (before 10 (drop at s) ∷ [])) (stopped n)) x2 in
         rw (y, l) (go b)
       where
         go : (b : Bool) → reading b n k (table b d nd w nw) (restAt b s at) ≡ onto k (table o d nd w nw) (cond b (over n (before 10 (drop at s) ∷ [])) (stopped n))
         go true = ap (reading true n k (table true d nd w nw)) (rest-go s at ∙ only s at e q h g) ∙ onto-over n k (table o d nd w nw) (before 10 (drop at s) ∷ [])
         go false = ap (reading false n k (table false d nd w nw)) (rest-no s at) ∙ onto-stopped n k (table o d nd w nw)
 
-  pub one-unended : (n : ℕ) → o ≡ true → length s ≤ e → reading false n 0 (table false d nd w nw) (restAt false s at) ≡ onto 0 (table true d nd w nw) (oneLine form (restAt o s at) n)
+  pub one-unended : (n : ℕ) → o ≡ true → length s ≤ e → reading false n 0 (table false d nd w nw) (restAt false s at) ≡ onto 0 (table true d nd w nw) (readOneOf form (restAt o s at) n)
   unfolding restAt
   one-unended n y g =
-      rw y (onto-stopped n 0 (table true d nd w nw) ∙ ap (onto 0 (table true d nd w nw)) (sym (ap (λ (ls : List (List ℕ)). oneLine form ls n) (only s at e q h g) ∙ one-last form (before 10 (drop at s)) n)))
+      rw y (onto-stopped n 0 (table true d nd w nw) ∙ ap (onto 0 (table true d nd w nw)) (sym (ap (λ (ls : List (List ℕ)). readOneOf form ls n) (only s at e q h g) ∙ one-last form (before 10 (drop at s)) n)))
 
-pub one-none : (s form : List ℕ) (at : ℕ) (o : Bool) (d : List Float) (nd : ℕ) (w : List ℕ) (nw n : ℕ) → o ≡ false → reading false n 0 (table false d nd w nw) (restAt false s at) ≡ onto 0 (table true d nd w nw) (oneLine form (restAt o s at) n)
-unfolding restAt oneLine
+pub one-none : (s form : List ℕ) (at : ℕ) (o : Bool) (d : List Float) (nd : ℕ) (w : List ℕ) (nw n : ℕ) → o ≡ false → reading false n 0 (table false d nd w nw) (restAt false s at) ≡ onto 0 (table true d nd w nw) (readOneOf form (restAt o s at) n)
+unfolding restAt readOneOf
 one-none s form at o d nd w nw n y = rw y (onto-stopped n 0 (table true d nd w nw))
 
 -- ---- the loop over lines
 
-pub stands-start : (s names form : List ℕ) (b : Bool) (at n : ℕ) (d : List Float) (w : List ℕ) → comesTo s names form b b at n 0 (table b d 0 w 0) ≡ onto 0 (table true d 0 w 0) (linesTo names form (restAt b s at) n)
-unfolding comesTo restAt linesTo onto put putAll
+pub stands-start : (s names form : List ℕ) (b : Bool) (at n : ℕ) (d : List Float) (w : List ℕ) → comesTo s names form b b at n 0 (table b d 0 w 0) ≡ onto 0 (table true d 0 w 0) (readLinesOf names form (restAt b s at) n)
+unfolding comesTo restAt readLinesOf onto put putAll
 stands-start s names form true at n d w = refl
 stands-start s names form false at n d w = refl
 

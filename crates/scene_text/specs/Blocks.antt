@@ -6,7 +6,7 @@ use lib.Dec.{eqb}
 use lib.ListN.{length}
 use Rattle.scene_text.specs.Names.{ended}
 use Rattle.scene_text.specs.Cells.{Values, noValues, badValues, joined}
-use Rattle.scene_text.specs.Lines.{isNil, lineOf}
+use Rattle.scene_text.specs.Lines.{isNil, readRowOf}
 
 unfoldable pub sameOf : List ℕ → List ℕ → Bool
 sameOf [] [] = true
@@ -41,22 +41,22 @@ lineThen v n b = cond (v .ok) (block (b .ok) (b .line) (suc (b .rows)) (joined v
 -- In all that follows the lines are a text's parts between its LFs. What follows the last LF is the last part, and no line.
 
 -- line n, the first of these, has this form
-unfoldable pub oneLine : List ℕ → List (List ℕ) → ℕ → Block
-oneLine form [] n = stopped n
-oneLine form (l ∷ ls) n = cond (isNil ls) (stopped n) (lineThen (lineOf form (ended l)) n (over (n + 1) ls))
+unfoldable pub readOneOf : List ℕ → List (List ℕ) → ℕ → Block
+readOneOf form [] n = stopped n
+readOneOf form (l ∷ ls) n = cond (isNil ls) (stopped n) (lineThen (readRowOf form (ended l)) n (over (n + 1) ls))
 
 -- whether a text may end with so many bytes behind its last LF, before this line of names: with none, and if there are no names to come
-unfoldable pub endsWell : ℕ → List ℕ → Bool
-endsWell bytes names = cond (eqb bytes 0) (eqb (length names) 0) false
+unfoldable pub endsWellOf : ℕ → List ℕ → Bool
+endsWellOf bytes names = cond (eqb bytes 0) (eqb (length names) 0) false
 
 -- any number of lines of this form, up to the next block's line of names; up to the text's end if there are no names
-unfoldable pub linesTo : List ℕ → List ℕ → List (List ℕ) → ℕ → Block
-linesTo names form [] n = stopped n
-linesTo names form (l ∷ ls) n =
-    cond (isNil ls) (cond (endsWell (length l) names) (over n (l ∷ ls)) (stopped n))
+unfoldable pub readLinesOf : List ℕ → List ℕ → List (List ℕ) → ℕ → Block
+readLinesOf names form [] n = stopped n
+readLinesOf names form (l ∷ ls) n =
+    cond (isNil ls) (cond (endsWellOf (length l) names) (over n (l ∷ ls)) (stopped n))
     (cond (sameOf (ended l) names) (over (n + 1) ls)
-    (lineThen (lineOf form (ended l)) n (linesTo names form ls (n + 1))))
+    (lineThen (readRowOf form (ended l)) n (readLinesOf names form ls (n + 1))))
 
 -- line n is this line of names: no line has the empty form
-unfoldable pub namesAt : List ℕ → List (List ℕ) → ℕ → Block
-namesAt names ls n = linesTo names [] ls n
+unfoldable pub readNamesOf : List ℕ → List (List ℕ) → ℕ → Block
+readNamesOf names ls n = readLinesOf names [] ls n

@@ -5,7 +5,7 @@ use mathlib.Core.Bool.{Bool, true, false, cond}
 use lib.Dec.{ltb}
 use lib.ListN.{length, drop}
 use Rattle.fields.specs.Split.{before}
-use Rattle.scene_text.specs.Cells.{Values, noValues, badValues, joined, cellOf}
+use Rattle.scene_text.specs.Cells.{Values, noValues, badValues, joined, readCellOf}
 
 unfoldable pub isNil : {A : Type 0} → List A → Bool
 isNil [] = true
@@ -20,7 +20,7 @@ unfoldable pub behind : ℕ → List ℕ → List ℕ
 behind b l = drop (suc (length (before b l))) l
 
 -- the cells of a form, each up to the first byte that ends it, and nothing behind the last; a form has two bytes a cell
-unfoldable pub lineOf : List ℕ → List ℕ → Values
-lineOf [] l = cond (isNil l) noValues badValues
-lineOf (k ∷ []) l = cond (isNil l) noValues badValues
-lineOf (k ∷ b ∷ form) l = cond (has b l) (joined (cellOf k (before b l)) (lineOf form (behind b l))) badValues
+unfoldable pub readRowOf : List ℕ → List ℕ → Values
+readRowOf [] l = cond (isNil l) noValues badValues
+readRowOf (k ∷ []) l = cond (isNil l) noValues badValues
+readRowOf (k ∷ b ∷ form) l = cond (has b l) (joined (readCellOf k (before b l)) (readRowOf form (behind b l))) badValues

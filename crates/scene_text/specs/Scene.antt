@@ -9,7 +9,7 @@ use Rattle.error.specs.Refusals.{Checked, passed, refusedAt}
 use Rattle.fields.specs.Split.{split}
 use Rattle.scene_text.specs.Names.{runNames, runForm, solidNames, solidForm, detectorNames, detectorForm, rayNames, rayForm}
 use Rattle.scene_text.specs.Tables.{putAll}
-use Rattle.scene_text.specs.Blocks.{Block, namesAt, oneLine, linesTo}
+use Rattle.scene_text.specs.Blocks.{Block, readNamesOf, readOneOf, readLinesOf}
 
 -- The four blocks. The last one is well formed if all are; its line is the first bad or missing one else.
 pub record Contents : Type 0 where
@@ -22,17 +22,17 @@ abbrev pub contents : Block → Block → Block → Block → Contents
 contents a b c d = record { run = a; solids = b; detectors = c; rays = d }
 
 -- the line of names and the one line of the run
-unfoldable pub runOf : List (List ℕ) → Block
-runOf ls = let a = namesAt runNames ls 1 in oneLine runForm (a .rest) (a .line)
+unfoldable pub readRunOf : List (List ℕ) → Block
+readRunOf ls = let a = readNamesOf runNames ls 1 in readOneOf runForm (a .rest) (a .line)
 
 -- one block after the other: where one is not well formed there are no lines for the next, which stops at the same number
-unfoldable pub contentsOf : List ℕ → Contents
-contentsOf s =
-    let b = runOf (split 10 s) in
-    let c = namesAt solidNames (b .rest) (b .line) in
-    let d = linesTo detectorNames solidForm (c .rest) (c .line) in
-    let e = linesTo rayNames detectorForm (d .rest) (d .line) in
-    let f = linesTo [] rayForm (e .rest) (e .line) in
+unfoldable pub contentsIn : List ℕ → Contents
+contentsIn s =
+    let b = readRunOf (split 10 s) in
+    let c = readNamesOf solidNames (b .rest) (b .line) in
+    let d = readLinesOf detectorNames solidForm (c .rest) (c .line) in
+    let e = readLinesOf rayNames detectorForm (d .rest) (d .line) in
+    let f = readLinesOf [] rayForm (e .rest) (e .line) in
     contents b d e f
 
 -- whether a text is well formed, its first bad or missing line, and how many lines each block has
@@ -46,8 +46,8 @@ pub record Tally : Type 0 where
 abbrev pub tally : Bool → ℕ → ℕ → ℕ → ℕ → Tally
 tally b n i j k = record { ok = b; line = n; solids = i; detectors = j; rays = k }
 
-unfoldable pub tallyOf : Contents → Tally
-tallyOf c = tally (c .rays .ok) (c .rays .line) (c .solids .rows) (c .detectors .rows) (c .rays .rows)
+unfoldable pub tallied : Contents → Tally
+tallied c = tally (c .rays .ok) (c .rays .line) (c .solids .rows) (c .detectors .rows) (c .rays .rows)
 
 -- The lent slices, doubles and whole numbers of each block in the text's order:
 -- of the run 7 (threshold, a to f) and 3 (bounces, filter, ambient);
@@ -94,11 +94,11 @@ answer c i j k m = record { check = c; solids = i; detectors = j; rays = k; left
 abbrev pub refused : ℕ → Slices → Answer
 refused n m = answer (refusedAt 17 n) 0 0 0 m
 
-unfoldable pub answerOf : Tally → Slices → Slices → Answer
-answerOf t new old = cond (t .ok) (answer (passed tt) (t .solids) (t .detectors) (t .rays) new) (refused (t .line) old)
+unfoldable pub answered : Tally → Slices → Slices → Answer
+answered t new old = cond (t .ok) (answer (passed tt) (t .solids) (t .detectors) (t .rays) new) (refused (t .line) old)
 
 -- a text of at most 65,536 bytes
-unfoldable pub sceneOf : List ℕ → Slices → Answer
-sceneOf s m =
+unfoldable pub readSceneOf : List ℕ → Slices → Answer
+readSceneOf s m =
     cond (ltb 65536 (length s)) (refused 0 m)
-    (let c = contentsOf s in answerOf (tallyOf c) (filledWith c m) m)
+    (let c = contentsIn s in answered (tallied c) (filledWith c m) m)

@@ -6,9 +6,9 @@ use lib.ListN.{drop}
 use lib.Ieee.{Float}
 use Rattle.fields.specs.Split.{split}
 use Rattle.scene_text.specs.Cells.{Values}
-use Rattle.scene_text.specs.Lines.{lineOf}
+use Rattle.scene_text.specs.Lines.{readRowOf}
 use Rattle.scene_text.specs.Tables.{putAll}
-use Rattle.scene_text.specs.Blocks.{Block, linesTo}
+use Rattle.scene_text.specs.Blocks.{Block, readLinesOf}
 
 -- a slice of doubles and one of whole numbers, and whether all was well formed so far
 pub record Table : Type 0 where
@@ -29,7 +29,7 @@ put v t =
 
 -- a line, read up to this place, with this form to come
 unfoldable pub lineFrom : List ℕ → ℕ → List ℕ → Table → Table
-lineFrom line at form t = cond (t .ok) (put (lineOf form (drop at line)) t) t
+lineFrom line at form t = cond (t .ok) (put (readRowOf form (drop at line)) t) t
 
 -- a block whose values are in slices
 pub record Reading : Type 0 where
@@ -52,4 +52,4 @@ restAt b s at = cond b (split 10 (drop at s)) []
 
 -- a block that was read up to line n at this place, after k lines of values: `more` where it goes on, else `ok` where it is over
 unfoldable pub comesTo : List ℕ → List ℕ → List ℕ → Bool → Bool → ℕ → ℕ → ℕ → Table → Reading
-comesTo s names form more ok at n k t = cond more (onto k t (linesTo names form (split 10 (drop at s)) n)) (reading ok n k t (restAt ok s at))
+comesTo s names form more ok at n k t = cond more (onto k t (readLinesOf names form (split 10 (drop at s)) n)) (reading ok n k t (restAt ok s at))

@@ -4,8 +4,8 @@ ghost use mathlib.Core.Path.{_≡_};
 ghost use mathlib.Core.Bool.{true};
 ghost use Prim.Native.Nat.{_+_, _≤_, _<_};
 ghost use lib.ListN.{length};
-ghost use Rattle.fields.specs.Split.{endOf};
-ghost use Rattle.scene_text.specs.Blocks.{sameOf, namesAt, oneLine, endsWell, linesTo};
+ghost use Rattle.fields.specs.Split.{endAtOf};
+ghost use Rattle.scene_text.specs.Blocks.{sameOf, readNamesOf, readOneOf, endsWellOf, readLinesOf};
 ghost use Rattle.scene_text.specs.Steps.{table, reading, onto, restAt, comesTo};
 
 // Where the reading of a block stands: whether it goes on, whether all was well formed so far, where the next line starts and its number
@@ -47,7 +47,7 @@ fn read_line(
     d: &mut [f64],
     w: &mut [u32],
 ) -> Found
-    requires { ⌜ (e ≡ endOf (now s) (f .at) 10) × (e < length (now s)) × (length (now s) ≤ 65536) × (f .at ≤ e) × (f .line ≤ f .at + 1) × (f .rows ≤ f .at) × (f .more ≡ true) ⌝ }
+    requires { ⌜ (e ≡ endAtOf (now s) (f .at) 10) × (e < length (now s)) × (length (now s) ≤ 65536) × (f .at ≤ e) × (f .line ≤ f .at + 1) × (f .rows ≤ f .at) × (f .more ≡ true) ⌝ }
     ensures { λ r. ⌜ comesTo (now (s .entry)) (now (names .entry)) (now (form .entry)) (r .more) (r .ok) (r .at) (r .line) (r .rows) (table (r .ok) (now (d .exit)) (r .nd) (now (w .exit)) (r .nw))
         ≡ comesTo (now (s .entry)) (now (names .entry)) (now (form .entry)) (f .more) (f .ok) (f .at) (f .line) (f .rows) (table (f .ok) (now (d .entry)) (f .nd) (now (w .entry)) (f .nw)) ⌝ }
     ensures { λ r. ⌜ (r .at ≤ length (now (s .entry))) × (r .line ≤ r .at + 1) × (r .rows ≤ r .at) × (r .more ≡ true → f .at < r .at) ⌝ }
@@ -113,7 +113,7 @@ fn read_next(s: &[u8], f: Found, names: &[u8], form: &[u8], d: &mut [f64], w: &m
 
 // Whether a text may end here, with so many bytes behind its last LF: none, and with no names to come.
 fn ends_well(bytes: usize, names: &[u8]) -> bool
-    ensures { λ r. ⌜ r ≡ endsWell bytes (now (names .entry)) ⌝ }
+    ensures { λ r. ⌜ r ≡ endsWellOf bytes (now (names .entry)) ⌝ }
 {
     if bytes == 0 {
         return names.len() == 0;
@@ -132,7 +132,7 @@ pub(crate) fn read_lines(
 ) -> Found
     requires { ⌜ (length (now s) ≤ 65536) × (from .at ≤ length (now s)) × (from .line ≤ from .at + 1) ⌝ }
     ensures { λ r. ⌜ reading (r .ok) (r .line) (r .rows) (table (r .ok) (now (d .exit)) (r .nd) (now (w .exit)) (r .nw)) (restAt (r .ok) (now (s .entry)) (r .at))
-        ≡ onto 0 (table true (now (d .entry)) 0 (now (w .entry)) 0) (linesTo (now (names .entry)) (now (form .entry)) (restAt (from .ok) (now (s .entry)) (from .at)) (from .line)) ⌝ }
+        ≡ onto 0 (table true (now (d .entry)) 0 (now (w .entry)) 0) (readLinesOf (now (names .entry)) (now (form .entry)) (restAt (from .ok) (now (s .entry)) (from .at)) (from .line)) ⌝ }
     ensures { λ r. ⌜ (r .at ≤ length (now (s .entry))) × (r .line ≤ r .at + 1) ⌝ }
 {
     let mut f = Found {
@@ -153,7 +153,7 @@ pub(crate) fn read_lines(
 // The next line is this line of names: a block without lines of values, since no line has the empty form.
 pub(crate) fn read_names(s: &[u8], from: Found, names: &[u8]) -> Found
     requires { ⌜ (length (now s) ≤ 65536) × (from .at ≤ length (now s)) × (from .line ≤ from .at + 1) ⌝ }
-    ensures { λ r. ⌜ (let b = namesAt (now (names .entry)) (restAt (from .ok) (now (s .entry)) (from .at)) (from .line) in
+    ensures { λ r. ⌜ (let b = readNamesOf (now (names .entry)) (restAt (from .ok) (now (s .entry)) (from .at)) (from .line) in
         (r .ok ≡ b .ok) × (r .line ≡ b .line) × (restAt (r .ok) (now (s .entry)) (r .at) ≡ b .rest)) ⌝ }
     ensures { λ r. ⌜ (r .at ≤ length (now (s .entry))) × (r .line ≤ r .at + 1) ⌝ }
 {
@@ -166,7 +166,7 @@ pub(crate) fn read_names(s: &[u8], from: Found, names: &[u8]) -> Found
 pub(crate) fn read_one(s: &[u8], from: Found, form: &[u8], d: &mut [f64], w: &mut [u32]) -> Found
     requires { ⌜ (length (now s) ≤ 65536) × (from .at ≤ length (now s)) × (from .line ≤ from .at + 1) ⌝ }
     ensures { λ r. ⌜ reading (r .ok) (r .line) (r .rows) (table (r .ok) (now (d .exit)) (r .nd) (now (w .exit)) (r .nw)) (restAt (r .ok) (now (s .entry)) (r .at))
-        ≡ onto 0 (table true (now (d .entry)) 0 (now (w .entry)) 0) (oneLine (now (form .entry)) (restAt (from .ok) (now (s .entry)) (from .at)) (from .line)) ⌝ }
+        ≡ onto 0 (table true (now (d .entry)) 0 (now (w .entry)) 0) (readOneOf (now (form .entry)) (restAt (from .ok) (now (s .entry)) (from .at)) (from .line)) ⌝ }
     ensures { λ r. ⌜ (r .at ≤ length (now (s .entry))) × (r .line ≤ r .at + 1) ⌝ }
 {
     if from.ok {

@@ -6,8 +6,8 @@ ghost use mathlib.Core.Path.{_≡_};
 ghost use mathlib.Core.Bool.{true};
 ghost use mathlib.Core.List.{[], _∷_};
 ghost use Prim.Native.Nat.{_-_};
-ghost use Rattle.fields.specs.Number.{bitsOf, wholeOf, readWholeOf};
-ghost use Rattle.scene_text.specs.Cells.{doubleCell, wholeCell, below, filterOf, numberAs, cellOf};
+ghost use Rattle.fields.specs.Number.{readBitsOf, readWholeOf, asWhole};
+ghost use Rattle.scene_text.specs.Cells.{doubleCell, wholeCell, readBelowOf, readFilterOf, readNumberOf, readCellOf};
 ghost use Rattle.scene_text.specs.Tables.{filled, putAll};
 ghost use Rattle.scene_text.specs.Steps.{table, put};
 
@@ -43,7 +43,7 @@ pub fn put_u32(w: &mut [u32], at: usize, x: u32) -> usize
 
 fn read_double(f: &[u8], d: &mut [f64], nd: usize, w: &mut [u32], nw: usize) -> Cells
     ensures { λ r. ⌜ table (r .ok) (now (d .exit)) (r .nd) (now (w .exit)) (r .nw)
-        ≡ put (doubleCell (bitsOf (now (f .entry)))) (table true (now (d .entry)) nd (now (w .entry)) nw) ⌝ }
+        ≡ put (doubleCell (readBitsOf (now (f .entry)))) (table true (now (d .entry)) nd (now (w .entry)) nw) ⌝ }
 {
     match fields::read_bits(f) {
         ReadBits::Bits(b) => {
@@ -61,7 +61,7 @@ fn read_double(f: &[u8], d: &mut [f64], nd: usize, w: &mut [u32], nw: usize) -> 
 
 fn put_whole(v: ReadWhole, d: &mut [f64], nd: usize, w: &mut [u32], nw: usize) -> Cells
     ensures { λ r. ⌜ table (r .ok) (now (d .exit)) (r .nd) (now (w .exit)) (r .nw)
-        ≡ put (wholeCell (readWholeOf v)) (table true (now (d .entry)) nd (now (w .entry)) nw) ⌝ }
+        ≡ put (wholeCell (asWhole v)) (table true (now (d .entry)) nd (now (w .entry)) nw) ⌝ }
 {
     match v {
         ReadWhole::Whole(x) => {
@@ -77,7 +77,7 @@ fn put_whole(v: ReadWhole, d: &mut [f64], nd: usize, w: &mut [u32], nw: usize) -
 }
 
 fn read_below(f: &[u8], m: u32) -> ReadWhole
-    ensures { λ r. ⌜ readWholeOf r ≡ below m (wholeOf (now (f .entry))) ⌝ }
+    ensures { λ r. ⌜ asWhole r ≡ readBelowOf m (readWholeOf (now (f .entry))) ⌝ }
 {
     let v = fields::read_whole(f);
     match v {
@@ -92,7 +92,7 @@ fn read_below(f: &[u8], m: u32) -> ReadWhole
 }
 
 fn read_filter(f: &[u8]) -> ReadWhole
-    ensures { λ r. ⌜ readWholeOf r ≡ filterOf (now (f .entry)) ⌝ }
+    ensures { λ r. ⌜ asWhole r ≡ readFilterOf (now (f .entry)) ⌝ }
 {
     if fields::is_byte(f, 45) {
         return ReadWhole::Whole(NO_FILTER);
@@ -111,7 +111,7 @@ fn limit(kind: u8) -> u32
 }
 
 fn read_number(kind: u8, f: &[u8]) -> ReadWhole
-    ensures { λ r. ⌜ readWholeOf r ≡ numberAs kind (now (f .entry)) ⌝ }
+    ensures { λ r. ⌜ asWhole r ≡ readNumberOf kind (now (f .entry)) ⌝ }
 {
     if kind == 102 {
         return read_filter(f);
@@ -126,7 +126,7 @@ fn read_number(kind: u8, f: &[u8]) -> ReadWhole
 // A cell of any kind.
 pub fn read_cell(kind: u8, f: &[u8], d: &mut [f64], nd: usize, w: &mut [u32], nw: usize) -> Cells
     ensures { λ r. ⌜ table (r .ok) (now (d .exit)) (r .nd) (now (w .exit)) (r .nw)
-        ≡ put (cellOf kind (now (f .entry))) (table true (now (d .entry)) nd (now (w .entry)) nw) ⌝ }
+        ≡ put (readCellOf kind (now (f .entry))) (table true (now (d .entry)) nd (now (w .entry)) nw) ⌝ }
 {
     if kind == 100 {
         return read_double(f, d, nd, w, nw);

@@ -8,14 +8,14 @@ ghost use mathlib.Core.List.{List, _∷_};
 ghost use Prim.Native.Nat.{ℕ, suc, _+_, _≤_};
 ghost use lib.ListN.{length};
 ghost use Rattle.fields.specs.Split.{partsAt};
-ghost use Rattle.fields.specs.Number.{wholeOf, readWholeOf};
-ghost use Rattle.scene_text.specs.Cells.{oneMore, mediaParts, countFrom, numberOr0, mediaFrom, mediaOf};
+ghost use Rattle.fields.specs.Number.{readWholeOf, asWhole};
+ghost use Rattle.scene_text.specs.Cells.{oneMoreOf, mediaParts, countMediaOf, numberOrZeroOf, mediaFrom, readMediaOf};
 ghost use Rattle.scene_text.specs.Tables.{filled, putAll};
 ghost use Rattle.scene_text.specs.Steps.{table, put};
 
 // One more, but no more than 9.
 fn one_more(n: u32) -> u32
-    ensures { λ r. ⌜ r ≡ oneMore n ⌝ }
+    ensures { λ r. ⌜ r ≡ oneMoreOf n ⌝ }
 {
     if n < 9 {
         return n + 1;
@@ -37,7 +37,7 @@ fn media_start(f: &[u8]) -> usize
 // How many numbers are joined by commas from a place on, 9 for more than eight.
 fn count_media(f: &[u8], from: usize) -> ReadWhole
     requires { ⌜ from ≤ length (now f) + 1 ⌝ }
-    ensures { λ r. ⌜ readWholeOf r ≡ countFrom (partsAt 44 (now (f .entry)) from) 0 ⌝ }
+    ensures { λ r. ⌜ asWhole r ≡ countMediaOf (partsAt 44 (now (f .entry)) from) 0 ⌝ }
 {
     let mut at = from;
     let mut n: u32 = 0;
@@ -58,7 +58,7 @@ fn count_media(f: &[u8], from: usize) -> ReadWhole
 }
 
 fn number_or_zero(f: &[u8]) -> u32
-    ensures { λ r. ⌜ r ≡ numberOr0 (wholeOf (now (f .entry))) ⌝ }
+    ensures { λ r. ⌜ r ≡ numberOrZeroOf (readWholeOf (now (f .entry))) ⌝ }
 {
     let v = fields::read_whole(f);
     match v {
@@ -108,7 +108,7 @@ fn put_media(f: &[u8], from: usize, w: &mut [u32], nw: usize) -> usize
 
 pub fn read_media(f: &[u8], d: &mut [f64], nd: usize, w: &mut [u32], nw: usize) -> Cells
     ensures { λ r. ⌜ table (r .ok) (now (d .exit)) (r .nd) (now (w .exit)) (r .nw)
-        ≡ put (mediaOf (now (f .entry))) (table true (now (d .entry)) nd (now (w .entry)) nw) ⌝ }
+        ≡ put (readMediaOf (now (f .entry))) (table true (now (d .entry)) nd (now (w .entry)) nw) ⌝ }
 {
     let from = media_start(f);
     let v = count_media(f, from);

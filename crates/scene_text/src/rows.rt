@@ -6,7 +6,7 @@ ghost use mathlib.Core.List.{List, [], _∷_};
 ghost use Prim.Native.Nat.{ℕ, _≤_};
 ghost use lib.ListN.{length};
 ghost use lib.Ieee.{Float};
-ghost use Rattle.scene_text.specs.Lines.{lineOf};
+ghost use Rattle.scene_text.specs.Lines.{readRowOf};
 ghost use Rattle.scene_text.specs.Steps.{table, put, lineFrom};
 
 // Whether a line is well formed so far, where its next cell starts, and the places that come next.
@@ -60,7 +60,7 @@ fn ends_there(line: &[u8], r: Row) -> bool
 // A line, its LF included, of this form.
 pub fn read_row(line: &[u8], form: &[u8], d: &mut [f64], nd: usize, w: &mut [u32], nw: usize) -> Row
     ensures { λ r. ⌜ table (r .ok) (now (d .exit)) (r .nd) (now (w .exit)) (r .nw)
-        ≡ put (lineOf (now (form .entry)) (now (line .entry))) (table true (now (d .entry)) nd (now (w .entry)) nw) ⌝ }
+        ≡ put (readRowOf (now (form .entry)) (now (line .entry))) (table true (now (d .entry)) nd (now (w .entry)) nw) ⌝ }
 {
     let mut r = Row {
         ok: true,

@@ -9,12 +9,12 @@ ghost use mathlib.Core.Path.{_≡_};
 ghost use mathlib.Core.Bool.{true};
 ghost use Prim.Native.Nat.{_+_, _≤_};
 ghost use lib.ListN.{length};
-ghost use Rattle.error.specs.Refusals.{checkOf, refusedAt};
+ghost use Rattle.error.specs.Refusals.{asChecked, refusedAt};
 ghost use Rattle.fields.specs.Split.{split};
 ghost use Rattle.scene_text.specs.Names.{solidNames, solidForm, detectorNames, detectorForm, rayNames};
-ghost use Rattle.scene_text.specs.Blocks.{namesAt, linesTo};
+ghost use Rattle.scene_text.specs.Blocks.{readNamesOf, readLinesOf};
 ghost use Rattle.scene_text.specs.Steps.{table, restAt, onto, reading};
-ghost use Rattle.scene_text.specs.Scene.{runOf, contentsOf, tally, tallyOf, slices, doublesIn, wholesIn, filledWith, answer, sceneOf};
+ghost use Rattle.scene_text.specs.Scene.{readRunOf, contentsIn, tally, tallied, slices, doublesIn, wholesIn, filledWith, answer, readSceneOf};
 
 // What reading a scene text answers: whether it was refused, and how many lines of values the blocks have.
 pub struct SceneText {
@@ -36,7 +36,7 @@ pub struct Tallied {
 // The run's block and the line of names behind it.
 fn read_run(s: &[u8], run: &mut [f64], runs: &mut [u32]) -> Found
     requires { ⌜ length (now s) ≤ 65536 ⌝ }
-    ensures { λ r. ⌜ (let b = runOf (split 10 (now (s .entry))) in let c = namesAt solidNames (b .rest) (b .line) in
+    ensures { λ r. ⌜ (let b = readRunOf (split 10 (now (s .entry))) in let c = readNamesOf solidNames (b .rest) (b .line) in
         (now (run .exit) ≡ doublesIn (now (run .entry)) b) × (now (runs .exit) ≡ wholesIn (now (runs .entry)) b)
         × (r .ok ≡ c .ok) × (r .line ≡ c .line) × (restAt (r .ok) (now (s .entry)) (r .at) ≡ c .rest)) ⌝ }
     ensures { λ r. ⌜ (r .at ≤ length (now (s .entry))) × (r .line ≤ r .at + 1) ⌝ }
@@ -62,7 +62,7 @@ fn read_run(s: &[u8], run: &mut [f64], runs: &mut [u32]) -> Found
 fn read_solids(s: &[u8], from: Found, d: &mut [f64], w: &mut [u32]) -> Found
     requires { ⌜ (length (now s) ≤ 65536) × (from .at ≤ length (now s)) × (from .line ≤ from .at + 1) ⌝ }
     ensures { λ r. ⌜ reading (r .ok) (r .line) (r .rows) (table (r .ok) (now (d .exit)) (r .nd) (now (w .exit)) (r .nw)) (restAt (r .ok) (now (s .entry)) (r .at))
-        ≡ onto 0 (table true (now (d .entry)) 0 (now (w .entry)) 0) (linesTo detectorNames solidForm (restAt (from .ok) (now (s .entry)) (from .at)) (from .line)) ⌝ }
+        ≡ onto 0 (table true (now (d .entry)) 0 (now (w .entry)) 0) (readLinesOf detectorNames solidForm (restAt (from .ok) (now (s .entry)) (from .at)) (from .line)) ⌝ }
     ensures { λ r. ⌜ (r .at ≤ length (now (s .entry))) × (r .line ≤ r .at + 1) ⌝ }
 {
     read_lines(
@@ -78,7 +78,7 @@ fn read_solids(s: &[u8], from: Found, d: &mut [f64], w: &mut [u32]) -> Found
 fn read_detectors(s: &[u8], from: Found, d: &mut [f64], w: &mut [u32]) -> Found
     requires { ⌜ (length (now s) ≤ 65536) × (from .at ≤ length (now s)) × (from .line ≤ from .at + 1) ⌝ }
     ensures { λ r. ⌜ reading (r .ok) (r .line) (r .rows) (table (r .ok) (now (d .exit)) (r .nd) (now (w .exit)) (r .nw)) (restAt (r .ok) (now (s .entry)) (r .at))
-        ≡ onto 0 (table true (now (d .entry)) 0 (now (w .entry)) 0) (linesTo rayNames detectorForm (restAt (from .ok) (now (s .entry)) (from .at)) (from .line)) ⌝ }
+        ≡ onto 0 (table true (now (d .entry)) 0 (now (w .entry)) 0) (readLinesOf rayNames detectorForm (restAt (from .ok) (now (s .entry)) (from .at)) (from .line)) ⌝ }
     ensures { λ r. ⌜ (r .at ≤ length (now (s .entry))) × (r .line ≤ r .at + 1) ⌝ }
 {
     read_lines(
@@ -103,9 +103,9 @@ fn read_blocks(
     marks: &mut [u32],
 ) -> Tallied
     requires { ⌜ length (now s) ≤ 65536 ⌝ }
-    ensures { λ r. ⌜ tally (r .ok) (r .line) (r .solids) (r .detectors) (r .rays) ≡ tallyOf (contentsOf (now (s .entry))) ⌝ }
+    ensures { λ r. ⌜ tally (r .ok) (r .line) (r .solids) (r .detectors) (r .rays) ≡ tallied (contentsIn (now (s .entry))) ⌝ }
     ensures { λ r. ⌜ slices (now (run .exit)) (now (runs .exit)) (now (solids .exit)) (now (tags .exit)) (now (detectors .exit)) (now (sizes .exit)) (now (rays .exit)) (now (marks .exit))
-        ≡ filledWith (contentsOf (now (s .entry))) (slices (now (run .entry)) (now (runs .entry)) (now (solids .entry)) (now (tags .entry)) (now (detectors .entry)) (now (sizes .entry)) (now (rays .entry)) (now (marks .entry))) ⌝ }
+        ≡ filledWith (contentsIn (now (s .entry))) (slices (now (run .entry)) (now (runs .entry)) (now (solids .entry)) (now (tags .entry)) (now (detectors .entry)) (now (sizes .entry)) (now (rays .entry)) (now (marks .entry))) ⌝ }
 {
     let c = read_run(s, run, runs);
     let d = read_solids(s, c, solids, tags);
@@ -123,7 +123,7 @@ fn read_blocks(
 // The same with no slice of the caller's: what does not fit into a slice is dropped, whatever its length.
 fn check_text(s: &[u8]) -> Tallied
     requires { ⌜ length (now s) ≤ 65536 ⌝ }
-    ensures { λ r. ⌜ tally (r .ok) (r .line) (r .solids) (r .detectors) (r .rays) ≡ tallyOf (contentsOf (now (s .entry))) ⌝ }
+    ensures { λ r. ⌜ tally (r .ok) (r .line) (r .solids) (r .detectors) (r .rays) ≡ tallied (contentsIn (now (s .entry))) ⌝ }
 {
     let mut a = [0.0f64; 1];
     let mut b = [0u32; 1];
@@ -147,7 +147,7 @@ fn check_text(s: &[u8]) -> Tallied
 }
 
 fn refused(place: u32) -> SceneText
-    ensures { λ r. ⌜ (checkOf (r .check) ≡ refusedAt 17 place) × (r .solids ≡ 0) × (r .detectors ≡ 0) × (r .rays ≡ 0) ⌝ }
+    ensures { λ r. ⌜ (asChecked (r .check) ≡ refusedAt 17 place) × (r .solids ≡ 0) × (r .detectors ≡ 0) × (r .rays ≡ 0) ⌝ }
 {
     SceneText {
         check: Check::Refused {
@@ -172,9 +172,9 @@ pub fn read_scene(
     rays: &mut [f64],
     marks: &mut [u32],
 ) -> SceneText
-    ensures { λ r. ⌜ answer (checkOf (r .check)) (r .solids) (r .detectors) (r .rays)
+    ensures { λ r. ⌜ answer (asChecked (r .check)) (r .solids) (r .detectors) (r .rays)
         (slices (now (run .exit)) (now (runs .exit)) (now (solids .exit)) (now (tags .exit)) (now (detectors .exit)) (now (sizes .exit)) (now (rays .exit)) (now (marks .exit)))
-        ≡ sceneOf (now (text .entry)) (slices (now (run .entry)) (now (runs .entry)) (now (solids .entry)) (now (tags .entry)) (now (detectors .entry)) (now (sizes .entry)) (now (rays .entry)) (now (marks .entry))) ⌝ }
+        ≡ readSceneOf (now (text .entry)) (slices (now (run .entry)) (now (runs .entry)) (now (solids .entry)) (now (tags .entry)) (now (detectors .entry)) (now (sizes .entry)) (now (rays .entry)) (now (marks .entry))) ⌝ }
 {
     if 65536 < text.len() {
         return refused(0);

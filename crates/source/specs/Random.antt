@@ -29,8 +29,8 @@ unfoldable pub nextU64Of : Rng64 → DrawnU64
 nextU64Of g = let x = nextState (g .state) in record { rng = record { state = x }; value = scrambled x }
 
 -- the top 53 bits as a whole number, times 2 ^ -53
-unfoldable pub unitOf : ℕ → Float
-unitOf n = mul binary64 (ofInt binary64 (pos (n / 2 ^ 11))) (ofBits binary64 0x3ca0000000000000)
+unfoldable pub unitInterval : ℕ → Float
+unitInterval n = mul binary64 (ofInt binary64 (pos (n / 2 ^ 11))) (ofBits binary64 0x3ca0000000000000)
 
 unfoldable pub nextF64Of : Rng64 → DrawnF64
-nextF64Of g = let d = nextU64Of g in record { rng = d .rng; value = unitOf (d .value) }
+nextF64Of g = let d = nextU64Of g in record { rng = d .rng; value = unitInterval (d .value) }

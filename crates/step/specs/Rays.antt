@@ -11,7 +11,7 @@ use Rattle.material.specs.declared.OpticalMedium.{OpticalMedium}
 use Rattle.material.specs.declared.SurfaceFinish.{SurfaceFinish}
 use Rattle.scene.specs.declared.SolidNo.{SolidNo}
 use Rattle.scene.specs.declared.NonSeqObject.{NonSeqObject}
-use Rattle.scene.specs.Solids.{solidAt, finishAt, mediumAt}
+use Rattle.scene.specs.Solids.{objectAtOf, finishAtOf, mediumAtOf}
 use Rattle.media.specs.declared.Media.{Media}
 use Rattle.detector.specs.declared.DetectorHit.{DetectorHit}
 use Rattle.faces.specs.declared.Faces.{Faces}
@@ -34,11 +34,11 @@ pub record Scene : Type 0 where
   pub optics : Optics
 
 -- the scene whose n solids are the lists x and k
-abbrev pub opticsOf : List Float → List ℕ → NonSeqTraceConfig → Optics
-opticsOf x k g = record { finish = finishAt x k; medium = mediumAt x k; config = g }
+abbrev pub listedOptics : List Float → List ℕ → NonSeqTraceConfig → Optics
+listedOptics x k g = record { finish = finishAtOf x k; medium = mediumAtOf x k; config = g }
 
-abbrev pub sceneOf : List Float → List ℕ → ℕ → Faces → NonSeqTraceConfig → Scene
-sceneOf x k n fs g = record { solids = n; solid = solidAt x k; faces = fs; optics = opticsOf x k g }
+abbrev pub listedScene : List Float → List ℕ → ℕ → Faces → NonSeqTraceConfig → Scene
+listedScene x k n fs g = record { solids = n; solid = objectAtOf x k; faces = fs; optics = listedOptics x k g }
 
 -- what becomes of the newest ray: at most the threshold; bounced to the limit; lost to the dark; caught by a detector; a power left at an absorber or a mirror; the powers reflected and transmitted at a clear surface, and whether the radicand was at most 0; a refusal
 pub data End : Type 0 where
@@ -59,8 +59,8 @@ pub record Step : Type 0 where
   pub transmitted : ActiveRay
 
 -- no ray comes of a
-abbrev pub ended : ActiveRay → End → Step
-ended a e = record { end = e; «first» = false; reflected = a; second = false; transmitted = a }
+abbrev pub endsOf : ActiveRay → End → Step
+endsOf a e = record { end = e; «first» = false; reflected = a; second = false; transmitted = a }
 
 -- a count raised by 1; no traced ray comes near the largest
 abbrev pub maxCount : ℕ
@@ -92,14 +92,14 @@ transmittedOf a r m =
     }
 
 -- what the code's answers say
-abbrev pub endOf : fates.Fate → End
-endOf fates.the-variants.Dim = dim
-endOf fates.the-variants.Spent = spent
-endOf fates.the-variants.Gone = gone
-endOf (fates.the-variants.Caught h) = caught h
-endOf (fates.the-variants.Stopped p) = stopped p
-endOf (fates.the-variants.Parted r t total) = parted r t total
-endOf (fates.the-variants.Refused e) = refusing (numberOf e)
+abbrev pub asEnd : fates.Fate → End
+asEnd fates.the-variants.Dim = dim
+asEnd fates.the-variants.Spent = spent
+asEnd fates.the-variants.Gone = gone
+asEnd (fates.the-variants.Caught h) = caught h
+asEnd (fates.the-variants.Stopped p) = stopped p
+asEnd (fates.the-variants.Parted r t total) = parted r t total
+asEnd (fates.the-variants.Refused e) = refusing (numberOf e)
 
-abbrev pub stepOf : Event → Step
-stepOf e = record { end = endOf (e .fate); «first» = e .«first»; reflected = e .reflected; second = e .second; transmitted = e .transmitted }
+abbrev pub asStep : Event → Step
+asStep e = record { end = asEnd (e .fate); «first» = e .«first»; reflected = e .reflected; second = e .second; transmitted = e .transmitted }

@@ -12,8 +12,8 @@ use Rattle.material.specs.declared.SurfaceFinish.the-variants.{Specular, Mirror
 use Rattle.material.specs.Media.{refractiveIndexOf}
 use Rattle.scene.specs.declared.SolidNo.{SolidNo}
 use Rattle.scene.specs.declared.NonSeqHit.{NonSeqHit}
-use Rattle.scene.specs.Closest.{closestOf}
-use Rattle.surface.specs.Fresnel.{Parted, total, both, snellFresnelOf, mirroredPowerOf, mirroredOf}
+use Rattle.scene.specs.Closest.{closestObjectOf}
+use Rattle.surface.specs.Fresnel.{FresnelInteraction, total, split, computeSnellFresnelInteractionOf, mirroredPowerOf, mirroredOf}
 use Rattle.media.specs.declared.Media.{Media}
 use Rattle.media.specs.Media.{newestOf, enteredOf, leftOf}
 use Rattle.detector.specs.declared.DetectorHit.{DetectorHit}
@@ -22,7 +22,7 @@ use Rattle.faces.specs.Faces.{nearestDetectorOf}
 use Rattle.step.specs.declared.ActiveRay.{ActiveRay}
 use Rattle.step.specs.declared.encounter.Encounter.{Encounter}
 use Rattle.step.specs.declared.encounter.Encounter.the-variants as code
-use Rattle.step.specs.Rays.{Optics, Scene, Step, ended, dim, spent, gone, caught, stopped, parted, refusing, reflectedOf, transmittedOf}
+use Rattle.step.specs.Rays.{Optics, Scene, Step, endsOf, dim, spent, gone, caught, stopped, parted, refusing, reflectedOf, transmittedOf}
 
 abbrev #0 : Float
 #0 = ofBits binary64 0
@@ -35,16 +35,16 @@ mediumFrom O (some s) = O .medium s
 mediumFrom O none = O .config .«ambient_medium»
 
 -- the index in the newest of the media; 14 before 15
-unfoldable pub indexIn : Optics → Media → Float → Answer Float
-indexIn O m w = refractiveIndexOf (mediumFrom O (newestOf m)) w
+unfoldable pub indexInOf : Optics → Media → Float → Answer Float
+indexInOf O m w = refractiveIndexOf (mediumFrom O (newestOf m)) w
 
 -- the media beyond the surface: the solid appended on entering, its last place removed on leaving
 unfoldable pub beyondOf : Media → NonSeqHit → Media
 beyondOf m h = cond (h .entering) (enteredOf m (h .«object_id»)) (leftOf m (h .«object_id»))
 
 -- each ray is made if its power is above the threshold; transmitted power at most 0 counts as total reflection
-unfoldable pub partedOf : Float → ActiveRay → Media → Parted → Step
-partedOf threshold a m (total r) =
+unfoldable pub partedBy : Float → ActiveRay → Media → FresnelInteraction → Step
+partedBy threshold a m (total r) =
     record {
       end = parted (r .energy) #0 true;
       «first» = lt threshold (r .energy);
@@ -52,7 +52,7 @@ partedOf threshold a m (total r) =
       second = false;
       transmitted = a;
     }
-partedOf threshold a m (both r t) =
+partedBy threshold a m (split r t) =
     record {
       end = parted (r .energy) (t .energy) false;
       «first» = lt threshold (r .energy);
@@ -61,48 +61,48 @@ partedOf threshold a m (both r t) =
       transmitted = transmittedOf a t m;
     }
 
-unfoldable pub partedFrom : Float → ActiveRay → Media → Answer Parted → Step
-partedFrom threshold a m (value p) = partedOf threshold a m p
-partedFrom threshold a m (refusal n) = ended a (refusing n)
+unfoldable pub partedOf : Float → ActiveRay → Media → Answer FresnelInteraction → Step
+partedOf threshold a m (value p) = partedBy threshold a m p
+partedOf threshold a m (refusal n) = endsOf a (refusing n)
 
 -- between indices n₁ and n₂, the first judged before the second; m is the media beyond
-unfoldable pub clearBetween : Float → ActiveRay → NonSeqHit → Media → Answer Float → Answer Float → Step
-clearBetween threshold a h m (value n1) (value n2) = partedFrom threshold a m (snellFresnelOf (a .ray) h n1 n2 (a .ray .energy))
-clearBetween threshold a h m (value n1) (refusal n) = ended a (refusing n)
-clearBetween threshold a h m (refusal n) n2 = ended a (refusing n)
+unfoldable pub betweenOf : Float → ActiveRay → NonSeqHit → Media → Answer Float → Answer Float → Step
+betweenOf threshold a h m (value n1) (value n2) = partedOf threshold a m (computeSnellFresnelInteractionOf (a .ray) h n1 n2 (a .ray .energy))
+betweenOf threshold a h m (value n1) (refusal n) = endsOf a (refusing n)
+betweenOf threshold a h m (refusal n) n2 = endsOf a (refusing n)
 
 unfoldable pub clearOf : Optics → ActiveRay → NonSeqHit → Step
 clearOf O a h =
     let w = a .ray .«wavelength_nm» in
     let m = beyondOf (a .media) h in
-    clearBetween (O .config .«min_power_threshold») a h m (indexIn O (a .media) w) (indexIn O m w)
+    betweenOf (O .config .«min_power_threshold») a h m (indexInOf O (a .media) w) (indexInOf O m w)
 
 -- ---- a mirror
 
-unfoldable pub mirrorFrom : ActiveRay → Float → Answer Ray → Step
-mirrorFrom a left (value r) =
+unfoldable pub mirrorFromOf : ActiveRay → Float → Answer Ray → Step
+mirrorFromOf a left (value r) =
     record { end = stopped left; «first» = true; reflected = reflectedOf false a r; second = false; transmitted = a }
-mirrorFrom a left (refusal n) = ended a (refusing n)
+mirrorFromOf a left (refusal n) = endsOf a (refusing n)
 
 -- what the mirror keeps is absorbed; its ray is made only above the threshold
 unfoldable pub mirrorOf : Float → ActiveRay → NonSeqHit → Float → Step
 mirrorOf threshold a h rho =
     let power = mirroredPowerOf (a .ray .energy) rho in
     let left = sub binary64 (a .ray .energy) power in
-    cond (lt threshold power) (mirrorFrom a left (mirroredOf (a .ray) h power)) (ended a (stopped left))
+    cond (lt threshold power) (mirrorFromOf a left (mirroredOf (a .ray) h power)) (endsOf a (stopped left))
 
 -- ---- what a ray meets
 
 unfoldable pub surfaceBy : Optics → ActiveRay → NonSeqHit → SurfaceFinish → Step
 surfaceBy O a h Specular = clearOf O a h
 surfaceBy O a h (Mirror rho) = mirrorOf (O .config .«min_power_threshold») a h rho
-surfaceBy O a h Absorber = ended a (stopped (a .ray .energy))
+surfaceBy O a h Absorber = endsOf a (stopped (a .ray .energy))
 
 unfoldable pub surfaceOf : Optics → ActiveRay → NonSeqHit → Step
 surfaceOf O a h = surfaceBy O a h (O .finish (h .«object_id»))
 
-abbrev pub caughtBy : ActiveRay → Sight → DetectorHit
-caughtBy a s =
+abbrev pub caughtByOf : ActiveRay → Sight → DetectorHit
+caughtByOf a s =
     record {
       «local_x» = s .crossing .«local_x»;
       «local_y» = s .crossing .«local_y»;
@@ -129,22 +129,22 @@ firstMetOf none (some h) = solid h
 firstMetOf (some s) none = detector s
 firstMetOf (some s) (some h) = nearerOf s h
 
-unfoldable pub meetsOf : Scene → ActiveRay → Met → Step
-meetsOf S a (detector s) = ended a (caught (caughtBy a s))
-meetsOf S a (solid h) = surfaceOf (S .optics) a h
-meetsOf S a nothing = ended a gone
+unfoldable pub meetsWith : Scene → ActiveRay → Met → Step
+meetsWith S a (detector s) = endsOf a (caught (caughtByOf a s))
+meetsWith S a (solid h) = surfaceOf (S .optics) a h
+meetsWith S a nothing = endsOf a gone
 
 unfoldable pub interactOf : Scene → ActiveRay → Step
-interactOf S a = meetsOf S a (firstMetOf (nearestDetectorOf (S .faces) (a .ray)) (closestOf (S .solid) (S .solids) (a .ray)))
+interactOf S a = meetsWith S a (firstMetOf (nearestDetectorOf (S .faces) (a .ray)) (closestObjectOf (S .solid) (S .solids) (a .ray)))
 
 -- power at most the threshold: dim; else bounce at least the limit: spent; else one interaction
-unfoldable pub turnOf : Scene → ActiveRay → Step
-turnOf S a =
-    cond (le (a .ray .energy) (S .optics .config .«min_power_threshold»)) (ended a dim)
-    (cond (leb (S .optics .config .«max_bounces») (a .«bounce_count»)) (ended a spent) (interactOf S a))
+unfoldable pub takeStepOf : Scene → ActiveRay → Step
+takeStepOf S a =
+    cond (le (a .ray .energy) (S .optics .config .«min_power_threshold»)) (endsOf a dim)
+    (cond (leb (S .optics .config .«max_bounces») (a .«bounce_count»)) (endsOf a spent) (interactOf S a))
 
 -- what the code's answer says
-abbrev pub metOf : Encounter → Met
-metOf (code.Detector s) = detector s
-metOf (code.Solid h) = solid h
-metOf code.Nothing = nothing
+abbrev pub asMet : Encounter → Met
+asMet (code.Detector s) = detector s
+asMet (code.Solid h) = solid h
+asMet code.Nothing = nothing

@@ -10,10 +10,10 @@ use rays::Ray;
 use scene::NonSeqHit;
 use surface::FresnelInteraction;
 ghost use mathlib.Core.Path.{_≡_};
-ghost use Rattle.material.specs.Media.{answerOf};
-ghost use Rattle.surface.specs.Fresnel.{total, both, partedOf as saidOf};
-ghost use Rattle.step.specs.Rays.{opticsOf, stepOf};
-ghost use Rattle.step.specs.Turn.{indexIn, beyondOf, partedOf, partedFrom, clearBetween, clearOf};
+ghost use Rattle.material.specs.Media.{asIndex};
+ghost use Rattle.surface.specs.Fresnel.{total, split, asInteraction};
+ghost use Rattle.step.specs.Rays.{listedOptics, asStep};
+ghost use Rattle.step.specs.Turn.{indexInOf, beyondOf, partedBy, partedOf, betweenOf, clearOf};
 
 // The index of the newest medium, else of the ambient.
 fn index_in(
@@ -23,7 +23,7 @@ fn index_in(
     media: Media,
     wavelength: f64,
 ) -> RefractiveIndex
-    ensures { λ r. ⌜ answerOf r ≡ indexIn (opticsOf (now (values .entry)) (now (tags .entry)) config) media wavelength ⌝ }
+    ensures { λ r. ⌜ asIndex r ≡ indexInOf (listedOptics (now (values .entry)) (now (tags .entry)) config) media wavelength ⌝ }
 {
     let ambient = config.ambient_medium;
     match media.newest() {
@@ -47,7 +47,7 @@ fn beyond(media: Media, hit: NonSeqHit) -> Media
 }
 
 fn all_reflected(threshold: f64, a: ActiveRay, media: Media, ray: Ray) -> Event
-    ensures { λ r. ⌜ stepOf r ≡ partedOf threshold a media (total ray) ⌝ }
+    ensures { λ r. ⌜ asStep r ≡ partedBy threshold a media (total ray) ⌝ }
 {
     Event {
         fate: Fate::Parted {
@@ -64,7 +64,7 @@ fn all_reflected(threshold: f64, a: ActiveRay, media: Media, ray: Ray) -> Event
 
 // Transmitted power at most 0 counts as total reflection.
 fn both_made(threshold: f64, a: ActiveRay, media: Media, reflected: Ray, transmitted: Ray) -> Event
-    ensures { λ r. ⌜ stepOf r ≡ partedOf threshold a media (both reflected transmitted) ⌝ }
+    ensures { λ r. ⌜ asStep r ≡ partedBy threshold a media (split reflected transmitted) ⌝ }
 {
     let tir = transmitted.energy <= 0.0;
     Event {
@@ -81,7 +81,7 @@ fn both_made(threshold: f64, a: ActiveRay, media: Media, reflected: Ray, transmi
 }
 
 fn parted(threshold: f64, a: ActiveRay, media: Media, rays: FresnelInteraction) -> Event
-    ensures { λ r. ⌜ stepOf r ≡ partedFrom threshold a media (saidOf rays) ⌝ }
+    ensures { λ r. ⌜ asStep r ≡ partedOf threshold a media (asInteraction rays) ⌝ }
 {
     match rays {
         FresnelInteraction::Total(ray) => all_reflected(threshold, a, media, ray),
@@ -102,7 +102,7 @@ fn between(
     here: RefractiveIndex,
     there: RefractiveIndex,
 ) -> Event
-    ensures { λ r. ⌜ stepOf r ≡ clearBetween threshold a hit media (answerOf here) (answerOf there) ⌝ }
+    ensures { λ r. ⌜ asStep r ≡ betweenOf threshold a hit media (asIndex here) (asIndex there) ⌝ }
 {
     let ray = a.ray;
     match here {
@@ -124,7 +124,7 @@ pub(crate) fn clear(
     a: ActiveRay,
     hit: NonSeqHit,
 ) -> Event
-    ensures { λ r. ⌜ stepOf r ≡ clearOf (opticsOf (now (values .entry)) (now (tags .entry)) config) a hit ⌝ }
+    ensures { λ r. ⌜ asStep r ≡ clearOf (listedOptics (now (values .entry)) (now (tags .entry)) config) a hit ⌝ }
 {
     let media = a.media;
     let after = beyond(media, hit);

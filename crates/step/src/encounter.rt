@@ -4,9 +4,9 @@ use faces::Sighting;
 use scene::Intersection;
 use scene::NonSeqHit;
 ghost use mathlib.Core.Path.{_≡_};
-ghost use Rattle.scene.specs.Objects.{hitOf};
-ghost use Rattle.faces.specs.Faces.{sightOf};
-ghost use Rattle.step.specs.Turn.{nearerOf, firstMetOf, metOf};
+ghost use Rattle.scene.specs.Objects.{asHit};
+ghost use Rattle.faces.specs.Faces.{asSight};
+ghost use Rattle.step.specs.Turn.{nearerOf, firstMetOf, asMet};
 
 pub enum Encounter {
     Detector(Sight),
@@ -16,7 +16,7 @@ pub enum Encounter {
 
 // A detector wins only if it is strictly nearer than the solid.
 fn nearer(sight: Sight, hit: NonSeqHit) -> Encounter
-    ensures { λ r. ⌜ metOf r ≡ nearerOf sight hit ⌝ }
+    ensures { λ r. ⌜ asMet r ≡ nearerOf sight hit ⌝ }
 {
     if sight.crossing.t < hit.t {
         return Encounter::Detector(sight);
@@ -25,7 +25,7 @@ fn nearer(sight: Sight, hit: NonSeqHit) -> Encounter
 }
 
 pub fn first_met(seen: Sighting, met: Intersection) -> Encounter
-    ensures { λ r. ⌜ metOf r ≡ firstMetOf (sightOf seen) (hitOf met) ⌝ }
+    ensures { λ r. ⌜ asMet r ≡ firstMetOf (asSight seen) (asHit met) ⌝ }
 {
     match seen {
         Sighting::Seen(sight) => match met {

@@ -16,8 +16,8 @@ use detector::DetectorHit;
 use rays::Ray;
 use scene::NonSeqHit;
 ghost use mathlib.Core.Path.{_≡_};
-ghost use Rattle.step.specs.Rays.{opticsOf, sceneOf, ended, moreOf, reflectedOf, transmittedOf, endOf, stepOf};
-ghost use Rattle.step.specs.Turn.{caughtBy, surfaceOf, meetsOf, interactOf, turnOf, metOf};
+ghost use Rattle.step.specs.Rays.{listedOptics, listedScene, endsOf, moreOf, reflectedOf, transmittedOf, asEnd, asStep};
+ghost use Rattle.step.specs.Turn.{caughtByOf, surfaceOf, meetsWith, interactOf, takeStepOf, asMet};
 
 // By which rules rays are traced.
 pub struct NonSeqTraceConfig {
@@ -78,7 +78,7 @@ pub fn more(n: u32) -> u32
 impl ActiveRay {
     // The event of which no ray comes.
     fn ends(self, fate: Fate) -> Event
-        ensures { λ r. ⌜ stepOf r ≡ ended self (endOf fate) ⌝ }
+        ensures { λ r. ⌜ asStep r ≡ endsOf self (asEnd fate) ⌝ }
     {
         Event {
             fate,
@@ -128,7 +128,7 @@ impl ActiveRay {
 
     // What a detector that it crosses is to record.
     fn caught_by(self, sight: Sight) -> DetectorHit
-        ensures { λ r. ⌜ r ≡ caughtBy self sight ⌝ }
+        ensures { λ r. ⌜ r ≡ caughtByOf self sight ⌝ }
     {
         let ray = self.ray;
         let crossing = sight.crossing;
@@ -154,7 +154,7 @@ fn surface(
     a: ActiveRay,
     hit: NonSeqHit,
 ) -> Event
-    ensures { λ r. ⌜ stepOf r ≡ surfaceOf (opticsOf (now (values .entry)) (now (tags .entry)) config) a hit ⌝ }
+    ensures { λ r. ⌜ asStep r ≡ surfaceOf (listedOptics (now (values .entry)) (now (tags .entry)) config) a hit ⌝ }
 {
     let solid = hit.object_id;
     match scene::finish_at(values, tags, solid) {
@@ -174,7 +174,7 @@ fn interact(
     faces: Faces,
     a: ActiveRay,
 ) -> Event
-    ensures { λ r. ⌜ stepOf r ≡ interactOf (sceneOf (now (values .entry)) (now (tags .entry)) count faces config) a ⌝ }
+    ensures { λ r. ⌜ asStep r ≡ interactOf (listedScene (now (values .entry)) (now (tags .entry)) count faces config) a ⌝ }
 {
     let ray = a.ray;
     let seen = faces.nearest(ray);
@@ -196,7 +196,7 @@ pub fn turn(
     faces: Faces,
     a: ActiveRay,
 ) -> Event
-    ensures { λ r. ⌜ stepOf r ≡ turnOf (sceneOf (now (values .entry)) (now (tags .entry)) count faces config) a ⌝ }
+    ensures { λ r. ⌜ asStep r ≡ takeStepOf (listedScene (now (values .entry)) (now (tags .entry)) count faces config) a ⌝ }
 {
     if a.ray.energy <= config.min_power_threshold {
         return a.ends(Fate::Dim);

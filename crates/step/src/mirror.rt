@@ -5,13 +5,13 @@ use crate::Fate;
 use rays::NewRay;
 use scene::NonSeqHit;
 ghost use mathlib.Core.Path.{_≡_};
-ghost use Rattle.rays.specs.Rays.{answerOf};
-ghost use Rattle.step.specs.Rays.{stepOf};
-ghost use Rattle.step.specs.Turn.{mirrorFrom, mirrorOf};
+ghost use Rattle.rays.specs.Rays.{asRay};
+ghost use Rattle.step.specs.Rays.{asStep};
+ghost use Rattle.step.specs.Turn.{mirrorFromOf, mirrorOf};
 
 // The ray is on its way again, and the rest of its power stays; or it could not be made.
 fn mirror_from(a: ActiveRay, left: f64, made: NewRay) -> Event
-    ensures { λ r. ⌜ stepOf r ≡ mirrorFrom a left (answerOf made) ⌝ }
+    ensures { λ r. ⌜ asStep r ≡ mirrorFromOf a left (asRay made) ⌝ }
 {
     match made {
         NewRay::Made(ray) => Event {
@@ -27,7 +27,7 @@ fn mirror_from(a: ActiveRay, left: f64, made: NewRay) -> Event
 
 // Only a ray above the threshold is made.
 pub(crate) fn mirror(threshold: f64, a: ActiveRay, hit: NonSeqHit, reflectance: f64) -> Event
-    ensures { λ r. ⌜ stepOf r ≡ mirrorOf threshold a hit reflectance ⌝ }
+    ensures { λ r. ⌜ asStep r ≡ mirrorOf threshold a hit reflectance ⌝ }
 {
     let ray = a.ray;
     let power = surface::mirrored_power(ray.energy, reflectance);

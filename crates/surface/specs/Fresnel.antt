@@ -9,8 +9,7 @@ use Rattle.rays.specs.declared.Ray.{Ray}
 use Rattle.rays.specs.Vectors.{dotOf, plusOf, minusOf, scaleOf, normalizeOf}
 use Rattle.rays.specs.Rays.{offset, newRayOf}
 use Rattle.scene.specs.declared.NonSeqHit.{NonSeqHit}
-use Rattle.surface.specs.declared.FresnelInteraction.{FresnelInteraction}
-use Rattle.surface.specs.declared.FresnelInteraction.the-variants.{Total, Split, Refused}
+use Rattle.surface.specs.declared.FresnelInteraction as code
 
 abbrev #0 : Float
 #0 = ofBits binary64 0
@@ -53,40 +52,40 @@ reflectanceOf n1 n2 c1 c2 =
     clampOf (mul binary64 #½ (add binary64 (mul binary64 rs rs) (mul binary64 rp rp))) #0 #1
 
 -- what comes of a ray at a clear surface: all of it reflected, or a reflected and a transmitted ray
-pub data Parted : Type 0 where
-  total : Ray → Parted
-  both : Ray → Ray → Parted
+pub data FresnelInteraction : Type 0 where
+  total : Ray → FresnelInteraction
+  split : Ray → Ray → FresnelInteraction
 
-abbrev pub totalFrom : Answer Ray → Answer Parted
-totalFrom (value r) = value (total r)
-totalFrom (refusal n) = refusal n
+abbrev pub totalOf : Answer Ray → Answer FresnelInteraction
+totalOf (value r) = value (total r)
+totalOf (refusal n) = refusal n
 
-abbrev pub bothFrom : Answer Ray → Answer Ray → Answer Parted
-bothFrom (value r) (value t) = value (both r t)
-bothFrom (value r) (refusal n) = refusal n
-bothFrom (refusal n) t = refusal n
+abbrev pub bothOf : Answer Ray → Answer Ray → Answer FresnelInteraction
+bothOf (value r) (value t) = value (split r t)
+bothOf (value r) (refusal n) = refusal n
+bothOf (refusal n) t = refusal n
 
 -- a radicand above 0, or NaN: eta is n₁ / n₂, c1 the cosine of the angle of incidence
-unfoldable pub refractOf : Ray → NonSeqHit → Float → Float → Float → Float → Float → Answer Parted
+unfoldable pub refractOf : Ray → NonSeqHit → Float → Float → Float → Float → Float → Answer FresnelInteraction
 refractOf r h n1 n2 eta c1 power =
     let c2 = sqrtOf (radicandOf eta c1) in
     let f = reflectanceOf n1 n2 c1 c2 in
-    bothFrom (leavingOf r (h .point) (reflectedDirectionOf (r .direction) (h .normal) c1) (mul binary64 power f))
+    bothOf (leavingOf r (h .point) (reflectedDirectionOf (r .direction) (h .normal) c1) (mul binary64 power f))
     (leavingOf r (h .point) (refractedDirectionOf (r .direction) (h .normal) eta c1 c2) (mul binary64 power (sub binary64 #1 f)))
 
--- a radicand at most 0 is total reflection; both rays are made before any threshold is looked at
-unfoldable pub snellFresnelOf : Ray → NonSeqHit → Float → Float → Float → Answer Parted
-snellFresnelOf r h n1 n2 power =
+-- a radicand at most 0 is total reflection; split rays are made before any threshold is looked at
+unfoldable pub computeSnellFresnelInteractionOf : Ray → NonSeqHit → Float → Float → Float → Answer FresnelInteraction
+computeSnellFresnelInteractionOf r h n1 n2 power =
     let c1 = cosineOf (r .direction) (h .normal) in
     let eta = div binary64 n1 n2 in
-    cond (le (radicandOf eta c1) #0) (totalFrom (leavingOf r (h .point) (reflectedDirectionOf (r .direction) (h .normal) c1) power))
+    cond (le (radicandOf eta c1) #0) (totalOf (leavingOf r (h .point) (reflectedDirectionOf (r .direction) (h .normal) c1) power))
     (refractOf r h n1 n2 eta c1 power)
 
 -- what the code's answer says
-abbrev pub partedOf : FresnelInteraction → Answer Parted
-partedOf (Total r) = value (total r)
-partedOf (Split r t) = value (both r t)
-partedOf (Refused e) = refusal (numberOf e)
+abbrev pub asInteraction : code.FresnelInteraction → Answer FresnelInteraction
+asInteraction (code.the-variants.Total r) = value (total r)
+asInteraction (code.the-variants.Split r t) = value (split r t)
+asInteraction (code.the-variants.Refused e) = refusal (numberOf e)
 
 -- ---- mirrors
 

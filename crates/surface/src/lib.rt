@@ -6,8 +6,8 @@ use rays::Ray;
 use rays::Vec3;
 use scene::NonSeqHit;
 ghost use mathlib.Core.Path.{_≡_};
-ghost use Rattle.rays.specs.Rays.{answerOf};
-ghost use Rattle.surface.specs.Fresnel.{leavingOf, cosineOf, radicandOf, reflectedDirectionOf, refractedDirectionOf, amplitudeOf, reflectanceOf, totalFrom, bothFrom, refractOf, snellFresnelOf, partedOf, mirroredPowerOf, mirroredOf};
+ghost use Rattle.rays.specs.Rays.{asRay};
+ghost use Rattle.surface.specs.Fresnel.{leavingOf, cosineOf, radicandOf, reflectedDirectionOf, refractedDirectionOf, amplitudeOf, reflectanceOf, totalOf, bothOf, refractOf, computeSnellFresnelInteractionOf, asInteraction, mirroredPowerOf, mirroredOf};
 
 pub enum FresnelInteraction {
     // total reflection: no second ray
@@ -18,7 +18,7 @@ pub enum FresnelInteraction {
 
 // A ray along d that starts just beyond p.
 fn leaving(ray: Ray, p: Vec3, d: Vec3, power: f64) -> NewRay
-    ensures { λ r. ⌜ answerOf r ≡ leavingOf ray p d power ⌝ }
+    ensures { λ r. ⌜ asRay r ≡ leavingOf ray p d power ⌝ }
 {
     let origin = p.plus(d.scale(Ray::OFFSET));
     Ray::new(origin, d, ray.wavelength_nm, power)
@@ -64,7 +64,7 @@ fn reflectance(n1: f64, n2: f64, c1: f64, c2: f64) -> f64
 }
 
 fn total(reflected: NewRay) -> FresnelInteraction
-    ensures { λ r. ⌜ partedOf r ≡ totalFrom (answerOf reflected) ⌝ }
+    ensures { λ r. ⌜ asInteraction r ≡ totalOf (asRay reflected) ⌝ }
 {
     match reflected {
         NewRay::Made(ray) => FresnelInteraction::Total(ray),
@@ -73,7 +73,7 @@ fn total(reflected: NewRay) -> FresnelInteraction
 }
 
 fn both(reflected: NewRay, transmitted: NewRay) -> FresnelInteraction
-    ensures { λ r. ⌜ partedOf r ≡ bothFrom (answerOf reflected) (answerOf transmitted) ⌝ }
+    ensures { λ r. ⌜ asInteraction r ≡ bothOf (asRay reflected) (asRay transmitted) ⌝ }
 {
     match reflected {
         NewRay::Made(a) => match transmitted {
@@ -97,7 +97,7 @@ fn refract(
     c1: f64,
     power: f64,
 ) -> FresnelInteraction
-    ensures { λ r. ⌜ partedOf r ≡ refractOf ray hit n1 n2 eta c1 power ⌝ }
+    ensures { λ r. ⌜ asInteraction r ≡ refractOf ray hit n1 n2 eta c1 power ⌝ }
 {
     let d = ray.direction;
     let n = hit.normal;
@@ -124,7 +124,7 @@ pub fn compute_snell_fresnel_interaction(
     n2: f64,
     power: f64,
 ) -> FresnelInteraction
-    ensures { λ r. ⌜ partedOf r ≡ snellFresnelOf ray hit n1 n2 power ⌝ }
+    ensures { λ r. ⌜ asInteraction r ≡ computeSnellFresnelInteractionOf ray hit n1 n2 power ⌝ }
 {
     let d = ray.direction;
     let n = hit.normal;
@@ -145,7 +145,7 @@ pub fn mirrored_power(power: f64, reflectance: f64) -> f64
 
 // The ray that a mirror sends on, or 16.
 pub fn mirrored(ray: Ray, hit: NonSeqHit, power: f64) -> NewRay
-    ensures { λ r. ⌜ answerOf r ≡ mirroredOf ray hit power ⌝ }
+    ensures { λ r. ⌜ asRay r ≡ mirroredOf ray hit power ⌝ }
 {
     let d = ray.direction;
     let n = hit.normal;

@@ -4,11 +4,11 @@ use mathlib.Core.Bool.{Bool, true, false}
 use mathlib.Core.List.{List}
 use Prim.Native.Nat.{ℕ, suc, _+_, _-_, _≤_, _<_}
 use native.Mathlib.Omega.{arith}
-use Rattle.fields.specs.Number.{bitsOf}
-use Rattle.test_vectors.specs.Parts.{partOf, isRead, bitsFrom}
+use Rattle.fields.specs.Number.{readBitsOf}
+use Rattle.test_vectors.specs.Parts.{partIn, isRead, bitsFrom}
 
 module _ (l : List ℕ) (k to : ℕ) (z : Bool) (i : bitsFrom l k (to - k) ≡ z) where
-  module _ (b : Bool) (h : k < to) (q : b ≡ isRead (bitsOf (partOf l k))) where
+  module _ (b : Bool) (h : k < to) (q : b ≡ isRead (readBitsOf (partIn l k))) where
     left : to - k ≡ suc (to - (k + 1))
     left = omega arith
 

@@ -17,6 +17,6 @@ countOf t agrees =
     cond agrees (tally n ((t .agree + 1) % 2 ^ 64) (t .first)) (tally n (t .agree) (cond (eqb (t .first) 0) n (t .first)))
 
 -- the tally t with the lines of ls counted, which agree where `agrees` says so
-unfoldable pub tallyOf : (List ℕ → Bool) → Tally → List (List ℕ) → Tally
-tallyOf agrees t [] = t
-tallyOf agrees t (l ∷ ls) = tallyOf agrees (countOf t (agrees l)) ls
+unfoldable pub tallyLinesOf : (List ℕ → Bool) → Tally → List (List ℕ) → Tally
+tallyLinesOf agrees t [] = t
+tallyLinesOf agrees t (l ∷ ls) = tallyLinesOf agrees (countOf t (agrees l)) ls

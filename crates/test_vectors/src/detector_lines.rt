@@ -16,13 +16,13 @@ use crate::parts::is_dash;
 use crate::parts::is_double;
 use crate::parts::vec_at;
 ghost use mathlib.Core.Path.{_≡_};
-ghost use Rattle.detector.specs.Faces.{crossedOf};
-ghost use Rattle.detector.specs.Pixels.{readingOf};
-ghost use Rattle.test_vectors.specs.DetectorLines.{wholeAt, isAnyWhole, gridOf, isIndex, detectorIn, rayIn, crossingGiven, isCrossingAt, isCrossing, crossingLine, gridIn, recordingGiven, isPixel, isArea, recordingLine};
+ghost use Rattle.detector.specs.Faces.{asCrossing};
+ghost use Rattle.detector.specs.Pixels.{asReading};
+ghost use Rattle.test_vectors.specs.DetectorLines.{wholeAtOf, isAnyWholeOf, gridOf, isIndexOf, detectorInOf, rayInOf, isCrossingGivenOf, isCrossingAtOf, isCrossingOf, crossingLineOf, gridInOf, isRecordingGivenOf, isPixelOf, isAreaOf, recordingLineOf};
 
 // Part k of a line as a decimal; 0 where it is malformed.
 fn whole_at(line: &[u8], k: usize) -> u32
-    ensures { λ r. ⌜ r ≡ wholeAt (now (line .entry)) k ⌝ }
+    ensures { λ r. ⌜ r ≡ wholeAtOf (now (line .entry)) k ⌝ }
 {
     match fields::read_whole(fields::part(line, b' ', k)) {
         ReadWhole::Whole(a) => a,
@@ -32,7 +32,7 @@ fn whole_at(line: &[u8], k: usize) -> u32
 
 // Whether part k of a line is a decimal at all.
 fn is_any_whole(line: &[u8], k: usize) -> bool
-    ensures { λ r. ⌜ r ≡ isAnyWhole (now (line .entry)) k ⌝ }
+    ensures { λ r. ⌜ r ≡ isAnyWholeOf (now (line .entry)) k ⌝ }
 {
     match fields::read_whole(fields::part(line, b' ', k)) {
         ReadWhole::Whole(_) => true,
@@ -71,7 +71,7 @@ fn grid(width_mm: f64, height_mm: f64, res_x: u32, res_y: u32) -> Detector2D
 
 // Whether part k of a line is which of n steps along a size a place lies in.
 fn is_index(line: &[u8], k: usize, local: f64, size: f64, n: u32) -> bool
-    ensures { λ r. ⌜ r ≡ isIndex (now (line .entry)) k local size n ⌝ }
+    ensures { λ r. ⌜ r ≡ isIndexOf (now (line .entry)) k local size n ⌝ }
 {
     let i = index_along(local, size, n);
     match fields::read_whole(fields::part(line, b' ', k)) {
@@ -82,7 +82,7 @@ fn is_index(line: &[u8], k: usize, local: f64, size: f64, n: u32) -> bool
 
 // The detector of a crossing line.
 fn detector_in(line: &[u8]) -> Detector2D
-    ensures { λ r. ⌜ r ≡ detectorIn (now (line .entry)) ⌝ }
+    ensures { λ r. ⌜ r ≡ detectorInOf (now (line .entry)) ⌝ }
 {
     Detector2D {
         center: vec_at(line, 0),
@@ -98,7 +98,7 @@ fn detector_in(line: &[u8]) -> Detector2D
 }
 
 fn ray_in(line: &[u8]) -> Ray
-    ensures { λ r. ⌜ r ≡ rayIn (now (line .entry)) ⌝ }
+    ensures { λ r. ⌜ r ≡ rayInOf (now (line .entry)) ⌝ }
 {
     Ray {
         origin: vec_at(line, 13),
@@ -110,7 +110,7 @@ fn ray_in(line: &[u8]) -> Ray
 
 // Whether the parts of a crossing line before "=" are what they are to be.
 fn is_crossing_given(line: &[u8]) -> bool
-    ensures { λ r. ⌜ r ≡ crossingGiven (now (line .entry)) ⌝ }
+    ensures { λ r. ⌜ r ≡ isCrossingGivenOf (now (line .entry)) ⌝ }
 {
     let frame = are_bits(line, 0, 11);
     let res_x = is_any_whole(line, 11);
@@ -119,7 +119,7 @@ fn is_crossing_given(line: &[u8]) -> bool
 }
 
 fn is_crossing_at(line: &[u8], d: Detector2D, c: Crossing) -> bool
-    ensures { λ r. ⌜ r ≡ isCrossingAt (now (line .entry)) d c ⌝ }
+    ensures { λ r. ⌜ r ≡ isCrossingAtOf (now (line .entry)) d c ⌝ }
 {
     let t = is_double(line, 20, c.t);
     let x = is_double(line, 21, c.local_x);
@@ -131,7 +131,7 @@ fn is_crossing_at(line: &[u8], d: Detector2D, c: Crossing) -> bool
 
 // Whether the parts from 19 on are what a detector's face answers.
 fn is_crossing(line: &[u8], d: Detector2D, c: Crossed) -> bool
-    ensures { λ r. ⌜ r ≡ isCrossing (now (line .entry)) d (crossedOf c) ⌝ }
+    ensures { λ r. ⌜ r ≡ isCrossingOf (now (line .entry)) d (asCrossing c) ⌝ }
 {
     match c {
         Crossed::At(m) => both(has_shape(line, 25, 19), is_crossing_at(line, d, m)),
@@ -140,7 +140,7 @@ fn is_crossing(line: &[u8], d: Detector2D, c: Crossed) -> bool
 }
 
 pub fn crossing_line(line: &[u8]) -> bool
-    ensures { λ r. ⌜ r ≡ crossingLine (now (line .entry)) ⌝ }
+    ensures { λ r. ⌜ r ≡ crossingLineOf (now (line .entry)) ⌝ }
 {
     let d = detector_in(line);
     let c = d.face().intersect_ray(ray_in(line));
@@ -149,7 +149,7 @@ pub fn crossing_line(line: &[u8]) -> bool
 
 // The detector of a recording line.
 fn grid_in(line: &[u8]) -> Detector2D
-    ensures { λ r. ⌜ r ≡ gridIn (now (line .entry)) ⌝ }
+    ensures { λ r. ⌜ r ≡ gridInOf (now (line .entry)) ⌝ }
 {
     let width = double_at(line, 0);
     let height = double_at(line, 1);
@@ -158,7 +158,7 @@ fn grid_in(line: &[u8]) -> Detector2D
 
 // Whether a recording line has its parts, with "=" and those before it as they are to be.
 fn is_recording_given(line: &[u8]) -> bool
-    ensures { λ r. ⌜ r ≡ recordingGiven (now (line .entry)) ⌝ }
+    ensures { λ r. ⌜ r ≡ isRecordingGivenOf (now (line .entry)) ⌝ }
 {
     let sizes = both(has_shape(line, 12, 7), are_bits(line, 0, 2));
     let res_x = is_any_whole(line, 2);
@@ -167,7 +167,7 @@ fn is_recording_given(line: &[u8]) -> bool
 }
 
 fn is_pixel(line: &[u8], d: Detector2D) -> bool
-    ensures { λ r. ⌜ r ≡ isPixel (now (line .entry)) d ⌝ }
+    ensures { λ r. ⌜ r ≡ isPixelOf (now (line .entry)) d ⌝ }
 {
     let px = is_index(line, 8, double_at(line, 4), d.width_mm, d.res_x);
     let py = is_index(line, 9, double_at(line, 5), d.height_mm, d.res_y);
@@ -176,7 +176,7 @@ fn is_pixel(line: &[u8], d: Detector2D) -> bool
 
 // Whether part 10 is the area that was answered. No line has a refusal.
 fn is_area(line: &[u8], a: Reading) -> bool
-    ensures { λ r. ⌜ r ≡ isArea (now (line .entry)) (readingOf a) ⌝ }
+    ensures { λ r. ⌜ r ≡ isAreaOf (now (line .entry)) (asReading a) ⌝ }
 {
     match a {
         Reading::Value(x) => is_double(line, 10, x),
@@ -186,7 +186,7 @@ fn is_area(line: &[u8], a: Reading) -> bool
 
 // The irradiance is read after the flux was added to a pixel that held 0.0, so a flux of -0.0 gives 0.0.
 pub fn recording_line(line: &[u8]) -> bool
-    ensures { λ r. ⌜ r ≡ recordingLine (now (line .entry)) ⌝ }
+    ensures { λ r. ⌜ r ≡ recordingLineOf (now (line .entry)) ⌝ }
 {
     let d = grid_in(line);
     let ok = both(is_recording_given(line), is_pixel(line, d));

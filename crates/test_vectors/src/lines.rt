@@ -21,9 +21,9 @@ use crate::parts::one_if;
 use crate::parts::vec_at;
 ghost use mathlib.Core.Path.{_≡_};
 ghost use Rattle.error.specs.Refusals.{numberOf};
-ghost use Rattle.material.specs.Media.{answerOf};
-ghost use Rattle.test_vectors.specs.Parts.{partOf};
-ghost use Rattle.test_vectors.specs.Lines.{rootLine, doubleLine, drawsAgree, drawLine, stateLine, mediumIn, isRefusal, isAnswer, indexLine, pairAgrees, oneAgrees, vectorLine, matrixLine, lineAgrees};
+ghost use Rattle.material.specs.Media.{asIndex};
+ghost use Rattle.test_vectors.specs.Parts.{partIn};
+ghost use Rattle.test_vectors.specs.Lines.{rootLineOf, doubleLineOf, drawsAgreeOf, drawLineOf, stateLineOf, mediumOf, isRefusalOf, isAnswerOf, indexLineOf, pairAgreesOf, oneAgreesOf, vectorLineOf, matrixLineOf, lineAgreesOf};
 
 // What a file's lines say.
 pub enum Kind {
@@ -54,7 +54,7 @@ pub enum Kind {
 }
 
 fn root_line(line: &[u8]) -> bool
-    ensures { λ r. ⌜ r ≡ rootLine (now (line .entry)) ⌝ }
+    ensures { λ r. ⌜ r ≡ rootLineOf (now (line .entry)) ⌝ }
 {
     let x = doubles::from_bits(bits_at(line, 0));
     let ok = is_given(line, 3, 1);
@@ -62,7 +62,7 @@ fn root_line(line: &[u8]) -> bool
 }
 
 fn double_line(line: &[u8]) -> bool
-    ensures { λ r. ⌜ r ≡ doubleLine (now (line .entry)) ⌝ }
+    ensures { λ r. ⌜ r ≡ doubleLineOf (now (line .entry)) ⌝ }
 {
     let x = doubles::from_bits(bits_at(line, 0));
     let ok = is_given(line, 7, 1);
@@ -76,7 +76,7 @@ fn double_line(line: &[u8]) -> bool
 
 // Whether the parts of a line from k on are n drawn numbers and then one drawn double.
 fn draws_agree(line: &[u8], rng: Rng64) -> bool
-    ensures { λ r. ⌜ r ≡ drawsAgree (now (line .entry)) 5 2 rng ⌝ }
+    ensures { λ r. ⌜ r ≡ drawsAgreeOf (now (line .entry)) 5 2 rng ⌝ }
 {
     let mut g = rng;
     let mut k: usize = 2;
@@ -94,14 +94,14 @@ fn draws_agree(line: &[u8], rng: Rng64) -> bool
 }
 
 fn draw_line(line: &[u8]) -> bool
-    ensures { λ r. ⌜ r ≡ drawLine (now (line .entry)) ⌝ }
+    ensures { λ r. ⌜ r ≡ drawLineOf (now (line .entry)) ⌝ }
 {
     let ok = is_given(line, 8, 1);
     both(ok, draws_agree(line, Rng64::new(bits_at(line, 0))))
 }
 
 fn state_line(line: &[u8]) -> bool
-    ensures { λ r. ⌜ r ≡ stateLine (now (line .entry)) ⌝ }
+    ensures { λ r. ⌜ r ≡ stateLineOf (now (line .entry)) ⌝ }
 {
     let ok = is_given(line, 4, 1);
     let g = Rng64 {
@@ -117,7 +117,7 @@ fn state_line(line: &[u8]) -> bool
 
 // What a vector line says of a and b.
 fn pair_agrees(line: &[u8], a: Vec3, b: Vec3) -> bool
-    ensures { λ r. ⌜ r ≡ pairAgrees (now (line .entry)) a b ⌝ }
+    ensures { λ r. ⌜ r ≡ pairAgreesOf (now (line .entry)) a b ⌝ }
 {
     let dot = is_double(line, 8, a.dot(b));
     let cross = is_vec(line, 9, a.cross(b));
@@ -128,7 +128,7 @@ fn pair_agrees(line: &[u8], a: Vec3, b: Vec3) -> bool
 
 // What it says of a and k, and of a alone.
 fn one_agrees(line: &[u8], a: Vec3, k: f64) -> bool
-    ensures { λ r. ⌜ r ≡ oneAgrees (now (line .entry)) a k ⌝ }
+    ensures { λ r. ⌜ r ≡ oneAgreesOf (now (line .entry)) a k ⌝ }
 {
     let scaled = is_vec(line, 18, a.scale(k));
     let divided = is_vec(line, 21, a.divide(k));
@@ -139,7 +139,7 @@ fn one_agrees(line: &[u8], a: Vec3, k: f64) -> bool
 }
 
 fn vector_line(line: &[u8]) -> bool
-    ensures { λ r. ⌜ r ≡ vectorLine (now (line .entry)) ⌝ }
+    ensures { λ r. ⌜ r ≡ vectorLineOf (now (line .entry)) ⌝ }
 {
     let a = vec_at(line, 0);
     let b = vec_at(line, 3);
@@ -158,7 +158,7 @@ fn vector_line(line: &[u8]) -> bool
 }
 
 fn matrix_line(line: &[u8]) -> bool
-    ensures { λ r. ⌜ r ≡ matrixLine (now (line .entry)) ⌝ }
+    ensures { λ r. ⌜ r ≡ matrixLineOf (now (line .entry)) ⌝ }
 {
     let m = mat_at(line, 0);
     let v = vec_at(line, 16);
@@ -170,7 +170,7 @@ fn matrix_line(line: &[u8]) -> bool
 
 // The medium of an index line, by its number and coefficients.
 fn medium(number: u32, line: &[u8]) -> OpticalMedium
-    ensures { λ r. ⌜ r ≡ mediumIn number (now (line .entry)) ⌝ }
+    ensures { λ r. ⌜ r ≡ mediumOf number (now (line .entry)) ⌝ }
 {
     OpticalMedium::numbered(
         number,
@@ -185,7 +185,7 @@ fn medium(number: u32, line: &[u8]) -> OpticalMedium
 
 // Whether a part is r and the number of a refusal.
 fn is_refusal(part: &[u8], e: NonSeqError) -> bool
-    ensures { λ r. ⌜ r ≡ isRefusal (now (part .entry)) (numberOf e) ⌝ }
+    ensures { λ r. ⌜ r ≡ isRefusalOf (now (part .entry)) (numberOf e) ⌝ }
 {
     if 0 < part.len() {
         if part[0] == b'r' {
@@ -200,7 +200,7 @@ fn is_refusal(part: &[u8], e: NonSeqError) -> bool
 
 // Whether part 9 of a line is what an index answers.
 fn is_answer(line: &[u8], r: RefractiveIndex) -> bool
-    ensures { λ ok. ⌜ ok ≡ isAnswer (partOf (now (line .entry)) 9) (answerOf r) ⌝ }
+    ensures { λ ok. ⌜ ok ≡ isAnswerOf (partIn (now (line .entry)) 9) (asIndex r) ⌝ }
 {
     match r {
         RefractiveIndex::Index(n) => is_double(line, 9, n),
@@ -209,7 +209,7 @@ fn is_answer(line: &[u8], r: RefractiveIndex) -> bool
 }
 
 fn index_line(line: &[u8]) -> bool
-    ensures { λ r. ⌜ r ≡ indexLine (now (line .entry)) ⌝ }
+    ensures { λ r. ⌜ r ≡ indexLineOf (now (line .entry)) ⌝ }
 {
     match fields::read_whole(fields::part(line, b' ', 0)) {
         ReadWhole::Whole(number) => {
@@ -225,7 +225,7 @@ fn index_line(line: &[u8]) -> bool
 }
 
 pub fn line_agrees(kind: Kind, line: &[u8]) -> bool
-    ensures { λ r. ⌜ r ≡ lineAgrees kind (now (line .entry)) ⌝ }
+    ensures { λ r. ⌜ r ≡ lineAgreesOf kind (now (line .entry)) ⌝ }
 {
     match kind {
         Kind::Root => root_line(line),

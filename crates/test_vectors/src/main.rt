@@ -9,13 +9,13 @@ mod tally;
 use lines::Kind;
 use tally::Tally;
 ghost use mathlib.Core.Path.{_≡_};
-ghost use Rattle.fields.specs.Split.{linesOf};
-ghost use Rattle.test_vectors.specs.Count.{tallyOf, emptyOf};
-ghost use Rattle.test_vectors.specs.Lines.{lineAgrees};
+ghost use Rattle.fields.specs.Split.{textLines};
+ghost use Rattle.test_vectors.specs.Count.{tallyLinesOf, emptyOf};
+ghost use Rattle.test_vectors.specs.Lines.{lineAgreesOf};
 
 // Of the lines of a text.
 fn tally_lines(kind: Kind, text: &[u8]) -> Tally
-    ensures { λ r. ⌜ r ≡ tallyOf (lineAgrees kind) emptyOf (linesOf (now (text .entry))) ⌝ }
+    ensures { λ r. ⌜ r ≡ tallyLinesOf (lineAgreesOf kind) emptyOf (textLines (now (text .entry))) ⌝ }
 {
     let mut t = Tally::empty();
     let mut at: usize = 0;

@@ -6,8 +6,8 @@ use rays::Row;
 use rays::Vec3;
 ghost use mathlib.Core.Path.{_≡_};
 ghost use mathlib.Core.Bool.{_&&_, cond};
-ghost use Rattle.fields.specs.Number.{bitsOf, wholeOf};
-ghost use Rattle.test_vectors.specs.Parts.{nextOf, partOf, hasShape, isRead, bitsBetween, isNumber, bitsAt, doubleAt, isDouble, given, vecAt, isVec, rowAt, matAt, isDash};
+ghost use Rattle.fields.specs.Number.{readBitsOf, readWholeOf};
+ghost use Rattle.test_vectors.specs.Parts.{nextOf, partIn, hasShapeOf, isRead, bitsBetween, isNumber, bitsAtOf, doubleAtOf, isDoubleOf, isGivenOf, vecAtOf, isVecOf, rowAtOf, matAtOf, isDashOf};
 
 pub fn both(a: bool, b: bool) -> bool
     ensures { λ r. ⌜ r ≡ (a && b) ⌝ }
@@ -36,7 +36,7 @@ fn next(k: usize, n: usize) -> usize
 
 // Part k of a line as bits; 0 where it is malformed.
 pub fn bits_at(line: &[u8], k: usize) -> u64
-    ensures { λ r. ⌜ r ≡ bitsAt (now (line .entry)) k ⌝ }
+    ensures { λ r. ⌜ r ≡ bitsAtOf (now (line .entry)) k ⌝ }
 {
     match fields::read_bits(fields::part(line, b' ', k)) {
         ReadBits::Bits(a) => a,
@@ -46,7 +46,7 @@ pub fn bits_at(line: &[u8], k: usize) -> u64
 
 // Whether part k of a line is written as the bits v.
 pub fn is_bits(line: &[u8], k: usize, v: u64) -> bool
-    ensures { λ r. ⌜ r ≡ isNumber (bitsOf (partOf (now (line .entry)) k)) v ⌝ }
+    ensures { λ r. ⌜ r ≡ isNumber (readBitsOf (partIn (now (line .entry)) k)) v ⌝ }
 {
     match fields::read_bits(fields::part(line, b' ', k)) {
         ReadBits::Bits(a) => a == v,
@@ -56,14 +56,14 @@ pub fn is_bits(line: &[u8], k: usize, v: u64) -> bool
 
 // Whether part k of a line is written as a double.
 pub fn is_double(line: &[u8], k: usize, x: f64) -> bool
-    ensures { λ r. ⌜ r ≡ isDouble (partOf (now (line .entry)) k) x ⌝ }
+    ensures { λ r. ⌜ r ≡ isDoubleOf (partIn (now (line .entry)) k) x ⌝ }
 {
     is_bits(line, k, doubles::to_bits(x))
 }
 
 // Whether part k of a line is the decimal n.
 pub fn is_whole(line: &[u8], k: usize, n: u32) -> bool
-    ensures { λ r. ⌜ r ≡ isNumber (wholeOf (partOf (now (line .entry)) k)) n ⌝ }
+    ensures { λ r. ⌜ r ≡ isNumber (readWholeOf (partIn (now (line .entry)) k)) n ⌝ }
 {
     match fields::read_whole(fields::part(line, b' ', k)) {
         ReadWhole::Whole(a) => a == n,
@@ -73,7 +73,7 @@ pub fn is_whole(line: &[u8], k: usize, n: u32) -> bool
 
 // Whether part k of a line is bits at all.
 fn is_any_bits(line: &[u8], k: usize) -> bool
-    ensures { λ r. ⌜ r ≡ isRead (bitsOf (partOf (now (line .entry)) k)) ⌝ }
+    ensures { λ r. ⌜ r ≡ isRead (readBitsOf (partIn (now (line .entry)) k)) ⌝ }
 {
     match fields::read_bits(fields::part(line, b' ', k)) {
         ReadBits::Bits(_) => true,
@@ -98,7 +98,7 @@ pub fn are_bits(line: &[u8], from: usize, to: usize) -> bool
 
 // Whether a line has n parts, of which part k is "=".
 pub fn has_shape(line: &[u8], n: usize, k: usize) -> bool
-    ensures { λ r. ⌜ r ≡ hasShape (now (line .entry)) n k ⌝ }
+    ensures { λ r. ⌜ r ≡ hasShapeOf (now (line .entry)) n k ⌝ }
 {
     if fields::count_parts(line, b' ') == n {
         return fields::is_byte(fields::part(line, b' ', k), b'=');
@@ -108,21 +108,21 @@ pub fn has_shape(line: &[u8], n: usize, k: usize) -> bool
 
 // The same, and the parts before it are bits.
 pub fn is_given(line: &[u8], n: usize, k: usize) -> bool
-    ensures { λ r. ⌜ r ≡ given (now (line .entry)) n k ⌝ }
+    ensures { λ r. ⌜ r ≡ isGivenOf (now (line .entry)) n k ⌝ }
 {
     both(has_shape(line, n, k), are_bits(line, 0, k))
 }
 
 // Part k as a double.
 pub fn double_at(line: &[u8], k: usize) -> f64
-    ensures { λ r. ⌜ r ≡ doubleAt (now (line .entry)) k ⌝ }
+    ensures { λ r. ⌜ r ≡ doubleAtOf (now (line .entry)) k ⌝ }
 {
     doubles::from_bits(bits_at(line, k))
 }
 
 // The three parts from k on as a vector.
 pub fn vec_at(line: &[u8], k: usize) -> Vec3
-    ensures { λ r. ⌜ r ≡ vecAt (now (line .entry)) k ⌝ }
+    ensures { λ r. ⌜ r ≡ vecAtOf (now (line .entry)) k ⌝ }
 {
     Vec3 {
         x: double_at(line, k),
@@ -133,7 +133,7 @@ pub fn vec_at(line: &[u8], k: usize) -> Vec3
 
 // Whether the three parts from k on are written as a vector.
 pub fn is_vec(line: &[u8], k: usize, v: Vec3) -> bool
-    ensures { λ r. ⌜ r ≡ isVec (now (line .entry)) k v ⌝ }
+    ensures { λ r. ⌜ r ≡ isVecOf (now (line .entry)) k v ⌝ }
 {
     let y = is_double(line, next(k, 1), v.y);
     let z = is_double(line, next(k, 2), v.z);
@@ -142,7 +142,7 @@ pub fn is_vec(line: &[u8], k: usize, v: Vec3) -> bool
 
 // The four parts from k on as a row of a matrix.
 fn row_at(line: &[u8], k: usize) -> Row
-    ensures { λ r. ⌜ r ≡ rowAt (now (line .entry)) k ⌝ }
+    ensures { λ r. ⌜ r ≡ rowAtOf (now (line .entry)) k ⌝ }
 {
     Row {
         a: double_at(line, k),
@@ -154,7 +154,7 @@ fn row_at(line: &[u8], k: usize) -> Row
 
 // The sixteen parts from k on as a matrix.
 pub fn mat_at(line: &[u8], k: usize) -> Mat4
-    ensures { λ r. ⌜ r ≡ matAt (now (line .entry)) k ⌝ }
+    ensures { λ r. ⌜ r ≡ matAtOf (now (line .entry)) k ⌝ }
 {
     Mat4 {
         r0: row_at(line, k),
@@ -166,7 +166,7 @@ pub fn mat_at(line: &[u8], k: usize) -> Mat4
 
 // Whether part k of a line is "-".
 pub fn is_dash(line: &[u8], k: usize) -> bool
-    ensures { λ r. ⌜ r ≡ isDash (now (line .entry)) k ⌝ }
+    ensures { λ r. ⌜ r ≡ isDashOf (now (line .entry)) k ⌝ }
 {
     fields::is_byte(fields::part(line, b' ', k), b'-')
 }

@@ -20,13 +20,13 @@ use crate::parts::mat_at;
 use crate::parts::one_if;
 use crate::parts::vec_at;
 ghost use mathlib.Core.Path.{_≡_};
-ghost use Rattle.geometry.specs.Hits.{localHitOf};
-ghost use Rattle.scene.specs.Objects.{hitOf};
-ghost use Rattle.test_vectors.specs.SceneLines.{shapeIn, isLocalHit, shapeLine, objectIn, rayIn, isHitAt, isHit, solidLine};
+ghost use Rattle.geometry.specs.Hits.{asLocalHit};
+ghost use Rattle.scene.specs.Objects.{asHit};
+ghost use Rattle.test_vectors.specs.SceneLines.{shapeInOf, isLocalHitOf, shapeLineOf, objectInOf, rayInOf, isHitAtOf, isHitOf, solidLineOf};
 
 // The shape of a number with the three sizes from part k on.
 fn shape_in(number: u32, line: &[u8], k: usize) -> PrimitiveGeometry
-    ensures { λ r. ⌜ r ≡ shapeIn number (now (line .entry)) k ⌝ }
+    ensures { λ r. ⌜ r ≡ shapeInOf number (now (line .entry)) k ⌝ }
 {
     let sizes = vec_at(line, k);
     PrimitiveGeometry::numbered(number, sizes.x, sizes.y, sizes.z)
@@ -34,7 +34,7 @@ fn shape_in(number: u32, line: &[u8], k: usize) -> PrimitiveGeometry
 
 // Whether the parts from 10 on are what a shape answers.
 fn is_local_hit(line: &[u8], h: LocalIntersection) -> bool
-    ensures { λ r. ⌜ r ≡ isLocalHit (now (line .entry)) (localHitOf h) ⌝ }
+    ensures { λ r. ⌜ r ≡ isLocalHitOf (now (line .entry)) (asLocalHit h) ⌝ }
 {
     match h {
         LocalIntersection::Hit(m) => {
@@ -46,7 +46,7 @@ fn is_local_hit(line: &[u8], h: LocalIntersection) -> bool
 }
 
 pub fn shape_line(line: &[u8]) -> bool
-    ensures { λ r. ⌜ r ≡ shapeLine (now (line .entry)) ⌝ }
+    ensures { λ r. ⌜ r ≡ shapeLineOf (now (line .entry)) ⌝ }
 {
     match fields::read_whole(fields::part(line, b' ', 0)) {
         ReadWhole::Whole(number) => {
@@ -68,7 +68,7 @@ pub fn shape_line(line: &[u8]) -> bool
 
 // The solid of a line: shape, active, sizes, matrix, inverse.
 fn object_in(number: u32, line: &[u8]) -> NonSeqObject
-    ensures { λ r. ⌜ r ≡ objectIn number (now (line .entry)) ⌝ }
+    ensures { λ r. ⌜ r ≡ objectInOf number (now (line .entry)) ⌝ }
 {
     let matrix = mat_at(line, 5);
     let inverse = mat_at(line, 21);
@@ -81,7 +81,7 @@ fn object_in(number: u32, line: &[u8]) -> NonSeqObject
 }
 
 fn ray_in(line: &[u8]) -> Ray
-    ensures { λ r. ⌜ r ≡ rayIn (now (line .entry)) ⌝ }
+    ensures { λ r. ⌜ r ≡ rayInOf (now (line .entry)) ⌝ }
 {
     Ray {
         origin: vec_at(line, 37),
@@ -92,7 +92,7 @@ fn ray_in(line: &[u8]) -> Ray
 }
 
 fn is_hit_at(line: &[u8], h: NonSeqHit) -> bool
-    ensures { λ r. ⌜ r ≡ isHitAt (now (line .entry)) h ⌝ }
+    ensures { λ r. ⌜ r ≡ isHitAtOf (now (line .entry)) h ⌝ }
 {
     let t = is_double(line, 46, h.t);
     let point = is_vec(line, 47, h.point);
@@ -104,7 +104,7 @@ fn is_hit_at(line: &[u8], h: NonSeqHit) -> bool
 
 // Whether the parts from 45 on are what a solid answers.
 fn is_hit(line: &[u8], h: Intersection) -> bool
-    ensures { λ r. ⌜ r ≡ isHit (now (line .entry)) (hitOf h) ⌝ }
+    ensures { λ r. ⌜ r ≡ isHitOf (now (line .entry)) (asHit h) ⌝ }
 {
     match h {
         Intersection::Hit(m) => both(has_shape(line, 57, 45), is_hit_at(line, m)),
@@ -113,7 +113,7 @@ fn is_hit(line: &[u8], h: Intersection) -> bool
 }
 
 pub fn solid_line(line: &[u8]) -> bool
-    ensures { λ r. ⌜ r ≡ solidLine (now (line .entry)) ⌝ }
+    ensures { λ r. ⌜ r ≡ solidLineOf (now (line .entry)) ⌝ }
 {
     match fields::read_whole(fields::part(line, b' ', 0)) {
         ReadWhole::Whole(number) => {

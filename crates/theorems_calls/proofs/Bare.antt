@@ -10,9 +10,9 @@ use Rattle.detector.specs.declared.Detector2D.{Detector2D}
 use Rattle.detectors.specs.declared.Detectors.{Detectors}
 use Rattle.detectors.specs.Detectors.{detectorAt}
 use Rattle.detector.specs.declared.DetectorHit.{DetectorHit}
-use Rattle.memory.specs.Memory.{Memory, isMemoryOf, capacityOf}
-use Rattle.memory.specs.Plain.{Empty, viewOf, partOf, #0}
-use Rattle.trace.specs.Trace.{Batch, checkTraceOf}
+use Rattle.memory.specs.Memory.{Memory, isMemory, capacity}
+use Rattle.memory.specs.Plain.{Empty, viewIn, partIn, #0}
+use Rattle.trace.specs.Trace.{Batch, checkBatch}
 use Rattle.theorems_calls.specs.Calls.{bareDetector, bare, withUsed, plainHit, zeroView}
 
 -- ---- lists of one value
@@ -86,8 +86,8 @@ module _ (s : Memory) (eight : length (s .detectors .list) ≡ 8) (empty : Empty
   unfolding bare
   bare-tags = length-replicate _ _
 
-  bare-capacity : capacityOf (bare s) ≡ capacityOf s
-  unfolding capacityOf
+  bare-capacity : capacity (bare s) ≡ capacity s
+  unfolding capacity
   bare-capacity = rw bare-values
 
   -- the book needs no more
@@ -95,17 +95,17 @@ module _ (s : Memory) (eight : length (s .detectors .list) ≡ 8) (empty : Empty
   unfolding plainHit
   plain-bare b h = rw (bare-capacity, bare-detectors)
 
-  pub check-bare : (B : Batch) (b : List DetectorHit) → checkTraceOf B (withUsed (bare s) b) ≡ checkTraceOf B (withUsed s b)
-  unfolding checkTraceOf
+  pub check-bare : (B : Batch) (b : List DetectorHit) → checkBatch B (withUsed (bare s) b) ≡ checkBatch B (withUsed s b)
+  unfolding checkBatch
   check-bare B b = rw (bare-detectors, bare-flux, bare-hits, bare-values, bare-tags)
 
-  pub memory-bare : (b : List DetectorHit) → isMemoryOf (withUsed (bare s) b) ≡ isMemoryOf (withUsed s b)
-  unfolding isMemoryOf
+  pub memory-bare : (b : List DetectorHit) → isMemory (withUsed (bare s) b) ≡ isMemory (withUsed s b)
+  unfolding isMemory
   memory-bare b = rw (bare-detectors, bare-flux, bare-hits, bare-values, bare-tags)
 
   -- each detector's maps, total and count are zeros
-  pub zero-view : (d : ℕ) → d < 8 → viewOf s d ≡ zeroView (length (viewOf s d .flux)) (length (viewOf s d .hits))
-  unfolding viewOf partOf
+  pub zero-view : (d : ℕ) → d < 8 → viewIn s d ≡ zeroView (length (viewIn s d .flux)) (length (viewIn s d .hits))
+  unfolding viewIn partIn
   zero-view d k =
       sym
       (rw (

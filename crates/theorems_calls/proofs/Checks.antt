@@ -8,15 +8,15 @@ use lib.Dec.{leb, eqb}
 use lib.ListN.{length}
 use borrow.Author.Tests.{leb-true, le-leb, eq-eqb, eqb-true}
 use Rattle.error.specs.Refusals.{Checked, passed, refusedAt, after}
-use Rattle.rays.specs.Rays.{validRayOf}
+use Rattle.rays.specs.Rays.{isValidRayOf}
 use Rattle.scene.specs.Solids.{checkSolidsOf}
 use Rattle.nearest.proofs.Order.{and-left, and-right}
 use Rattle.detectors.specs.declared.Detectors.{Detectors}
 use Rattle.detectors.specs.Detectors.{allPixelsOf, checkDetectorsOf}
-use Rattle.memory.specs.Memory.{Memory, capacityOf, isHitListOf, areLengthsOf}
+use Rattle.memory.specs.Memory.{Memory, capacity, isHitListOf, areLengthsOf}
 use Rattle.step.specs.declared.ActiveRay.{ActiveRay}
-use Rattle.given_rays.specs.Given.{validMediaOf, checkListsOf, checkRayOf, checkRaysFrom}
-use Rattle.trace.specs.Trace.{Batch, raysOf, checkFlatOf, checkConfigOf, checkCountsOf, checkRulesOf, checkLengthsOf, checkMemoryOf, checkAllOf, checkTraceOf}
+use Rattle.given_rays.specs.Given.{validMediaOf, checkListsOf, checkRayOf, checkRaysOf}
+use Rattle.trace.specs.Trace.{Batch, raysIn, checkFlatOf, checkConfigOf, checkCountsOf, checkRulesOf, checkLengthsOf, checkMemoryOf, checkTraceOf, checkBatch}
 use Rattle.theorems_runs.proofs.Bred.{false-true}
 use Rattle.theorems_runs.proofs.Checked.{both-passed}
 use Rattle.theorems_calls.specs.Parts.{Part, Exact, joined, withRays}
@@ -33,10 +33,10 @@ pub record Passes (B : Batch) (s : Memory) : Type 0 where
   pub counts : checkCountsOf (B .solids) (B .rays) ≡ passed tt
   pub detectors : checkDetectorsOf (s .detectors) ≡ passed tt
   pub lengths : checkLengthsIn s ≡ passed tt
-  pub rays : checkRaysFrom (raysOf B) (B .solids) (B .rays) 0 ≡ passed tt
+  pub rays : checkRaysOf (raysIn B) (B .solids) (B .rays) 0 ≡ passed tt
 
-pub passes : (B : Batch) (s : Memory) → checkTraceOf B s ≡ passed tt → Passes B s
-unfolding checkTraceOf checkAllOf checkFlatOf checkRulesOf checkMemoryOf
+pub passes : (B : Batch) (s : Memory) → checkBatch B s ≡ passed tt → Passes B s
+unfolding checkBatch checkTraceOf checkFlatOf checkRulesOf checkMemoryOf
 passes B s e =
     let e1 = both-passed tt (checkFlatOf B) _ e in
     let e2 = both-passed tt (checkRulesOf (B .config) (B .solids) (B .rays)) _ (e1 .1) in
@@ -46,8 +46,8 @@ passes B s e =
     let h = both-passed tt (checkDetectorsOf (s .detectors)) _ (e3 .0) in
     record { solids = f .0; lists = f .1; config = g .0; counts = g .1; detectors = h .0; lengths = h .1; rays = e3 .1 }
 
-pub all-pass : (B : Batch) (s : Memory) → Passes B s → checkTraceOf B s ≡ passed tt
-unfolding checkTraceOf checkAllOf checkFlatOf checkRulesOf checkMemoryOf
+pub all-pass : (B : Batch) (s : Memory) → Passes B s → checkBatch B s ≡ passed tt
+unfolding checkBatch checkTraceOf checkFlatOf checkRulesOf checkMemoryOf
 all-pass B s p = rw (p .solids, p .lists, p .config, p .counts, p .detectors, p .lengths, p .rays)
 
 -- ---- fewer rays
@@ -79,23 +79,23 @@ lists-say nv nt n e =
 
 ray-anywhere : (a : ActiveRay) (solids i j : ℕ) → checkRayOf a solids i ≡ passed tt → checkRayOf a solids j ≡ passed tt
 unfolding checkRayOf
-ray-anywhere a solids i j = go (validRayOf (a .ray)) (validMediaOf (a .media) solids)
+ray-anywhere a solids i j = go (isValidRayOf (a .ray)) (validMediaOf (a .media) solids)
   where
     go : (t u : Bool) → _≡_ {A = Checked Unit} (cond t (cond u (passed tt) (refusedAt 11 i)) (refusedAt 10 i)) (passed tt) → _≡_ {A = Checked Unit} (cond t (cond u (passed tt) (refusedAt 11 j)) (refusedAt 10 j)) (passed tt)
     go true true e = refl
     go true false e = false-true (ap isPassed e)
     go false u e = false-true (ap isPassed e)
 
-each-ray : (given : ℕ → ActiveRay) (solids n i j : ℕ) → checkRaysFrom given solids n i ≡ passed tt → j < n → checkRayOf (given (i + j)) solids 0 ≡ passed tt
-unfolding checkRaysFrom
+each-ray : (given : ℕ → ActiveRay) (solids n i j : ℕ) → checkRaysOf given solids n i ≡ passed tt → j < n → checkRayOf (given (i + j)) solids 0 ≡ passed tt
+unfolding checkRaysOf
 each-ray given solids zero i j e k = absurd (omega arith)
-each-ray given solids (suc n) i zero e k = rw add-zero (ray-anywhere (given i) solids i 0 (both-passed tt (checkRayOf (given i) solids i) (checkRaysFrom given solids n (i + 1)) e .0))
+each-ray given solids (suc n) i zero e k = rw add-zero (ray-anywhere (given i) solids i 0 (both-passed tt (checkRayOf (given i) solids i) (checkRaysOf given solids n (i + 1)) e .0))
 each-ray given solids (suc n) i (suc j) e k =
     let q : i + suc j ≡ i + 1 + j = omega arith in
-    rw q (each-ray given solids n (i + 1) j (both-passed tt (checkRayOf (given i) solids i) (checkRaysFrom given solids n (i + 1)) e .1) (omega arith))
+    rw q (each-ray given solids n (i + 1) j (both-passed tt (checkRayOf (given i) solids i) (checkRaysOf given solids n (i + 1)) e .1) (omega arith))
 
-all-rays : (given : ℕ → ActiveRay) (solids n i : ℕ) → ((j : ℕ) → j < n → checkRayOf (given (i + j)) solids 0 ≡ passed tt) → checkRaysFrom given solids n i ≡ passed tt
-unfolding checkRaysFrom
+all-rays : (given : ℕ → ActiveRay) (solids n i : ℕ) → ((j : ℕ) → j < n → checkRayOf (given (i + j)) solids 0 ≡ passed tt) → checkRaysOf given solids n i ≡ passed tt
+unfolding checkRaysOf
 all-rays given solids zero i f = refl
 all-rays given solids (suc n) i f =
     rw (
@@ -104,7 +104,7 @@ all-rays given solids (suc n) i f =
     )
 
 -- the rays from place c on, by another way to fetch them
-rays-part : (given again : ℕ → ActiveRay) (solids n c m : ℕ) → c + m ≤ n → ((i : ℕ) → i < m → again i ≡ given (c + i)) → checkRaysFrom given solids n 0 ≡ passed tt → checkRaysFrom again solids m 0 ≡ passed tt
+rays-part : (given again : ℕ → ActiveRay) (solids n c m : ℕ) → c + m ≤ n → ((i : ℕ) → i < m → again i ≡ given (c + i)) → checkRaysOf given solids n 0 ≡ passed tt → checkRaysOf again solids m 0 ≡ passed tt
 rays-part given again solids n c m l same e =
     all-rays again solids m 0
     (λ j k.
@@ -126,8 +126,8 @@ lengths-say ds nf nh nv nt u e =
     five (eqb nf (allPixelsOf ds)) (eqb nh (allPixelsOf ds)) (eqb nv nt) (eqb (nv % 4) 0) (leb u (nv / 4))
     (said (eqb nf (allPixelsOf ds) && (eqb nh (allPixelsOf ds) && (eqb nv nt && (eqb (nv % 4) 0 && leb u (nv / 4))))) 9 0 e)
 
-pub used-room : (s : Memory) → checkLengthsIn s ≡ passed tt → s .used ≤ capacityOf s
-unfolding capacityOf
+pub used-room : (s : Memory) → checkLengthsIn s ≡ passed tt → s .used ≤ capacity s
+unfolding capacity
 used-room s e = leb-true (s .used) (length (s .values) / 4) (lengths-say _ _ _ _ _ _ e .4)
 
 more-used : (ds : Detectors) (nf nh nv nt u v : ℕ) → v ≤ nv / 4 → checkLengthsOf ds nf nh nv nt u ≡ passed tt → checkLengthsOf ds nf nh nv nt v ≡ passed tt
@@ -142,7 +142,7 @@ unfolding checkLengthsOf areLengthsOf
 same-lengths ds es nf nh nv nt u e = rw e
 
 pub reached-lengths : (s m : Memory) → Reached s m → checkLengthsIn s ≡ passed tt → checkLengthsIn m ≡ passed tt
-unfolding capacityOf
+unfolding capacity
 reached-lengths s m r e =
     let b = r .hits in
     ap (λ (x : Memory). checkLengthsOf (x .detectors) (length (x .flux)) (length (x .hits)) (length (x .values)) (length (x .tags)) (m .used)) (r .sum)
@@ -165,7 +165,7 @@ module _ (B : Batch) (p q : Part) (s : Memory) (ep : Exact p) (eq : Exact q) (w 
         detectors = reached-checks s m r (w .detectors);
         lengths = reached-lengths s m r (w .lengths);
         rays =
-            rays-part (raysOf (withRays B (joined p q))) (raysOf (withRays B p)) (B .solids) (p .rays + q .rays) 0 (p .rays) (omega arith)
+            rays-part (raysIn (withRays B (joined p q))) (raysIn (withRays B p)) (B .solids) (p .rays + q .rays) 0 (p .rays) (omega arith)
             (λ i k. rw zero-add (former-given p q ep i k)) (w .rays);
       }
 
@@ -179,6 +179,6 @@ module _ (B : Batch) (p q : Part) (s : Memory) (ep : Exact p) (eq : Exact q) (w 
         detectors = w .detectors;
         lengths = w .lengths;
         rays =
-            rays-part (raysOf (withRays B (joined p q))) (raysOf (withRays B q)) (B .solids) (p .rays + q .rays) (p .rays) (q .rays) (omega arith)
+            rays-part (raysIn (withRays B (joined p q))) (raysIn (withRays B q)) (B .solids) (p .rays + q .rays) (p .rays) (q .rays) (omega arith)
             (λ i k. later-given p q ep i eq k) (w .rays);
       }

@@ -7,7 +7,7 @@ use Rattle.error.specs.Refusals.{passed, refusedAt}
 use Rattle.memory.specs.Memory.{Memory, refused}
 use Rattle.memory.specs.Plain.{Empty, added}
 use Rattle.memory.proofs.Plain.{mapOutcome}
-use Rattle.trace.specs.Trace.{Batch, checkTraceOf, traceRaysOf}
+use Rattle.trace.specs.Trace.{Batch, checkBatch, traceRaysOf}
 use Rattle.detector.proofs.Detector2D.intersect_ray.Statement.{statement as intersect-ray-meets}
 use Rattle.detector.proofs.Detector2D.intersect_ray.Met as intersect-ray
 use Rattle.detector.proofs.Detector2D.pixel_area_m2.Statement.{statement as pixel-area-m2-meets}
@@ -24,8 +24,8 @@ use Rattle.filter.proofs.filtering.filtered_pixel_flux.Statement.{statement as 
 use Rattle.filter.proofs.filtering.filtered_pixel_flux.Met as filtered-pixel-flux
 use Rattle.trace.proofs.trace_rays.Statement.{statement as trace-rays-meets}
 use Rattle.trace.proofs.trace_rays.Met as trace-rays
-use Rattle.theorems_calls.specs.Parts.{Part, Splits, tracePartsOf}
-use Rattle.theorems_calls.specs.Calls.{Call, Wish, grantedOf, memoryAfter, bare, bookedOf, bookAfter, Told}
+use Rattle.theorems_calls.specs.Parts.{Part, Splits, traceParts}
+use Rattle.theorems_calls.specs.Calls.{Call, Wish, granted, memoryAfter, bare, bookGranted, bookAfter, Told}
 use Rattle.theorems_calls.proofs.Split as splitting
 use Rattle.theorems_calls.proofs.Lists as lists
 use Rattle.theorems_calls.proofs.Nine.{nine-before}
@@ -41,15 +41,15 @@ pub record Demand3 (M : Type 1) : Type 2 where
   pub intersect-ray : intersect-ray-meets M
   pub pixel-area-m2 : pixel-area-m2-meets M
   -- a batch that passes the checks, traced in parts from any start
-  pub split : (B : Batch) (ps : List Part) (s : Memory) → Splits B ps → checkTraceOf B s ≡ passed tt → tracePartsOf B ps s ≡ traceRaysOf B s .outcome
+  pub split : (B : Batch) (ps : List Part) (s : Memory) → Splits B ps → checkBatch B s ≡ passed tt → traceParts B ps s ≡ traceRaysOf B s .outcome
   -- any list of calls from the empty memory; every list of detectors of the code has eight places
   pub calls : (s : Memory) → length (s .detectors .list) ≡ 8 → Empty s → (cs : List Call) → Told s (memoryAfter cs s) (bookAfter (bare s) cs [])
   -- and each of them is done, or refused with the same number at the same place, in both
   pub answers :
       (s : Memory) (eight : length (s .detectors .list) ≡ 8) (empty : Empty s) (cs : List Call) (w : Wish)
-      → grantedOf w (memoryAfter cs s) ≡ mapOutcome (added s) (bookedOf (bare s) w (bookAfter (bare s) cs []))
+      → granted w (memoryAfter cs s) ≡ mapOutcome (added s) (bookGranted (bare s) w (bookAfter (bare s) cs []))
   -- where a detector wins, only 12 and 13 end the run
-  pub nine : (B : Batch) (s : Memory) (place : ℕ) (t : Memory) → traceRaysOf B s .outcome ≡ refused 9 place t → checkTraceOf B s ≡ refusedAt 9 place
+  pub nine : (B : Batch) (s : Memory) (place : ℕ) (t : Memory) → traceRaysOf B s .outcome ≡ refused 9 place t → checkBatch B s ≡ refusedAt 9 place
 
 pub demand-3 : {M : Type 1} → Demand3 M
 demand-3 =

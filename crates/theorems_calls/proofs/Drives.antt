@@ -3,25 +3,25 @@ use Prim.Native.Nat.{ℕ, zero, suc}
 use mathlib.Core.Path.{_≡_, refl, ap, sym, _∙_}
 use mathlib.Core.Bool.{Bool, true, false, cond}
 use Rattle.detector.specs.declared.DetectorHit.{DetectorHit}
-use Rattle.memory.specs.Memory.{Outcome, done, refused, leftOf}
+use Rattle.memory.specs.Memory.{Outcome, done, refused, memoryLeft}
 use Rattle.memory.proofs.Plain.{mapOutcome}
 use Rattle.step.specs.declared.ActiveRay.{ActiveRay}
 use Rattle.step.specs.Rays.{Scene, Step, End, dim, spent, gone, caught, stopped, parted, refusing}
-use Rattle.step.specs.Turn.{turnOf}
+use Rattle.step.specs.Turn.{takeStepOf}
 use Rattle.report.specs.declared.NonSeqTraceReport.{NonSeqTraceReport}
-use Rattle.report.specs.Report.{reportAfter}
+use Rattle.report.specs.Report.{reportAfterOf}
 use Rattle.run.specs.declared.stack.Taken.{Taken}
 use Rattle.run.specs.declared.Progress.{Progress}
-use Rattle.run.specs.Stack.{takenOf, afterOf}
-use Rattle.run.specs.Run.{Run, Settled, hitIn, refusalIn, putFrom, isLeft, andThen, settleWith, stepOn, drive}
+use Rattle.run.specs.Stack.{takenFrom, stackAfter}
+use Rattle.run.specs.Run.{Run, Settled, hitInOf, refusalInOf, putFrom, isLeft, andThen, settleWith, stepOn, drive}
 
 -- a hit that a step in scene S can bring
 abbrev pub Brought : Scene → DetectorHit → Type 0
-Brought S h = (a : ActiveRay) × (turnOf S a .end ≡ caught h)
+Brought S h = (a : ActiveRay) × (takeStepOf S a .end ≡ caught h)
 
 -- what a step leaves, from what it settles
 abbrev ran : {M : Type 0} → Progress → Taken → Step → Settled M → Run M
-ran p t s r = record { outcome = r .outcome; progress = record { stack = afterOf (p .stack) s; left = t .left; report = r .report } }
+ran p t s r = record { outcome = r .outcome; progress = record { stack = stackAfter (p .stack) s; left = t .left; report = r .report } }
 
 abbrev stopped-at : {M : Type 0} → M → Progress → Run M
 stopped-at m p = record { outcome = done m; progress = p }
@@ -41,8 +41,8 @@ module _ {N M : Type 0} (φ : N → M) where
 
   module _ (put : M → DetectorHit → Outcome M) (put′ : N → DetectorHit → Outcome N) (S : Scene) (given : ℕ → ActiveRay) (same : (n : N) (h : DetectorHit) → Brought S h → put (φ n) h ≡ mapOutcome φ (put′ n h)) where
     map-settle : (n : N) (place : ℕ) (found after : NonSeqTraceReport) (e : End) → ((h : DetectorHit) → e ≡ caught h → Brought S h)
-        → settleWith put (φ n) place found after (refusalIn e place) (hitIn e) ≡ mapSettled (settleWith put′ n place found after (refusalIn e place) (hitIn e))
-    unfolding hitIn refusalIn
+        → settleWith put (φ n) place found after (refusalInOf e place) (hitInOf e) ≡ mapSettled (settleWith put′ n place found after (refusalInOf e place) (hitInOf e))
+    unfolding hitInOf refusalInOf
     map-settle n place found after dim b = refl
     map-settle n place found after spent b = refl
     map-settle n place found after gone b = refl
@@ -54,10 +54,10 @@ module _ {N M : Type 0} (φ : N → M) where
     map-step : (n : N) (p : Progress) → stepOn put S given (φ n) p ≡ mapRun (stepOn put′ S given n p)
     unfolding stepOn
     map-step n p =
-        let t = takenOf given (p .stack) (p .left) in
-        let s = turnOf S (t .ray) in
+        let t = takenFrom given (p .stack) (p .left) in
+        let s = takeStepOf S (t .ray) in
         ap (λ r. ran p t s r)
-        (map-settle n (t .left) (p .report) (reportAfter (p .report) (t .ray .ray .energy) s) (s .end) (λ h e. (t .ray, e)))
+        (map-settle n (t .left) (p .report) (reportAfterOf (p .report) (t .ray .ray .energy) s) (s .end) (λ h e. (t .ray, e)))
 
     map-then : (k : ℕ) (o : Outcome N) (p : Progress) → ((n : N) → drive put S given k (φ n) p ≡ mapRun (drive put′ S given k n p))
         → andThen (drive put S given k) (mapOutcome φ o) p ≡ mapRun (andThen (drive put′ S given k) o p)
@@ -89,14 +89,14 @@ same-drive put put′ S given f k m p =
 
 -- ---- what every hit that a step can bring keeps of the memory, a run keeps
 
-module _ {M : Type 0} (put : M → DetectorHit → Outcome M) (S : Scene) (given : ℕ → ActiveRay) (P : M → Type 0) (keeps : (m : M) (h : DetectorHit) → Brought S h → P m → P (leftOf (put m h))) where
-  put-keeps : (place : ℕ) (found after : NonSeqTraceReport) (o : Outcome M) → P (leftOf o) → P (leftOf (putFrom place found after o .outcome))
+module _ {M : Type 0} (put : M → DetectorHit → Outcome M) (S : Scene) (given : ℕ → ActiveRay) (P : M → Type 0) (keeps : (m : M) (h : DetectorHit) → Brought S h → P m → P (memoryLeft (put m h))) where
+  put-keeps : (place : ℕ) (found after : NonSeqTraceReport) (o : Outcome M) → P (memoryLeft o) → P (memoryLeft (putFrom place found after o .outcome))
   put-keeps place found after (done m) x = x
   put-keeps place found after (refused k at m) x = x
 
   settle-keeps : (m : M) (place : ℕ) (found after : NonSeqTraceReport) (e : End) → ((h : DetectorHit) → e ≡ caught h → Brought S h) → P m
-      → P (leftOf (settleWith put m place found after (refusalIn e place) (hitIn e) .outcome))
-  unfolding hitIn refusalIn
+      → P (memoryLeft (settleWith put m place found after (refusalInOf e place) (hitInOf e) .outcome))
+  unfolding hitInOf refusalInOf
   settle-keeps m place found after dim b x = x
   settle-keeps m place found after spent b x = x
   settle-keeps m place found after gone b x = x
@@ -105,21 +105,21 @@ module _ {M : Type 0} (put : M → DetectorHit → Outcome M) (S : Scene) (given
   settle-keeps m place found after (parted r t z) b x = x
   settle-keeps m place found after (refusing k) b x = x
 
-  step-keeps : (m : M) (p : Progress) → P m → P (leftOf (stepOn put S given m p .outcome))
+  step-keeps : (m : M) (p : Progress) → P m → P (memoryLeft (stepOn put S given m p .outcome))
   unfolding stepOn
   step-keeps m p x =
-      let t = takenOf given (p .stack) (p .left) in
-      settle-keeps m (t .left) (p .report) (reportAfter (p .report) (t .ray .ray .energy) (turnOf S (t .ray))) (turnOf S (t .ray) .end) (λ h e. (t .ray, e)) x
+      let t = takenFrom given (p .stack) (p .left) in
+      settle-keeps m (t .left) (p .report) (reportAfterOf (p .report) (t .ray .ray .energy) (takeStepOf S (t .ray))) (takeStepOf S (t .ray) .end) (λ h e. (t .ray, e)) x
 
-  then-keeps : (k : ℕ) (o : Outcome M) (p : Progress) → P (leftOf o) → ((m : M) → P m → P (leftOf (drive put S given k m p .outcome))) → P (leftOf (andThen (drive put S given k) o p .outcome))
+  then-keeps : (k : ℕ) (o : Outcome M) (p : Progress) → P (memoryLeft o) → ((m : M) → P m → P (memoryLeft (drive put S given k m p .outcome))) → P (memoryLeft (andThen (drive put S given k) o p .outcome))
   then-keeps k (done m) p x f = f m x
   then-keeps k (refused n place m) p x f = x
 
-  pub drive-keeps : (k : ℕ) (m : M) (p : Progress) → P m → P (leftOf (drive put S given k m p .outcome))
+  pub drive-keeps : (k : ℕ) (m : M) (p : Progress) → P m → P (memoryLeft (drive put S given k m p .outcome))
   unfolding drive
   drive-keeps zero m p x = x
   drive-keeps (suc k) m p x = go (λ m2. drive-keeps k m2 (stepOn put S given m p .progress)) (isLeft p)
     where
-      go : ((m2 : M) → P m2 → P (leftOf (drive put S given k m2 (stepOn put S given m p .progress) .outcome))) → (b : Bool) → P (leftOf (cond b (andThen (drive put S given k) (stepOn put S given m p .outcome) (stepOn put S given m p .progress)) (stopped-at m p) .outcome))
+      go : ((m2 : M) → P m2 → P (memoryLeft (drive put S given k m2 (stepOn put S given m p .progress) .outcome))) → (b : Bool) → P (memoryLeft (cond b (andThen (drive put S given k) (stepOn put S given m p .outcome) (stepOn put S given m p .progress)) (stopped-at m p) .outcome))
       go f true = then-keeps k (stepOn put S given m p .outcome) (stepOn put S given m p .progress) (step-keeps m p x) f
       go f false = x

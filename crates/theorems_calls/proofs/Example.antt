@@ -3,32 +3,32 @@ use mathlib.Core.Path.{_≡_, refl, ap, subst}
 use mathlib.Core.List.{List, [], _∷_}
 use lib.Ieee.{Float, nan, binary64, add, sub, mul, div, neg, lt, le, ofBits, toBits, ofInt, toUnsigned}
 use lib.ListN.{length, replicate, getD-replicate}
-use Rattle.doubles.specs.Doubles.{absOf, clampOf, finiteOf}
+use Rattle.doubles.specs.Doubles.{absOf, clampOf, isFiniteOf}
 use Rattle.doubles.specs.Root.{sqrtOf}
 use Rattle.error.specs.Refusals.{passed}
-use Rattle.rays.specs.Rays.{atOf, finiteRayOf, validRayOf}
-use Rattle.rays.specs.Vectors.{vec3, dotOf, crossOf, plusOf, minusOf, scaleOf, divideOf, normOf, normalizeOf, finiteVecOf}
+use Rattle.rays.specs.Rays.{atOf, isFiniteRayOf, isValidRayOf}
+use Rattle.rays.specs.Vectors.{vec3, dotOf, crossOf, plusOf, minusOf, scaleOf, divideOf, normOf, normalizeOf, isFiniteVecOf}
 use Rattle.material.specs.declared.OpticalMedium.the-variants.{Air}
-use Rattle.nearest.specs.Nearest.{isNearerOf, nearerOf, nearestFrom, nearestOf}
+use Rattle.nearest.specs.Nearest.{isNearerOf, nearerOf, nearestFrom, nearestAmong}
 use Rattle.scene.specs.Solids.{checkTagsOf, checkSolidsOf}
-use Rattle.scene.specs.Closest.{closestOf}
+use Rattle.scene.specs.Closest.{closestObjectOf}
 use Rattle.detector.specs.declared.Detector2D.{Detector2D}
 use Rattle.detector.specs.Checks.{isSizeOf, isParallelOf, checkGridOf, checkDetectorOf}
-use Rattle.detector.specs.Faces.{orthogonalOf, faceOf, acrossOf, crossingOf}
+use Rattle.detector.specs.Faces.{orthogonalOf, faceOf, acrossOf, faceIntersectRayOf}
 use Rattle.detector.specs.Pixels.{indexAlongOf, pixelsOf, pixelAtOf}
-use Rattle.detectors.specs.Detectors.{noDetector, firstPixelOf, allPixelsOf, checkFromOf, checkDetectorsOf, checkAskedOf, placedOf, findOf}
+use Rattle.detectors.specs.Detectors.{noDetector, firstPixelOf, allPixelsOf, checkListOf, checkDetectorsOf, checkAsked, placedOf, findOf}
 use Rattle.detector.specs.declared.DetectorHit.{DetectorHit}
-use Rattle.memory.specs.Memory.{Memory, done, refused, judged, cellInOf, cellOf, capacityOf, isHitListOf, areLengthsOf, isMemoryOf}
+use Rattle.memory.specs.Memory.{Memory, done, refused, judged, cellOf, cellIn, capacity, isHitListOf, areLengthsOf, isMemory}
 use Rattle.memory.specs.Plain.{Empty, sharing}
 use Rattle.filter.specs.declared.RayPathFilter.the-variants.{GhostsOnly}
-use Rattle.faces.specs.Faces.{facesOf, sightFrom, shownOf, nearestDetectorOf}
-use Rattle.step.specs.Turn.{firstMetOf, meetsOf, interactOf, turnOf}
-use Rattle.given_rays.specs.Given.{readRayOf, readMediaOf, givenOf, checkListsOf, allSolids, validMediaOf, checkRayOf, checkRaysFrom, launchedFrom, launchedOf}
-use Rattle.run.specs.Stack.{emptyStack, loadedOf, takenOf, pushedIf, popped, afterOf}
-use Rattle.run.specs.Run.{hitIn, refusalIn, isLeft, stepOn, drive}
-use Rattle.trace.specs.Trace.{Batch, checkFlatOf, checkConfigOf, checkCountsOf, checkRulesOf, checkLengthsOf, checkMemoryOf, checkAllOf, checkTraceOf, startOf, runOn, traceRaysOf}
-use Rattle.theorems_calls.specs.Parts.{Part, AllExact, noRays, joinedAll, Splits, tracePartsOf}
-use Rattle.theorems_calls.specs.Calls.{Call, tracing, recording, refilter, rays, wishOf, memoryAfter, bare, plainHit, bookTraced, bookRecorded, bookedOf, bookAfter, Told}
+use Rattle.faces.specs.Faces.{newFacesOf, sightFrom, faceCountOf, nearestDetectorOf}
+use Rattle.step.specs.Turn.{firstMetOf, meetsWith, interactOf, takeStepOf}
+use Rattle.given_rays.specs.Given.{readRayOf, readMediaOf, givenAtOf, checkListsOf, allSolidsOf, validMediaOf, checkRayOf, checkRaysOf, launchedFrom, launchedOf}
+use Rattle.run.specs.Stack.{emptyStackOf, loadOf, takenFrom, pushedIf, popped, stackAfter}
+use Rattle.run.specs.Run.{hitInOf, refusalInOf, isLeft, stepOn, drive}
+use Rattle.trace.specs.Trace.{Batch, checkFlatOf, checkConfigOf, checkCountsOf, checkRulesOf, checkLengthsOf, checkMemoryOf, checkTraceOf, checkBatch, startOf, runOn, traceRaysOf}
+use Rattle.theorems_calls.specs.Parts.{Part, AllExact, noRays, joinedAll, Splits, traceParts}
+use Rattle.theorems_calls.specs.Calls.{Call, tracing, recording, refilter, rays, wishIn, memoryAfter, bare, plainHit, bookTraced, bookRecorded, bookGranted, bookAfter, Told}
 use Rattle.theorems_calls.proofs.Split.{split}
 use Rattle.theorems_calls.proofs.Lists.{told}
 
@@ -116,21 +116,21 @@ calls =
     ∷ []
 
 one : bookTraced (bare memory) batch [] ≡ done (traced ∷ [])
-unfolding bookTraced bare runOn drive startOf emptyStack launchedOf launchedFrom givenOf readRayOf readMediaOf isLeft stepOn takenOf loadedOf turnOf interactOf nearestDetectorOf nearestOf nearestFrom nearerOf isNearerOf sightFrom shownOf facesOf faceOf orthogonalOf crossingOf acrossOf normalizeOf normOf dotOf crossOf minusOf plusOf scaleOf divideOf atOf closestOf firstMetOf meetsOf hitIn refusalIn afterOf popped pushedIf plainHit judged cellOf cellInOf placedOf firstPixelOf pixelsOf pixelAtOf indexAlongOf clampOf ofInt toUnsigned sharing capacityOf checkTraceOf checkAllOf checkFlatOf checkSolidsOf checkTagsOf checkListsOf checkRulesOf checkConfigOf checkCountsOf checkMemoryOf checkDetectorsOf checkFromOf checkDetectorOf checkGridOf isSizeOf isParallelOf checkLengthsOf areLengthsOf isHitListOf allPixelsOf isMemoryOf findOf checkAskedOf checkRaysFrom checkRayOf validRayOf validMediaOf allSolids finiteRayOf finiteVecOf finiteOf absOf sqrtOf ofBits toBits add sub mul div neg lt le
+unfolding bookTraced bare runOn drive startOf emptyStackOf launchedOf launchedFrom givenAtOf readRayOf readMediaOf isLeft stepOn takenFrom loadOf takeStepOf interactOf nearestDetectorOf nearestAmong nearestFrom nearerOf isNearerOf sightFrom faceCountOf newFacesOf faceOf orthogonalOf faceIntersectRayOf acrossOf normalizeOf normOf dotOf crossOf minusOf plusOf scaleOf divideOf atOf closestObjectOf firstMetOf meetsWith hitInOf refusalInOf stackAfter popped pushedIf plainHit judged cellIn cellOf placedOf firstPixelOf pixelsOf pixelAtOf indexAlongOf clampOf ofInt toUnsigned sharing capacity checkBatch checkTraceOf checkFlatOf checkSolidsOf checkTagsOf checkListsOf checkRulesOf checkConfigOf checkCountsOf checkMemoryOf checkDetectorsOf checkListOf checkDetectorOf checkGridOf isSizeOf isParallelOf checkLengthsOf areLengthsOf isHitListOf allPixelsOf isMemory findOf checkAsked checkRaysOf checkRayOf isValidRayOf validMediaOf allSolidsOf isFiniteRayOf isFiniteVecOf isFiniteOf absOf sqrtOf ofBits toBits add sub mul div neg lt le
 one = refl
 
 two : bookRecorded (bare memory) recorded (traced ∷ []) ≡ done (traced ∷ recorded ∷ [])
-unfolding bookRecorded bare findOf checkAskedOf placedOf checkDetectorsOf checkFromOf checkDetectorOf checkGridOf isSizeOf isParallelOf isMemoryOf areLengthsOf isHitListOf allPixelsOf firstPixelOf pixelsOf plainHit judged cellOf cellInOf pixelAtOf indexAlongOf clampOf ofInt toUnsigned sharing capacityOf normalizeOf normOf dotOf divideOf finiteOf absOf sqrtOf ofBits toBits add sub mul div neg lt le
+unfolding bookRecorded bare findOf checkAsked placedOf checkDetectorsOf checkListOf checkDetectorOf checkGridOf isSizeOf isParallelOf isMemory areLengthsOf isHitListOf allPixelsOf firstPixelOf pixelsOf plainHit judged cellIn cellOf pixelAtOf indexAlongOf clampOf ofInt toUnsigned sharing capacity normalizeOf normOf dotOf divideOf isFiniteOf absOf sqrtOf ofBits toBits add sub mul div neg lt le
 two = refl
 
 -- the last call ends because the list is full
 pub full : bookTraced (bare memory) batch (traced ∷ recorded ∷ []) ≡ refused 12 0 (traced ∷ recorded ∷ [])
-unfolding bookTraced bare runOn drive startOf emptyStack launchedOf launchedFrom givenOf readRayOf readMediaOf isLeft stepOn takenOf loadedOf turnOf interactOf nearestDetectorOf nearestOf nearestFrom nearerOf isNearerOf sightFrom shownOf facesOf faceOf orthogonalOf crossingOf acrossOf normalizeOf normOf dotOf crossOf minusOf plusOf scaleOf divideOf atOf closestOf firstMetOf meetsOf hitIn refusalIn afterOf popped pushedIf plainHit judged cellOf cellInOf placedOf firstPixelOf pixelsOf pixelAtOf indexAlongOf clampOf ofInt toUnsigned sharing capacityOf checkTraceOf checkAllOf checkFlatOf checkSolidsOf checkTagsOf checkListsOf checkRulesOf checkConfigOf checkCountsOf checkMemoryOf checkDetectorsOf checkFromOf checkDetectorOf checkGridOf isSizeOf isParallelOf checkLengthsOf areLengthsOf isHitListOf allPixelsOf isMemoryOf findOf checkAskedOf checkRaysFrom checkRayOf validRayOf validMediaOf allSolids finiteRayOf finiteVecOf finiteOf absOf sqrtOf ofBits toBits add sub mul div neg lt le
+unfolding bookTraced bare runOn drive startOf emptyStackOf launchedOf launchedFrom givenAtOf readRayOf readMediaOf isLeft stepOn takenFrom loadOf takeStepOf interactOf nearestDetectorOf nearestAmong nearestFrom nearerOf isNearerOf sightFrom faceCountOf newFacesOf faceOf orthogonalOf faceIntersectRayOf acrossOf normalizeOf normOf dotOf crossOf minusOf plusOf scaleOf divideOf atOf closestObjectOf firstMetOf meetsWith hitInOf refusalInOf stackAfter popped pushedIf plainHit judged cellIn cellOf placedOf firstPixelOf pixelsOf pixelAtOf indexAlongOf clampOf ofInt toUnsigned sharing capacity checkBatch checkTraceOf checkFlatOf checkSolidsOf checkTagsOf checkListsOf checkRulesOf checkConfigOf checkCountsOf checkMemoryOf checkDetectorsOf checkListOf checkDetectorOf checkGridOf isSizeOf isParallelOf checkLengthsOf areLengthsOf isHitListOf allPixelsOf isMemory findOf checkAsked checkRaysOf checkRayOf isValidRayOf validMediaOf allSolidsOf isFiniteRayOf isFiniteVecOf isFiniteOf absOf sqrtOf ofBits toBits add sub mul div neg lt le
 full = refl
 
 -- the book has both hits
 pub listed : bookAfter (bare memory) calls [] ≡ traced ∷ recorded ∷ []
-unfolding bookAfter bookedOf wishOf
+unfolding bookAfter bookGranted wishIn
 listed = rw (one, two, full)
 
 -- so the theorem speaks of this memory: two hits used, and what they make of it
@@ -150,9 +150,9 @@ splits =
       whole = refl;
     }
 
-passes : checkTraceOf batch memory ≡ passed tt
-unfolding checkTraceOf checkAllOf checkFlatOf checkSolidsOf checkTagsOf checkListsOf checkRulesOf checkConfigOf checkCountsOf checkMemoryOf checkDetectorsOf checkFromOf checkDetectorOf checkGridOf isSizeOf isParallelOf checkLengthsOf areLengthsOf isHitListOf allPixelsOf firstPixelOf pixelsOf checkRaysFrom checkRayOf givenOf readRayOf readMediaOf validRayOf validMediaOf allSolids finiteRayOf finiteVecOf finiteOf absOf sqrtOf normalizeOf normOf dotOf divideOf ofBits toBits add sub mul div neg lt le
+passes : checkBatch batch memory ≡ passed tt
+unfolding checkBatch checkTraceOf checkFlatOf checkSolidsOf checkTagsOf checkListsOf checkRulesOf checkConfigOf checkCountsOf checkMemoryOf checkDetectorsOf checkListOf checkDetectorOf checkGridOf isSizeOf isParallelOf checkLengthsOf areLengthsOf isHitListOf allPixelsOf firstPixelOf pixelsOf checkRaysOf checkRayOf givenAtOf readRayOf readMediaOf isValidRayOf validMediaOf allSolidsOf isFiniteRayOf isFiniteVecOf isFiniteOf absOf sqrtOf normalizeOf normOf dotOf divideOf ofBits toBits add sub mul div neg lt le
 passes = refl
 
-pub split-example : tracePartsOf batch parts memory ≡ traceRaysOf batch memory .outcome
+pub split-example : traceParts batch parts memory ≡ traceRaysOf batch memory .outcome
 split-example = split batch parts memory splits passes

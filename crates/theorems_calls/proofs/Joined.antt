@@ -7,7 +7,7 @@ use lib.Ieee.{Float, nan}
 use lib.ListN.{length, getD, length-append, List·getD-append}
 use lib.Seq.{getD-append-add}
 use borrow.Author.Tests.{le-leb}
-use Rattle.given_rays.specs.Given.{readRayOf, readMediaOf, givenOf}
+use Rattle.given_rays.specs.Given.{readRayOf, readMediaOf, givenAtOf}
 use Rattle.theorems_calls.specs.Parts.{Part, Exact, AllExact, joined, joinedAll}
 
 pub exact-joined : (p q : Part) → Exact p → Exact q → Exact (joined p q)
@@ -74,8 +74,8 @@ module _ (p q : Part) (e : Exact p) (i : ℕ) where
           old-tag 9 (omega arith),
         )
 
-    pub former-given : givenOf (p .values) (p .tags) i ≡ givenOf values tags i
-    unfolding givenOf
+    pub former-given : givenAtOf (p .values) (p .tags) i ≡ givenAtOf values tags i
+    unfolding givenAtOf
     former-given =
         rw (
           le-leb (i * 8 + 8) (length (p .values)) (omega (arith, e .values)),
@@ -106,8 +106,8 @@ module _ (p q : Part) (e : Exact p) (i : ℕ) where
     unfolding readMediaOf
     later-media = rw (new-tag 1, new-tag 2, new-tag 3, new-tag 4, new-tag 5, new-tag 6, new-tag 7, new-tag 8, new-tag 9)
 
-    pub later-given : givenOf (q .values) (q .tags) i ≡ givenOf values tags (c + i)
-    unfolding givenOf
+    pub later-given : givenAtOf (q .values) (q .tags) i ≡ givenAtOf values tags (c + i)
+    unfolding givenAtOf
     later-given =
         rw (
           le-leb (i * 8 + 8) (length (q .values)) (omega (arith, f .values)),

@@ -9,11 +9,11 @@ use Rattle.detector.specs.declared.DetectorHit.{DetectorHit}
 use Rattle.memory.specs.Memory.{Outcome, done, refused}
 use Rattle.step.specs.declared.ActiveRay.{ActiveRay}
 use Rattle.step.specs.Rays.{Scene, End, dim, spent, gone, caught, stopped, parted, refusing}
-use Rattle.step.specs.Turn.{turnOf}
+use Rattle.step.specs.Turn.{takeStepOf}
 use Rattle.report.specs.declared.NonSeqTraceReport.{NonSeqTraceReport}
 use Rattle.run.specs.declared.Progress.{Progress}
-use Rattle.run.specs.Stack.{takenOf, emptyStack}
-use Rattle.run.specs.Run.{hitIn, refusalIn, putFrom, isLeft, andThen, settleWith, stepOn, drive}
+use Rattle.run.specs.Stack.{takenFrom, emptyStackOf}
+use Rattle.run.specs.Run.{hitInOf, refusalInOf, putFrom, isLeft, andThen, settleWith, stepOn, drive}
 use Rattle.trace.specs.Trace.{allSteps, startOf}
 use Rattle.theorems_runs.specs.Sums.{Full}
 use Rattle.theorems_runs.proofs.Bred.{false-true}
@@ -53,8 +53,8 @@ module _ {M : Type 0} (put : M → DetectorHit → Outcome M) (S : Scene) (c : �
   put-later place r a r′ a′ (refused k at m) = refl
 
   settle-later : (m : M) (place : ℕ) (r a r′ a′ : NonSeqTraceReport) (e : End)
-      → settleWith put m (c + place) r′ a′ (refusalIn e (c + place)) (hitIn e) .outcome ≡ shifted c (settleWith put m place r a (refusalIn e place) (hitIn e) .outcome)
-  unfolding hitIn refusalIn
+      → settleWith put m (c + place) r′ a′ (refusalInOf e (c + place)) (hitInOf e) .outcome ≡ shifted c (settleWith put m place r a (refusalInOf e place) (hitInOf e) .outcome)
+  unfolding hitInOf refusalInOf
   settle-later m place r a r′ a′ dim = refl
   settle-later m place r a r′ a′ spent = refl
   settle-later m place r a r′ a′ gone = refl
@@ -67,13 +67,13 @@ module _ {M : Type 0} (put : M → DetectorHit → Outcome M) (S : Scene) (c : �
     step-outcome : Takes c n given later same p q → stepOn put S given m q .outcome ≡ shifted c (stepOn put S later m p .outcome)
     unfolding stepOn
     step-outcome t =
-        rw (t .ray, t .left) (settle-later m _ (p .report) _ (q .report) _ (turnOf S (takenOf later (p .stack) (p .left) .ray) .end))
+        rw (t .ray, t .left) (settle-later m _ (p .report) _ (q .report) _ (takeStepOf S (takenFrom later (p .stack) (p .left) .ray) .end))
 
     step-like : Like c n given later same p q → Takes c n given later same p q → Like c n given later same (next put S later m p) (next put S given m q)
     unfolding stepOn
     step-like h t =
         record {
-          stacks = rw (t .ray) (after-alike (p .stack) (q .stack) (turnOf S (takenOf later (p .stack) (p .left) .ray)) (h .stacks));
+          stacks = rw (t .ray) (after-alike (p .stack) (q .stack) (takeStepOf S (takenFrom later (p .stack) (p .left) .ray)) (h .stacks));
           left = t .left;
           few = t .few;
         }
@@ -131,7 +131,7 @@ shift-none (done m) = refl
 shift-none (refused k place m) = ap (λ i. refused k i m) (zero-add place)
 
 start-like : (c n : ℕ) (given later : ℕ → ActiveRay) (same : (i : ℕ) → i < n → later i ≡ given (c + i)) (q : Progress) → q .stack .len ≡ 0 → q .left ≡ c + n → Full (q .stack) → Like c n given later same (startOf later n) q
-unfolding startOf emptyStack
+unfolding startOf emptyStackOf
 start-like c n given later same q z e f =
     record { stacks = record { len = z; each = λ i k. absurd (omega arith); full = start-full later n; also-full = f }; left = e; few = omega arith }
 
@@ -150,7 +150,7 @@ module _ {M : Type 0} (put : M → DetectorHit → Outcome M) (S : Scene) (lim :
   pub two-runs : (c n : ℕ) (given former later : ℕ → ActiveRay) → c + n ≤ 4096 → ((i : ℕ) → i < c → former i ≡ given i) → ((i : ℕ) → i < n → later i ≡ given (c + i)) → (m : M)
       → drive put S given allSteps m (startOf given (c + n)) .outcome
       ≡ thenOn (shifted c (drive put S later allSteps m (startOf later n) .outcome)) (λ m. drive put S former allSteps m (startOf former c) .outcome)
-  unfolding startOf emptyStack
+  unfolding startOf emptyStackOf
   two-runs c n given former later few same-former same-later m =
       run-later put S lim c n given later same-later (λ m. drive put S former allSteps m (startOf former c) .outcome)
       (λ k m q z e f w. same-start c given former (omega arith) same-former k m q z e f w)

@@ -7,24 +7,24 @@ use mathlib.Core.List.{List, [], _∷_}
 use native.Mathlib.Omega.{arith}
 use lib.ListN.{length}
 use Rattle.error.specs.Refusals.{Checked, passed, refusedAt}
-use Rattle.detectors.specs.Detectors.{detectorAt, checkAskedOf}
+use Rattle.detectors.specs.Detectors.{detectorAt, checkAsked}
 use Rattle.detectors.proofs.Passed.{Sound, sound, asked-sound}
 use Rattle.detector.specs.declared.DetectorHit.{DetectorHit}
-use Rattle.memory.specs.Memory.{Memory, Outcome, done, refused, leftOf, unless, listed, hitsFrom, recordHit, holdsOf, isMemoryOf}
-use Rattle.memory.specs.Plain.{Empty, added, bookHit, viewOf, plusAll}
+use Rattle.memory.specs.Memory.{Memory, Outcome, done, refused, memoryLeft, unless, listed, hitsFrom, recordOf, hasPixel, isMemory}
+use Rattle.memory.specs.Plain.{Empty, added, bookHit, viewIn, plusAll}
 use Rattle.memory.proofs.Plain.{mapOutcome, same-put, used-by, record-lists}
 use Rattle.memory.proofs.Views.{Fits}
 use Rattle.memory.proofs.Booked.{Booked, empty-booked, record-books, booked-view}
-use Rattle.faces.specs.Faces.{facesOf}
-use Rattle.trace.specs.Trace.{Batch, raysOf, allSteps, startOf, sceneIn, runOn, checkTraceOf, traceAfter}
-use Rattle.theorems_calls.specs.Calls.{Call, Wish, rays, hit, nothing, wishOf, grantedOf, memoryAfter, bare, withUsed, plainHit, bookTraced, bookRecorded, bookedOf, bookAfter, Told}
+use Rattle.faces.specs.Faces.{newFacesOf}
+use Rattle.trace.specs.Trace.{Batch, raysIn, allSteps, startOf, sceneIn, runOn, checkBatch, traceAfter}
+use Rattle.theorems_calls.specs.Calls.{Call, Wish, rays, hit, nothing, wishIn, granted, memoryAfter, bare, withUsed, plainHit, bookTraced, bookRecorded, bookGranted, bookAfter, Told}
 use Rattle.theorems_calls.proofs.Drives.{Brought, drive-keeps}
 use Rattle.theorems_calls.proofs.Sights.{brought-there}
 use Rattle.theorems_calls.proofs.Checks.{Passes, passes}
 use Rattle.theorems_calls.proofs.Bare.{bare-detectors, plain-bare, check-bare, memory-bare, zero-view}
 use Rattle.theorems_calls.proofs.Booked.{holds, plain-held, brought-held, shown-all, found-or, tracing-booked, recording-booked}
 
-left-map : {N M : Type 0} (φ : N → M) (o : Outcome N) → leftOf (mapOutcome φ o) ≡ φ (leftOf o)
+left-map : {N M : Type 0} (φ : N → M) (o : Outcome N) → memoryLeft (mapOutcome φ o) ≡ φ (memoryLeft o)
 left-map φ (done n) = refl
 left-map φ (refused k place n) = refl
 
@@ -35,62 +35,62 @@ module _ (s : Memory) (eight : length (s .detectors .list) ≡ 8) (empty : Empty
     back : listed (added s b) ≡ b
     booked : Booked s eight empty (added s b)
 
-  left-put : (b : List DetectorHit) (h : DetectorHit) → leftOf (recordHit (added s b) h) ≡ added s (leftOf (bookHit s b h))
-  left-put b h = ap leftOf (same-put s eight empty b h) ∙ left-map (added s) (bookHit s b h)
+  left-put : (b : List DetectorHit) (h : DetectorHit) → memoryLeft (recordOf (added s b) h) ≡ added s (memoryLeft (bookHit s b h))
+  left-put b h = ap memoryLeft (same-put s eight empty b h) ∙ left-map (added s) (bookHit s b h)
 
-  hit-sane : (b : List DetectorHit) (h : DetectorHit) → Fits (s .detectors .list) h → Sane b → Sane (leftOf (bookHit s b h))
+  hit-sane : (b : List DetectorHit) (h : DetectorHit) → Fits (s .detectors .list) h → Sane b → Sane (memoryLeft (bookHit s b h))
   hit-sane b h f x =
       record {
         back =
-            ap listed (sym (left-put b h)) ∙ record-lists s eight empty (added s b) h (ap (added s) (x .back)) ∙ ap (λ c. leftOf (bookHit s c h)) (x .back);
+            ap listed (sym (left-put b h)) ∙ record-lists s eight empty (added s b) h (ap (added s) (x .back)) ∙ ap (λ c. memoryLeft (bookHit s c h)) (x .back);
         booked = subst (Booked s eight empty) (left-put b h) (record-books s eight empty (added s b) h f (x .booked));
       }
 
-  plain-sane : (b : List DetectorHit) (h : DetectorHit) → Fits (s .detectors .list) h → holdsOf s h ≡ true → Sane b → Sane (leftOf (plainHit (bare s) b h))
-  plain-sane b h f e x = subst (λ o. Sane (leftOf o)) (plain-held s b h e ∙ sym (plain-bare s eight empty b h)) (hit-sane b h f x)
+  plain-sane : (b : List DetectorHit) (h : DetectorHit) → Fits (s .detectors .list) h → hasPixel s h ≡ true → Sane b → Sane (memoryLeft (plainHit (bare s) b h))
+  plain-sane b h f e x = subst (λ o. Sane (memoryLeft o)) (plain-held s b h e ∙ sym (plain-bare s eight empty b h)) (hit-sane b h f x)
 
   there-fits : (h : DetectorHit) → Sound (s .detectors) → h .detector .0 < s .detectors .count → Fits (s .detectors .list) h
   there-fits h d k = record { named = omega (arith, d .most, eight); grid = d .each (h .detector .0) k }
 
   module _ (B : Batch) (b : List DetectorHit) (p : Passes B (withUsed s b)) where
     brought-fits : (h : DetectorHit) → Brought (sceneIn B (s .detectors)) h → Fits (s .detectors .list) h
-    unfolding facesOf
+    unfolding newFacesOf
     brought-fits h r =
         let d : Sound (s .detectors) = sound (s .detectors) (p .detectors) in
         there-fits h d (omega (arith, brought-there _ h r, shown-all (s .detectors .count) (d .most)))
 
-    brought-sane : (c : List DetectorHit) (h : DetectorHit) → Brought (sceneIn B (bare s .detectors)) h → Sane c → Sane (leftOf (plainHit (bare s) c h))
+    brought-sane : (c : List DetectorHit) (h : DetectorHit) → Brought (sceneIn B (bare s .detectors)) h → Sane c → Sane (memoryLeft (plainHit (bare s) c h))
     brought-sane c h r x =
         let q : Brought (sceneIn B (s .detectors)) h = subst (λ ds. Brought (sceneIn B ds) h) (bare-detectors s eight empty) r in
         plain-sane c h (brought-fits h q) (brought-held s eight empty B b p h q) x
 
-  tracing-sane : (B : Batch) (b : List DetectorHit) → Sane b → Sane (leftOf (bookTraced (bare s) B b))
+  tracing-sane : (B : Batch) (b : List DetectorHit) → Sane b → Sane (memoryLeft (bookTraced (bare s) B b))
   unfolding bookTraced runOn
-  tracing-sane B b x = go (checkTraceOf B (withUsed (bare s) b)) refl
+  tracing-sane B b x = go (checkBatch B (withUsed (bare s) b)) refl
     where
-      go : (c : Checked Unit) → checkTraceOf B (withUsed (bare s) b) ≡ c → Sane (leftOf (traceAfter c b (runOn (plainHit (bare s)) (bare s .detectors) B b) .outcome))
+      go : (c : Checked Unit) → checkBatch B (withUsed (bare s) b) ≡ c → Sane (memoryLeft (traceAfter c b (runOn (plainHit (bare s)) (bare s .detectors) B b) .outcome))
       go (passed tt) e =
-          drive-keeps (plainHit (bare s)) (sceneIn B (bare s .detectors)) (raysOf B) Sane
+          drive-keeps (plainHit (bare s)) (sceneIn B (bare s .detectors)) (raysIn B) Sane
           (brought-sane B b (passes B (withUsed s b) (sym (check-bare s eight empty B b) ∙ e)))
-          allSteps b (startOf (raysOf B) (B .rays)) x
+          allSteps b (startOf (raysIn B) (B .rays)) x
       go (refusedAt n place) e = x
 
-  recording-sane : (h : DetectorHit) (b : List DetectorHit) → Sane b → Sane (leftOf (bookRecorded (bare s) h b))
+  recording-sane : (h : DetectorHit) (b : List DetectorHit) → Sane b → Sane (memoryLeft (bookRecorded (bare s) h b))
   unfolding bookRecorded
   recording-sane h b x =
-      subst (λ o. Sane (leftOf o)) (sym (found-or (bare s .detectors) (h .detector) b _))
-      (go (checkAskedOf (bare s .detectors) (h .detector)) (isMemoryOf (withUsed (bare s) b)) refl refl)
+      subst (λ o. Sane (memoryLeft o)) (sym (found-or (bare s .detectors) (h .detector) b _))
+      (go (checkAsked (bare s .detectors) (h .detector)) (isMemory (withUsed (bare s) b)) refl refl)
     where
-      go : (c : Checked Unit) (t : Bool) → checkAskedOf (bare s .detectors) (h .detector) ≡ c → isMemoryOf (withUsed (bare s) b) ≡ t
-          → Sane (leftOf (unless c b (cond t (plainHit (bare s) b h) (refused 9 0 b))))
+      go : (c : Checked Unit) (t : Bool) → checkAsked (bare s .detectors) (h .detector) ≡ c → isMemory (withUsed (bare s) b) ≡ t
+          → Sane (memoryLeft (unless c b (cond t (plainHit (bare s) b h) (refused 9 0 b))))
       go (passed tt) true e f =
-          let d = asked-sound (s .detectors) (h .detector) (ap (λ ds. checkAskedOf ds (h .detector)) (sym (bare-detectors s eight empty)) ∙ e) in
+          let d = asked-sound (s .detectors) (h .detector) (ap (λ ds. checkAsked ds (h .detector)) (sym (bare-detectors s eight empty)) ∙ e) in
           plain-sane b h (there-fits h (d .0) (d .1)) (holds s eight empty b h (d .0) (d .1) (sym (memory-bare s eight empty b) ∙ f)) x
       go (passed tt) false e f = x
       go (refusedAt n place) t e f = x
 
-  wish-sane : (w : Wish) (b : List DetectorHit) → Sane b → Sane (leftOf (bookedOf (bare s) w b))
-  unfolding bookedOf
+  wish-sane : (w : Wish) (b : List DetectorHit) → Sane b → Sane (memoryLeft (bookGranted (bare s) w b))
+  unfolding bookGranted
   wish-sane (rays B) b x = tracing-sane B b x
   wish-sane (hit h) b x = recording-sane h b x
   wish-sane nothing b x = x
@@ -101,8 +101,8 @@ module _ (s : Memory) (eight : length (s .detectors .list) ≡ 8) (empty : Empty
 
   -- ---- one call: done or refused, with the same number and place, in both
 
-  pub call-booked : (w : Wish) (b : List DetectorHit) → grantedOf w (added s b) ≡ mapOutcome (added s) (bookedOf (bare s) w b)
-  unfolding grantedOf bookedOf
+  pub call-booked : (w : Wish) (b : List DetectorHit) → granted w (added s b) ≡ mapOutcome (added s) (bookGranted (bare s) w b)
+  unfolding granted bookGranted
   call-booked (rays B) b = tracing-booked s eight empty B b
   call-booked (hit h) b = recording-booked s eight empty h b
   call-booked nothing b = refl
@@ -113,13 +113,13 @@ module _ (s : Memory) (eight : length (s .detectors .list) ≡ 8) (empty : Empty
   unfolding memoryAfter bookAfter
   calls-booked [] b = refl
   calls-booked (c ∷ cs) b =
-      ap (memoryAfter cs) (ap leftOf (call-booked (wishOf c) b) ∙ left-map (added s) (bookedOf (bare s) (wishOf c) b))
-      ∙ calls-booked cs (leftOf (bookedOf (bare s) (wishOf c) b))
+      ap (memoryAfter cs) (ap memoryLeft (call-booked (wishIn c) b) ∙ left-map (added s) (bookGranted (bare s) (wishIn c) b))
+      ∙ calls-booked cs (memoryLeft (bookGranted (bare s) (wishIn c) b))
 
   calls-sane : (cs : List Call) (b : List DetectorHit) → Sane b → Sane (bookAfter (bare s) cs b)
   unfolding bookAfter
   calls-sane [] b x = x
-  calls-sane (c ∷ cs) b x = calls-sane cs (leftOf (bookedOf (bare s) (wishOf c) b)) (wish-sane (wishOf c) b x)
+  calls-sane (c ∷ cs) b x = calls-sane cs (memoryLeft (bookGranted (bare s) (wishIn c) b)) (wish-sane (wishIn c) b x)
 
   -- from the empty memory, after any list of calls
   pub told : (cs : List Call) → Told s (memoryAfter cs s) (bookAfter (bare s) cs [])
@@ -133,13 +133,13 @@ module _ (s : Memory) (eight : length (s .detectors .list) ≡ 8) (empty : Empty
         list = ap listed e ∙ x .back;
         views =
             λ d k.
-            ap (λ (m : Memory). viewOf m d) e ∙ booked-view s eight empty (added s b) d (x .booked)
-            ∙ ap (plusAll d (detectorAt (s .detectors .list) d) (viewOf s d)) (x .back)
+            ap (λ (m : Memory). viewIn m d) e ∙ booked-view s eight empty (added s b) d (x .booked)
+            ∙ ap (plusAll d (detectorAt (s .detectors .list) d) (viewIn s d)) (x .back)
             ∙ ap (λ v. plusAll d (detectorAt (s .detectors .list) d) v b) (zero-view s eight empty d k);
         memory = e;
       }
 
   -- what one more call answers then
-  pub answered : (cs : List Call) (w : Wish) → grantedOf w (memoryAfter cs s) ≡ mapOutcome (added s) (bookedOf (bare s) w (bookAfter (bare s) cs []))
+  pub answered : (cs : List Call) (w : Wish) → granted w (memoryAfter cs s) ≡ mapOutcome (added s) (bookGranted (bare s) w (bookAfter (bare s) cs []))
   unfolding added
-  answered cs w = ap (grantedOf w) (calls-booked cs []) ∙ call-booked w (bookAfter (bare s) cs [])
+  answered cs w = ap (granted w) (calls-booked cs []) ∙ call-booked w (bookAfter (bare s) cs [])

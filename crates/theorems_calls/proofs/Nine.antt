@@ -7,11 +7,11 @@ use native.Mathlib.Omega.{arith}
 use Rattle.error.specs.Refusals.{Checked, passed, refusedAt}
 use Rattle.detectors.proofs.Passed.{Sound, sound}
 use Rattle.detector.specs.declared.DetectorHit.{DetectorHit}
-use Rattle.memory.specs.Memory.{Memory, Outcome, done, refused, leftOf, recordHit, holdsOf, isMemoryOf}
+use Rattle.memory.specs.Memory.{Memory, Outcome, done, refused, memoryLeft, recordOf, hasPixel, isMemory}
 use Rattle.memory.proofs.Booked.{holds-checked}
-use Rattle.faces.specs.Faces.{facesOf}
+use Rattle.faces.specs.Faces.{newFacesOf}
 use Rattle.run.specs.Run.{Run}
-use Rattle.trace.specs.Trace.{Batch, raysOf, startOf, sceneIn, checkLengthsOf, checkTraceOf, runOn, traceAfter, traceRaysOf}
+use Rattle.trace.specs.Trace.{Batch, raysIn, startOf, sceneIn, checkLengthsOf, checkBatch, runOn, traceAfter, traceRaysOf}
 use Rattle.theorems_runs.proofs.Bred.{false-true}
 use Rattle.theorems_marks.specs.Refused.{RunRefused}
 use Rattle.theorems_marks.proofs.Refused.{trace-refuses}
@@ -24,15 +24,15 @@ use Rattle.theorems_calls.proofs.Booked.{shown-all}
 
 -- every memory of a run holds every hit that a step can bring
 module _ (B : Batch) (s : Memory) (p : Passes B s) where
-  held-memory : (m : Memory) → Reached s m → isMemoryOf m ≡ true
-  unfolding isMemoryOf checkLengthsOf
+  held-memory : (m : Memory) → Reached s m → isMemory m ≡ true
+  unfolding isMemory checkLengthsOf
   held-memory m r = said _ 9 0 (reached-lengths s m r (p .lengths))
 
   same-count : (m : Memory) → Reached s m → m .detectors .count ≡ s .detectors .count
   same-count m r = ap (λ (x : Memory). x .detectors .count) (r .sum) ∙ added-count (r .hits) s
 
-  all-held : (m : Memory) (h : DetectorHit) → Reached s m → Brought (sceneIn B (s .detectors)) h → holdsOf m h ≡ true
-  unfolding facesOf
+  all-held : (m : Memory) (h : DetectorHit) → Reached s m → Brought (sceneIn B (s .detectors)) h → hasPixel m h ≡ true
+  unfolding newFacesOf
   all-held m h r b =
       let d : Sound (m .detectors) = sound (m .detectors) (reached-checks s m r (p .detectors)) in
       let k : h .detector .0 < m .detectors .count = omega (arith, brought-there _ h b, same-count m r, shown-all (s .detectors .count) (sound (s .detectors) (p .detectors) .most)) in
@@ -42,8 +42,8 @@ module _ (B : Batch) (s : Memory) (p : Passes B s) where
   no-nine place t (j, (q, (e, (l, (at, c))))) =
       let S = sceneIn B (s .detectors) in
       let r : Reached s t =
-      subst (λ (x : Run Memory). Reached s (leftOf (x .outcome))) e
-      (drive-keeps recordHit S (raysOf B) (Reached s) (λ m h b x. reached-record s m h x) j s (startOf (raysOf B) (B .rays)) (reached-itself s (used-room s (p .lengths)))) in
+      subst (λ (x : Run Memory). Reached s (memoryLeft (x .outcome))) e
+      (drive-keeps recordOf S (raysIn B) (Reached s) (λ m h b x. reached-record s m h x) j s (startOf (raysIn B) (B .rays)) (reached-itself s (used-room s (p .lengths)))) in
       let z = at-9 t S _ c in
       false-true (sym (z .1 .1) ∙ all-held t (z .0) r (_, z .1 .0))
 
@@ -55,12 +55,12 @@ abbrev placeIn : {M : Type 0} → Outcome M → ℕ
 placeIn (done m) = 0
 placeIn (refused n place m) = place
 
-pub nine-before : (B : Batch) (s : Memory) (place : ℕ) (t : Memory) → traceRaysOf B s .outcome ≡ refused 9 place t → checkTraceOf B s ≡ refusedAt 9 place
+pub nine-before : (B : Batch) (s : Memory) (place : ℕ) (t : Memory) → traceRaysOf B s .outcome ≡ refused 9 place t → checkBatch B s ≡ refusedAt 9 place
 unfolding traceRaysOf
-nine-before B s place t x = go (checkTraceOf B s) refl x (trace-refuses B s 9 place t x)
+nine-before B s place t x = go (checkBatch B s) refl x (trace-refuses B s 9 place t x)
   where
-    go : (c : Checked Unit) → checkTraceOf B s ≡ c → traceAfter c s (runOn recordHit (s .detectors) B s) .outcome ≡ refused 9 place t
-        → (checkTraceOf B s ≡ refusedAt 9 place) ⊎ RunRefused B s 9 place t → checkTraceOf B s ≡ refusedAt 9 place
+    go : (c : Checked Unit) → checkBatch B s ≡ c → traceAfter c s (runOn recordOf (s .detectors) B s) .outcome ≡ refused 9 place t
+        → (checkBatch B s ≡ refusedAt 9 place) ⊎ RunRefused B s 9 place t → checkBatch B s ≡ refusedAt 9 place
     go c e y (inl f) = f
     go (passed tt) e y (inr r) = absurd (no-nine B s (passes B s e) place t r)
     go (refusedAt n at) e y (inr r) = e ∙ ap (λ k. refusedAt k at) (ap number y) ∙ ap (λ k. refusedAt 9 k) (ap placeIn y)

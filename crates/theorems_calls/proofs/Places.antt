@@ -5,17 +5,17 @@ use mathlib.Core.Bool.{_&&_}
 use native.Mathlib.Omega.{arith}
 use lib.Dec.{leb, ltb}
 use Rattle.detector.specs.declared.DetectorHit.{DetectorHit}
-use Rattle.memory.specs.Memory.{Memory, Outcome, done, refused, recordHit}
+use Rattle.memory.specs.Memory.{Memory, Outcome, done, refused, recordOf}
 use Rattle.step.specs.declared.ActiveRay.{ActiveRay}
 use Rattle.step.specs.Rays.{Scene, End, dim, spent, gone, caught, stopped, parted, refusing}
-use Rattle.step.specs.Turn.{turnOf}
+use Rattle.step.specs.Turn.{takeStepOf}
 use Rattle.report.specs.declared.NonSeqTraceReport.{NonSeqTraceReport}
 use Rattle.run.specs.declared.stack.Stack.{Stack}
 use Rattle.run.specs.declared.stack.Taken.{Taken}
 use Rattle.run.specs.declared.Progress.{Progress}
-use Rattle.run.specs.Stack.{loadedOf, takenOf}
-use Rattle.run.specs.Run.{Run, hitIn, refusalIn, putFrom, isLeft, andThen, settleWith, stepOn, drive}
-use Rattle.trace.specs.Trace.{Batch, raysOf, allSteps, startOf, sceneIn, traceRaysOf}
+use Rattle.run.specs.Stack.{loadOf, takenFrom}
+use Rattle.run.specs.Run.{Run, hitInOf, refusalInOf, putFrom, isLeft, andThen, settleWith, stepOn, drive}
+use Rattle.trace.specs.Trace.{Batch, raysIn, allSteps, startOf, sceneIn, traceRaysOf}
 use Rattle.theorems_runs.proofs.Bred.{pick}
 use Rattle.theorems_calls.proofs.Checks.{Passes}
 use Rattle.theorems_calls.proofs.Split.{traced}
@@ -24,8 +24,8 @@ abbrev Within : {M : Type 0} → ℕ → Outcome M → Type 0
 Within n (done m) = Unit
 Within n (refused k place m) = place ≤ n
 
-taken-few : (given : ℕ → ActiveRay) (s : Stack) (left n : ℕ) → left ≤ n → takenOf given s left .left ≤ n
-unfolding takenOf loadedOf
+taken-few : (given : ℕ → ActiveRay) (s : Stack) (left n : ℕ) → left ≤ n → takenFrom given s left .left ≤ n
+unfolding takenFrom loadOf
 taken-few given s left n k = pick (λ (t : Taken). t .left ≤ n) (ltb 0 (s .len) && leb (s .len) 17) (λ q. omega arith) (λ q. omega arith)
 
 module _ {M : Type 0} (put : M → DetectorHit → Outcome M) (S : Scene) (given : ℕ → ActiveRay) (n : ℕ) where
@@ -33,8 +33,8 @@ module _ {M : Type 0} (put : M → DetectorHit → Outcome M) (S : Scene) (given
   put-within place r a (done m) k = tt
   put-within place r a (refused j at m) k = k
 
-  settle-within : (m : M) (place : ℕ) (r a : NonSeqTraceReport) (e : End) → place ≤ n → Within n (settleWith put m place r a (refusalIn e place) (hitIn e) .outcome)
-  unfolding hitIn refusalIn
+  settle-within : (m : M) (place : ℕ) (r a : NonSeqTraceReport) (e : End) → place ≤ n → Within n (settleWith put m place r a (refusalInOf e place) (hitInOf e) .outcome)
+  unfolding hitInOf refusalInOf
   settle-within m place r a dim k = tt
   settle-within m place r a spent k = tt
   settle-within m place r a gone k = tt
@@ -45,7 +45,7 @@ module _ {M : Type 0} (put : M → DetectorHit → Outcome M) (S : Scene) (given
 
   step-within : (m : M) (p : Progress) → p .left ≤ n → Within n (stepOn put S given m p .outcome)
   unfolding stepOn
-  step-within m p k = settle-within m _ (p .report) _ (turnOf S (takenOf given (p .stack) (p .left) .ray) .end) (taken-few given (p .stack) (p .left) n k)
+  step-within m p k = settle-within m _ (p .report) _ (takeStepOf S (takenFrom given (p .stack) (p .left) .ray) .end) (taken-few given (p .stack) (p .left) n k)
 
   next-few : (m : M) (p : Progress) → p .left ≤ n → stepOn put S given m p .progress .left ≤ n
   unfolding stepOn
@@ -67,4 +67,4 @@ pub place-few : (B : Batch) (s : Memory) (n place : ℕ) (t : Memory) → Passes
 unfolding startOf
 place-few B s n place t p e =
     subst (Within (B .rays)) (sym (traced B s p) ∙ e)
-    (drive-within recordHit (sceneIn B (s .detectors)) (raysOf B) (B .rays) allSteps s (startOf (raysOf B) (B .rays)) (omega arith))
+    (drive-within recordOf (sceneIn B (s .detectors)) (raysIn B) (B .rays) allSteps s (startOf (raysIn B) (B .rays)) (omega arith))

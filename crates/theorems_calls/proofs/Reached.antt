@@ -10,13 +10,13 @@ use borrow.Author.Tests.{leb-false}
 use Rattle.detector.specs.declared.Detector2D.{Detector2D}
 use Rattle.detector.specs.Checks.{checkGridOf, checkDetectorOf}
 use Rattle.detector.specs.Faces.{faceOf}
-use Rattle.detectors.specs.Detectors.{detectorAt, allPixelsOf, checkFromOf, checkDetectorsOf}
+use Rattle.detectors.specs.Detectors.{detectorAt, allPixelsOf, checkListOf, checkDetectorsOf}
 use Rattle.detector.specs.declared.DetectorHit.{DetectorHit}
-use Rattle.memory.specs.Memory.{Memory, Outcome, leftOf, raised, cellOf, capacityOf, judged, recordAt, recordHit, holdsOf, writtenAt}
+use Rattle.memory.specs.Memory.{Memory, Outcome, memoryLeft, raised, cellIn, capacity, judged, putOf, recordOf, hasPixel, writtenAt}
 use Rattle.memory.specs.Plain.{added}
 use Rattle.memory.proofs.Keeps.{kept, first-kept, written-flux, written-hits, written-values, written-tags, added-keeps, added-capacity}
 use Rattle.memory.proofs.Plain.{added-snoc}
-use Rattle.faces.specs.Faces.{facesOf}
+use Rattle.faces.specs.Faces.{newFacesOf}
 use Rattle.theorems_runs.proofs.Bred.{pick}
 
 -- ---- the checks and the faces of the detectors
@@ -30,8 +30,8 @@ unfolding faceOf
 same-face d f = refl
 
 -- lists of detectors of which each passes and fails as the other's
-from-same : (l k : List Detector2D) → ((i : ℕ) → checkDetectorOf (detectorAt k i) i ≡ checkDetectorOf (detectorAt l i) i) → (n i : ℕ) → checkFromOf k n i ≡ checkFromOf l n i
-unfolding checkFromOf
+from-same : (l k : List Detector2D) → ((i : ℕ) → checkDetectorOf (detectorAt k i) i ≡ checkDetectorOf (detectorAt l i) i) → (n i : ℕ) → checkListOf k n i ≡ checkListOf l n i
+unfolding checkListOf
 from-same l k same zero i = refl
 from-same l k same (suc n) i = rw (same i, from-same l k same n (i + 1))
 
@@ -47,8 +47,8 @@ written-checks : (s : Memory) (p : ℕ) (h : DetectorHit) → checkDetectorsOf (
 unfolding checkDetectorsOf
 written-checks s p h = rw (written-count s p h, from-same (s .detectors .list) (writtenAt s p h .detectors .list) (λ i. written-same s p h (λ d. checkDetectorOf d i) (same-check i) i) (s .detectors .count) 0)
 
-written-faces : (s : Memory) (p : ℕ) (h : DetectorHit) → facesOf (writtenAt s p h .detectors) ≡ facesOf (s .detectors)
-unfolding facesOf
+written-faces : (s : Memory) (p : ℕ) (h : DetectorHit) → newFacesOf (writtenAt s p h .detectors) ≡ newFacesOf (s .detectors)
+unfolding newFacesOf
 written-faces s p h =
     rw (
       written-count s p h,
@@ -72,8 +72,8 @@ module _ (b : List DetectorHit) (s : Memory) where
   pub added-checks : checkDetectorsOf (added s b .detectors) ≡ checkDetectorsOf (s .detectors)
   added-checks = added-keeps (λ m. checkDetectorsOf (m .detectors)) written-checks b s
 
-  pub added-faces : facesOf (added s b .detectors) ≡ facesOf (s .detectors)
-  added-faces = added-keeps (λ m. facesOf (m .detectors)) written-faces b s
+  pub added-faces : newFacesOf (added s b .detectors) ≡ newFacesOf (s .detectors)
+  added-faces = added-keeps (λ m. newFacesOf (m .detectors)) written-faces b s
 
   pub added-all : allPixelsOf (added s b .detectors) ≡ allPixelsOf (s .detectors)
   added-all = added-keeps (λ m. allPixelsOf (m .detectors)) written-all b s
@@ -98,31 +98,31 @@ module _ (b : List DetectorHit) (s : Memory) where
 pub record Reached (s m : Memory) : Type 0 where
   pub hits : List DetectorHit
   pub sum : m ≡ added s hits
-  pub room : m .used ≤ capacityOf s
+  pub room : m .used ≤ capacity s
 
-pub reached-itself : (s : Memory) → s .used ≤ capacityOf s → Reached s s
+pub reached-itself : (s : Memory) → s .used ≤ capacity s → Reached s s
 unfolding added
 reached-itself s r = record { hits = []; sum = refl; room = r }
 
-reached-written : (s m : Memory) (h : DetectorHit) → m .used < capacityOf m → Reached s m → Reached s (writtenAt m (cellOf (m .detectors .list) h) h)
+reached-written : (s m : Memory) (h : DetectorHit) → m .used < capacity m → Reached s m → Reached s (writtenAt m (cellIn (m .detectors .list) h) h)
 unfolding writtenAt
 reached-written s m h k r =
     record {
       hits = r .hits ++ h ∷ [];
-      sum = ap (λ x. writtenAt x (cellOf (x .detectors .list) h) h) (r .sum) ∙ sym (added-snoc (r .hits) s h);
-      room = omega (arith, ap capacityOf (r .sum) ∙ added-capacity (r .hits) s);
+      sum = ap (λ x. writtenAt x (cellIn (x .detectors .list) h) h) (r .sum) ∙ sym (added-snoc (r .hits) s h);
+      room = omega (arith, ap capacity (r .sum) ∙ added-capacity (r .hits) s);
     }
 
-judged-keeps : {M : Type 0} (P : M → Type 0) (full most : Bool) (m n : M) → P m → (full ≡ false → P n) → P (leftOf (judged full most m n))
+judged-keeps : {M : Type 0} (P : M → Type 0) (full most : Bool) (m n : M) → P m → (full ≡ false → P n) → P (memoryLeft (judged full most m n))
 unfolding judged
 judged-keeps P true most m n p f = p
 judged-keeps P false true m n p f = p
 judged-keeps P false false m n p f = f refl
 
-record-at : (s m : Memory) (h : DetectorHit) → Reached s m → Reached s (leftOf (recordAt m (cellOf (m .detectors .list) h) h))
-unfolding recordAt
-record-at s m h r = judged-keeps (Reached s) _ _ m _ r (λ z. reached-written s m h (leb-false (capacityOf m) (m .used) z) r)
+record-at : (s m : Memory) (h : DetectorHit) → Reached s m → Reached s (memoryLeft (putOf m (cellIn (m .detectors .list) h) h))
+unfolding putOf
+record-at s m h r = judged-keeps (Reached s) _ _ m _ r (λ z. reached-written s m h (leb-false (capacity m) (m .used) z) r)
 
-pub reached-record : (s m : Memory) (h : DetectorHit) → Reached s m → Reached s (leftOf (recordHit m h))
-unfolding recordHit
-reached-record s m h r = pick (λ (o : Outcome Memory). Reached s (leftOf o)) (holdsOf m h) (λ q. record-at s m h r) (λ q. r)
+pub reached-record : (s m : Memory) (h : DetectorHit) → Reached s m → Reached s (memoryLeft (recordOf m h))
+unfolding recordOf
+reached-record s m h r = pick (λ (o : Outcome Memory). Reached s (memoryLeft o)) (hasPixel m h) (λ q. record-at s m h r) (λ q. r)

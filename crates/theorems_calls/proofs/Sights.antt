@@ -10,17 +10,17 @@ use Rattle.rays.specs.declared.Ray.{Ray}
 use Rattle.material.specs.declared.SurfaceFinish.{SurfaceFinish}
 use Rattle.material.specs.declared.SurfaceFinish.the-variants.{Specular, Mirror, Absorber}
 use Rattle.scene.specs.declared.NonSeqHit.{NonSeqHit}
-use Rattle.surface.specs.Fresnel.{Parted, total, both, mirroredPowerOf}
+use Rattle.surface.specs.Fresnel.{FresnelInteraction, total, split, mirroredPowerOf}
 use Rattle.media.specs.declared.Media.{Media}
 use Rattle.nearest.specs.Nearest.{IsNearest}
 use Rattle.nearest.proofs.Laws.{nearest-is}
 use Rattle.detector.specs.declared.face.Crossing.{Crossing}
 use Rattle.detector.specs.declared.DetectorHit.{DetectorHit}
 use Rattle.faces.specs.declared.Sight.{Sight}
-use Rattle.faces.specs.Faces.{sightDistance, sightFrom, sightsOf, shownOf, nearestDetectorOf}
+use Rattle.faces.specs.Faces.{sightDistance, sightFrom, sights, faceCountOf, nearestDetectorOf}
 use Rattle.step.specs.declared.ActiveRay.{ActiveRay}
 use Rattle.step.specs.Rays.{Optics, Scene, Step, End, dim, spent, gone, caught, stopped, parted, refusing}
-use Rattle.step.specs.Turn.{Met, detector, nothing, partedOf, partedFrom, clearBetween, clearOf, mirrorFrom, mirrorOf, surfaceBy, surfaceOf, nearerOf, firstMetOf, meetsOf, interactOf, turnOf}
+use Rattle.step.specs.Turn.{Met, detector, nothing, partedBy, partedOf, betweenOf, clearOf, mirrorFromOf, mirrorOf, surfaceBy, surfaceOf, nearerOf, firstMetOf, meetsWith, interactOf, takeStepOf}
 use Rattle.theorems_runs.proofs.Bred.{pick, false-true}
 use Rattle.theorems_calls.proofs.Drives.{Brought}
 
@@ -56,24 +56,24 @@ There n (parted r t z) = Unit
 There n (refusing k) = Unit
 
 module _ (n : ℕ) (a : ActiveRay) where
-  parted-there : (threshold : Float) (m : Media) (p : Parted) → There n (partedOf threshold a m p .end)
-  unfolding partedOf
+  parted-there : (threshold : Float) (m : Media) (p : FresnelInteraction) → There n (partedBy threshold a m p .end)
+  unfolding partedBy
   parted-there threshold m (total r) = tt
-  parted-there threshold m (both r t) = tt
+  parted-there threshold m (split r t) = tt
 
-  from-there : (threshold : Float) (m : Media) (p : Answer Parted) → There n (partedFrom threshold a m p .end)
-  unfolding partedFrom
+  from-there : (threshold : Float) (m : Media) (p : Answer FresnelInteraction) → There n (partedOf threshold a m p .end)
+  unfolding partedOf
   from-there threshold m (value p) = parted-there threshold m p
   from-there threshold m (refusal k) = tt
 
-  between-there : (threshold : Float) (h : NonSeqHit) (m : Media) (x y : Answer Float) → There n (clearBetween threshold a h m x y .end)
-  unfolding clearBetween
+  between-there : (threshold : Float) (h : NonSeqHit) (m : Media) (x y : Answer Float) → There n (betweenOf threshold a h m x y .end)
+  unfolding betweenOf
   between-there threshold h m (value x) (value y) = from-there threshold m _
   between-there threshold h m (value x) (refusal k) = tt
   between-there threshold h m (refusal k) y = tt
 
-  mirror-from : (left : Float) (r : Answer Ray) → There n (mirrorFrom a left r .end)
-  unfolding mirrorFrom
+  mirror-from : (left : Float) (r : Answer Ray) → There n (mirrorFromOf a left r .end)
+  unfolding mirrorFromOf
   mirror-from left (value r) = tt
   mirror-from left (refusal k) = tt
 
@@ -84,25 +84,25 @@ module _ (n : ℕ) (a : ActiveRay) where
       pick (λ (s : Step). There n (s .end)) (lt (O .config .«min_power_threshold») (mirroredPowerOf (a .ray .energy) rho)) (λ q. mirror-from _ _) (λ q. tt)
   by-there O h Absorber = tt
 
-  meets-there : (S : Scene) (o : Option Sight) (g : Option NonSeqHit) → ((s : Sight) → o ≡ some s → s .detector .0 < n) → There n (meetsOf S a (firstMetOf o g) .end)
-  unfolding meetsOf firstMetOf nearerOf surfaceOf
+  meets-there : (S : Scene) (o : Option Sight) (g : Option NonSeqHit) → ((s : Sight) → o ≡ some s → s .detector .0 < n) → There n (meetsWith S a (firstMetOf o g) .end)
+  unfolding meetsWith firstMetOf nearerOf surfaceOf
   meets-there S none none f = tt
   meets-there S none (some h) f = by-there (S .optics) h _
   meets-there S (some s) none f = f s refl
   meets-there S (some s) (some h) f =
-      pick (λ (k : Met). There n (meetsOf S a k .end)) (lt (s .crossing .t) (h .t)) (λ q. f s refl) (λ q. by-there (S .optics) h _)
+      pick (λ (k : Met). There n (meetsWith S a k .end)) (lt (s .crossing .t) (h .t)) (λ q. f s refl) (λ q. by-there (S .optics) h _)
 
-turn-there : (S : Scene) (a : ActiveRay) → There (shownOf (S .faces .count)) (turnOf S a .end)
-unfolding turnOf interactOf nearestDetectorOf
+turn-there : (S : Scene) (a : ActiveRay) → There (faceCountOf (S .faces .count)) (takeStepOf S a .end)
+unfolding takeStepOf interactOf nearestDetectorOf
 turn-there S a =
-    let n : ℕ = shownOf (S .faces .count) in
+    let n : ℕ = faceCountOf (S .faces .count) in
     pick (λ (s : Step). There n (s .end)) (le (a .ray .energy) (S .optics .config .«min_power_threshold»)) (λ q. tt)
     (λ q.
     pick (λ (s : Step). There n (s .end)) (leb (S .optics .config .«max_bounces») (a .«bounce_count»)) (λ z. tt)
     (λ z.
     meets-there n a S _ _
-    (seen-there (sightsOf (S .faces .list) (a .ray)) n (λ i s e. sight-number i _ s e) _ (nearest-is Sight sightDistance (sightsOf (S .faces .list) (a .ray)) n))))
+    (seen-there (sights (S .faces .list) (a .ray)) n (λ i s e. sight-number i _ s e) _ (nearest-is Sight sightDistance (sights (S .faces .list) (a .ray)) n))))
 
 -- a hit that a step brings
-pub brought-there : (S : Scene) (h : DetectorHit) → Brought S h → h .detector .0 < shownOf (S .faces .count)
-brought-there S h b = subst (There (shownOf (S .faces .count))) (b .1) (turn-there S (b .0))
+pub brought-there : (S : Scene) (h : DetectorHit) → Brought S h → h .detector .0 < faceCountOf (S .faces .count)
+brought-there S h b = subst (There (faceCountOf (S .faces .count))) (b .1) (turn-there S (b .0))

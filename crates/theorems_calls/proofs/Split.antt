@@ -3,15 +3,15 @@ use Prim.Native.Nat.{ℕ, _+_, _≤_}
 use mathlib.Core.Path.{_≡_, refl, ap, sym, subst, _∙_}
 use mathlib.Core.List.{List, [], _∷_}
 use Rattle.error.specs.Refusals.{passed}
-use Rattle.memory.specs.Memory.{Memory, Outcome, done, refused, leftOf, recordHit}
+use Rattle.memory.specs.Memory.{Memory, Outcome, done, refused, memoryLeft, recordOf}
 use Rattle.faces.specs.declared.Faces.{Faces}
-use Rattle.faces.specs.Faces.{facesOf}
-use Rattle.step.specs.Rays.{sceneOf}
-use Rattle.run.specs.Stack.{emptyStack}
+use Rattle.faces.specs.Faces.{newFacesOf}
+use Rattle.step.specs.Rays.{listedScene}
+use Rattle.run.specs.Stack.{emptyStackOf}
 use Rattle.run.specs.Run.{isLeft, drive}
-use Rattle.trace.specs.Trace.{Batch, raysOf, allSteps, startOf, sceneIn, runOn, checkTraceOf, traceRaysOf}
+use Rattle.trace.specs.Trace.{Batch, raysIn, allSteps, startOf, sceneIn, runOn, checkBatch, traceRaysOf}
 use Rattle.theorems_runs.proofs.Checked.{fit}
-use Rattle.theorems_calls.specs.Parts.{Part, Exact, AllExact, noRays, joined, joinedAll, withRays, Splits, shifted, thenOn, tracePartsOf}
+use Rattle.theorems_calls.specs.Parts.{Part, Exact, AllExact, noRays, joined, joinedAll, withRays, Splits, shifted, thenOn, traceParts}
 use Rattle.theorems_calls.proofs.Drives.{drive-keeps}
 use Rattle.theorems_calls.proofs.Later.{over, two-runs}
 use Rattle.theorems_calls.proofs.Reached.{Reached, added-faces, reached-itself, reached-record}
@@ -21,16 +21,16 @@ use Rattle.theorems_calls.proofs.Checks.{Passes, passes, all-pass, used
 -- ---- a tracing whose checks passed is its run
 
 abbrev ranIn : Faces → Batch → Memory → Outcome Memory
-ranIn fs B m = drive recordHit (sceneOf (B .values) (B .tags) (B .solids) fs (B .config)) (raysOf B) allSteps m (startOf (raysOf B) (B .rays)) .outcome
+ranIn fs B m = drive recordOf (listedScene (B .values) (B .tags) (B .solids) fs (B .config)) (raysIn B) allSteps m (startOf (raysIn B) (B .rays)) .outcome
 
-pub traced : (B : Batch) (m : Memory) → Passes B m → traceRaysOf B m .outcome ≡ ranIn (facesOf (m .detectors)) B m
+pub traced : (B : Batch) (m : Memory) → Passes B m → traceRaysOf B m .outcome ≡ ranIn (newFacesOf (m .detectors)) B m
 unfolding traceRaysOf runOn
 traced B m p = rw (all-pass B m p)
 
-pub trace-reaches : (B : Batch) (s : Memory) → Passes B s → Reached s (leftOf (traceRaysOf B s .outcome))
+pub trace-reaches : (B : Batch) (s : Memory) → Passes B s → Reached s (memoryLeft (traceRaysOf B s .outcome))
 trace-reaches B s p =
     rw (traced B s p)
-    (drive-keeps recordHit (sceneIn B (s .detectors)) (raysOf B) (Reached s) (λ m h b r. reached-record s m h r) allSteps s (startOf (raysOf B) (B .rays)) (reached-itself s (used-room s (p .lengths))))
+    (drive-keeps recordOf (sceneIn B (s .detectors)) (raysIn B) (Reached s) (λ m h b r. reached-record s m h r) allSteps s (startOf (raysIn B) (B .rays)) (reached-itself s (used-room s (p .lengths))))
 
 -- ---- two parts
 
@@ -40,7 +40,7 @@ then-same c (refused n place m) f g e = refl
 
 module _ (B : Batch) (p q : Part) (s : Memory) (ep : Exact p) (eq : Exact q) (w : Passes (withRays B (joined p q)) s) where
   abbrev fs : Faces
-  fs = facesOf (s .detectors)
+  fs = newFacesOf (s .detectors)
 
   lim : B .config .«max_bounces» ≤ 16
   lim = fit (withRays B (joined p q)) s (all-pass _ s w) .limit
@@ -51,25 +51,25 @@ module _ (B : Batch) (p q : Part) (s : Memory) (ep : Exact p) (eq : Exact q) (w 
   -- the former part, on what the later one leaves
   former-traced : (m : Memory) → traceRaysOf (withRays B q) s .outcome ≡ done m → traceRaysOf (withRays B p) m .outcome ≡ ranIn fs (withRays B p) m
   former-traced m e =
-      let r : Reached s m = subst (λ (o : Outcome Memory). Reached s (leftOf o)) e (trace-reaches (withRays B q) s (later-passes B p q s ep eq w)) in
+      let r : Reached s m = subst (λ (o : Outcome Memory). Reached s (memoryLeft o)) e (trace-reaches (withRays B q) s (later-passes B p q s ep eq w)) in
       traced (withRays B p) m (former-passes B p q s ep eq w m r)
-      ∙ ap (λ f. ranIn f (withRays B p) m) (ap (λ (x : Memory). facesOf (x .detectors)) (r .sum) ∙ added-faces (r .hits) s)
+      ∙ ap (λ f. ranIn f (withRays B p) m) (ap (λ (x : Memory). newFacesOf (x .detectors)) (r .sum) ∙ added-faces (r .hits) s)
 
   pub two-parts : thenOn (shifted (p .rays) (traceRaysOf (withRays B q) s .outcome)) (λ m. traceRaysOf (withRays B p) m .outcome) ≡ traceRaysOf (withRays B (joined p q)) s .outcome
   two-parts =
       then-same (p .rays) (traceRaysOf (withRays B q) s .outcome) _ (ranIn fs (withRays B p)) former-traced
       ∙ ap (λ o. thenOn (shifted (p .rays) o) (ranIn fs (withRays B p))) (traced (withRays B q) s (later-passes B p q s ep eq w))
-      ∙ sym (two-runs recordHit (sceneOf (B .values) (B .tags) (B .solids) fs (B .config)) lim (p .rays) (q .rays) (raysOf (withRays B (joined p q))) (raysOf (withRays B p)) (raysOf (withRays B q)) few (former-given p q ep) (λ i k. later-given p q ep i eq k) s)
+      ∙ sym (two-runs recordOf (listedScene (B .values) (B .tags) (B .solids) fs (B .config)) lim (p .rays) (q .rays) (raysIn (withRays B (joined p q))) (raysIn (withRays B p)) (raysIn (withRays B q)) few (former-given p q ep) (λ i k. later-given p q ep i eq k) s)
       ∙ sym (traced (withRays B (joined p q)) s w)
 
 -- ---- any list of parts
 
 no-rays : (B : Batch) (s : Memory) → Passes (withRays B noRays) s → done s ≡ traceRaysOf (withRays B noRays) s .outcome
-unfolding startOf emptyStack isLeft
-no-rays B s w = sym (traced (withRays B noRays) s w ∙ over recordHit _ _ allSteps s _ refl)
+unfolding startOf emptyStackOf isLeft
+no-rays B s w = sym (traced (withRays B noRays) s w ∙ over recordOf _ _ allSteps s _ refl)
 
-parts-of : (B : Batch) (ps : List Part) (s : Memory) → AllExact ps → Passes (withRays B (joinedAll ps)) s → tracePartsOf B ps s ≡ traceRaysOf (withRays B (joinedAll ps)) s .outcome
-unfolding tracePartsOf joinedAll AllExact
+parts-of : (B : Batch) (ps : List Part) (s : Memory) → AllExact ps → Passes (withRays B (joinedAll ps)) s → traceParts B ps s ≡ traceRaysOf (withRays B (joinedAll ps)) s .outcome
+unfolding traceParts joinedAll AllExact
 parts-of B [] s e w = no-rays B s w
 parts-of B (p ∷ ps) s e w =
     let x = exact-all ps (e .1) in
@@ -77,7 +77,7 @@ parts-of B (p ∷ ps) s e w =
     ∙ two-parts B p (joinedAll ps) s (e .0) x w
 
 -- from any start, refused or not: the memory, and the number and the place of the refusal
-pub split : (B : Batch) (ps : List Part) (s : Memory) → Splits B ps → checkTraceOf B s ≡ passed tt → tracePartsOf B ps s ≡ traceRaysOf B s .outcome
+pub split : (B : Batch) (ps : List Part) (s : Memory) → Splits B ps → checkBatch B s ≡ passed tt → traceParts B ps s ≡ traceRaysOf B s .outcome
 split B ps s e c =
-    parts-of B ps s (e .exact) (passes (withRays B (joinedAll ps)) s (ap (λ C. checkTraceOf C s) (e .whole) ∙ c))
+    parts-of B ps s (e .exact) (passes (withRays B (joinedAll ps)) s (ap (λ C. checkBatch C s) (e .whole) ∙ c))
     ∙ ap (λ C. traceRaysOf C s .outcome) (e .whole)

@@ -16,7 +16,7 @@ use Rattle.step.specs.declared.ActiveRay.{ActiveRay}
 use Rattle.step.specs.Rays.{Step}
 use Rattle.run.specs.declared.stack.Stack.{Stack}
 use Rattle.run.specs.declared.Progress.{Progress}
-use Rattle.run.specs.Stack.{noRay, takenOf, pushed, pushedIf, popped, afterOf}
+use Rattle.run.specs.Stack.{noRay, takenFrom, pushed, pushedIf, popped, stackAfter}
 use Rattle.run.specs.Run.{isLeft}
 use Rattle.theorems_runs.specs.Sums.{Full}
 use Rattle.theorems_runs.proofs.Stacks.{full-popped, full-if, if-len, top-taken, given-taken, some-left}
@@ -57,11 +57,11 @@ if-alike true a s t k h =
       also-full = full-if true t a (omega (arith, h .len)) (h .also-full);
     }
 
-pub after-alike : (s t : Stack) (e : Step) → Alike s t → Alike (afterOf s e) (afterOf t e)
-unfolding afterOf
+pub after-alike : (s t : Stack) (e : Step) → Alike s t → Alike (stackAfter s e) (stackAfter t e)
+unfolding stackAfter
 after-alike s t e h = more (ltb (popped s .len) 16) refl
   where
-    more : (b : Bool) → ltb (popped s .len) 16 ≡ b → Alike (afterOf s e) (afterOf t e)
+    more : (b : Bool) → ltb (popped s .len) 16 ≡ b → Alike (stackAfter s e) (stackAfter t e)
     more true q =
         let p : Alike (popped s) (popped t) = popped-alike s t h in
         let l : popped s .len < 16 = ltb-true (popped s .len) 16 q in
@@ -82,9 +82,9 @@ module _ (c n : ℕ) (given later : ℕ → ActiveRay) (same : (i : ℕ) → i <
     pub few : p .left ≤ n
 
   pub record Takes (p q : Progress) : Type 0 where
-    pub ray : takenOf given (q .stack) (q .left) .ray ≡ takenOf later (p .stack) (p .left) .ray
-    pub left : takenOf given (q .stack) (q .left) .left ≡ c + takenOf later (p .stack) (p .left) .left
-    pub few : takenOf later (p .stack) (p .left) .left ≤ n
+    pub ray : takenFrom given (q .stack) (q .left) .ray ≡ takenFrom later (p .stack) (p .left) .ray
+    pub left : takenFrom given (q .stack) (q .left) .left ≡ c + takenFrom later (p .stack) (p .left) .left
+    pub few : takenFrom later (p .stack) (p .left) .left ≤ n
 
   pub takes : (p q : Progress) → isLeft p ≡ true → Like p q → Takes p q
   takes p q l h =

@@ -11,10 +11,10 @@ use Rattle.detector.specs.declared.Detector2D.{Detector2D}
 use Rattle.detector.specs.declared.DetectorNo.{DetectorNo}
 use Rattle.detectors.specs.Detectors.{detectorAt, findOf}
 use Rattle.detector.specs.declared.DetectorHit.{DetectorHit}
-use Rattle.memory.specs.Memory.{Memory, Outcome, done, refused, leftOf, unless, judged, maxCount, listed, cellOf, capacityOf, isMemoryOf, recordClassifiedOf}
-use Rattle.memory.specs.Plain.{View, sharing, numberIn, added, viewOf, plusAll, #0}
+use Rattle.memory.specs.Memory.{Memory, Outcome, done, refused, memoryLeft, unless, judged, maxCount, listed, cellIn, capacity, isMemory, recordHitClassifiedOf}
+use Rattle.memory.specs.Plain.{View, sharing, numberIn, added, viewIn, plusAll, #0}
 use Rattle.filter.specs.declared.RayPathFilter.{RayPathFilter}
-use Rattle.trace.specs.Trace.{Batch, checkTraceOf, runOn, traceAfter, traceRaysOf}
+use Rattle.trace.specs.Trace.{Batch, checkBatch, runOn, traceAfter, traceRaysOf}
 
 -- ---- calls on the same detectors and memory, each with its arguments besides these
 
@@ -40,27 +40,27 @@ pub data Wish : Type 0 where
   nothing : Wish
 
 -- filters and readings are lent the memory to read and write none of it
-unfoldable pub wishOf : Call → Wish
-wishOf (tracing B) = rays B
-wishOf (recording h) = hit h
-wishOf (refilter d f work) = nothing
-wishOf (part d f work) = nothing
-wishOf (filtered d f work) = nothing
-wishOf (irradiance d px py) = nothing
-wishOf (crossing d r) = nothing
-wishOf (area d) = nothing
+unfoldable pub wishIn : Call → Wish
+wishIn (tracing B) = rays B
+wishIn (recording h) = hit h
+wishIn (refilter d f work) = nothing
+wishIn (part d f work) = nothing
+wishIn (filtered d f work) = nothing
+wishIn (irradiance d px py) = nothing
+wishIn (crossing d r) = nothing
+wishIn (area d) = nothing
 
 -- ---- the memory
 
-unfoldable pub grantedOf : Wish → Memory → Outcome Memory
-grantedOf (rays B) m = traceRaysOf B m .outcome
-grantedOf (hit h) m = recordClassifiedOf m h
-grantedOf nothing m = done m
+unfoldable pub granted : Wish → Memory → Outcome Memory
+granted (rays B) m = traceRaysOf B m .outcome
+granted (hit h) m = recordHitClassifiedOf m h
+granted nothing m = done m
 
 -- after a list of calls, refused ones included
 unfoldable pub memoryAfter : List Call → Memory → Memory
 memoryAfter [] m = m
-memoryAfter (c ∷ cs) m = memoryAfter cs (leftOf (grantedOf (wishOf c) m))
+memoryAfter (c ∷ cs) m = memoryAfter cs (memoryLeft (granted (wishIn c) m))
 
 -- ---- the book: s is the memory without contents
 
@@ -99,24 +99,24 @@ withUsed s b =
 -- 12 if the lent slices hold no more, 13 if 2^32 - 1 listed hits share that pixel or detector; else the hit is appended
 unfoldable pub plainHit : Memory → List DetectorHit → DetectorHit → Outcome (List DetectorHit)
 plainHit s b h =
-    let cell = cellOf (s .detectors .list) in
-    judged (leb (capacityOf s) (length b)) (eqb (sharing cell (cell h) b) maxCount || eqb (sharing numberIn (h .detector .0) b) maxCount) b (b ++ h ∷ [])
+    let cell = cellIn (s .detectors .list) in
+    judged (leb (capacity s) (length b)) (eqb (sharing cell (cell h) b) maxCount || eqb (sharing numberIn (h .detector .0) b) maxCount) b (b ++ h ∷ [])
 
 -- refused before the run, it is left as it is; else the rays go by the same steps, each hit into the book
 unfoldable pub bookTraced : Memory → Batch → List DetectorHit → Outcome (List DetectorHit)
-bookTraced s B b = traceAfter (checkTraceOf B (withUsed s b)) b (runOn (plainHit s) (s .detectors) B b) .outcome
+bookTraced s B b = traceAfter (checkBatch B (withUsed s b)) b (runOn (plainHit s) (s .detectors) B b) .outcome
 
 unfoldable pub bookRecorded : Memory → DetectorHit → List DetectorHit → Outcome (List DetectorHit)
-bookRecorded s h b = unless (findOf (s .detectors) (h .detector)) b (cond (isMemoryOf (withUsed s b)) (plainHit s b h) (refused 9 0 b))
+bookRecorded s h b = unless (findOf (s .detectors) (h .detector)) b (cond (isMemory (withUsed s b)) (plainHit s b h) (refused 9 0 b))
 
-unfoldable pub bookedOf : Memory → Wish → List DetectorHit → Outcome (List DetectorHit)
-bookedOf s (rays B) b = bookTraced s B b
-bookedOf s (hit h) b = bookRecorded s h b
-bookedOf s nothing b = done b
+unfoldable pub bookGranted : Memory → Wish → List DetectorHit → Outcome (List DetectorHit)
+bookGranted s (rays B) b = bookTraced s B b
+bookGranted s (hit h) b = bookRecorded s h b
+bookGranted s nothing b = done b
 
 unfoldable pub bookAfter : Memory → List Call → List DetectorHit → List DetectorHit
 bookAfter s [] b = b
-bookAfter s (c ∷ cs) b = bookAfter s cs (leftOf (bookedOf s (wishOf c) b))
+bookAfter s (c ∷ cs) b = bookAfter s cs (memoryLeft (bookGranted s (wishIn c) b))
 
 -- ---- a detector's maps, total and count before any hit; nf and nh are how many places of the two maps are its own
 
@@ -131,6 +131,6 @@ pub record Told (s m : Memory) (b : List DetectorHit) : Type 0 where
   pub list : listed m ≡ b
   -- each detector's maps, total and count are what zeros become when its listed hits are added in list order
   pub views :
-      (d : ℕ) → d < 8 → viewOf m d ≡ plusAll d (detectorAt (s .detectors .list) d) (zeroView (length (viewOf s d .flux)) (length (viewOf s d .hits))) b
+      (d : ℕ) → d < 8 → viewIn m d ≡ plusAll d (detectorAt (s .detectors .list) d) (zeroView (length (viewIn s d .flux)) (length (viewIn s d .hits))) b
   -- and nothing else has changed
   pub memory : m ≡ added s b

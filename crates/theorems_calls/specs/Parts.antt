@@ -64,6 +64,6 @@ abbrev pub thenOn : {M : Type 0} → Outcome M → (M → Outcome M) → Outcome
 thenOn (done m) go = go m
 thenOn (refused k place m) go = refused k place m
 
-unfoldable pub tracePartsOf : Batch → List Part → Memory → Outcome Memory
-tracePartsOf B [] s = done s
-tracePartsOf B (p ∷ ps) s = thenOn (shifted (p .rays) (tracePartsOf B ps s)) (λ m. traceRaysOf (withRays B p) m .outcome)
+unfoldable pub traceParts : Batch → List Part → Memory → Outcome Memory
+traceParts B [] s = done s
+traceParts B (p ∷ ps) s = thenOn (shifted (p .rays) (traceParts B ps s)) (λ m. traceRaysOf (withRays B p) m .outcome)

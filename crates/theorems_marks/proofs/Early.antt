@@ -6,20 +6,20 @@ use mathlib.Core.List.{List}
 use lib.Dec.{leb, eqb}
 use lib.Ieee.{le}
 use lib.ListN.{length, getD}
-use Rattle.doubles.specs.Doubles.{finiteOf}
+use Rattle.doubles.specs.Doubles.{isFiniteOf}
 use Rattle.error.specs.Refusals.{Checked, passed, refusedAt, after}
-use Rattle.rays.specs.Rays.{validRayOf}
+use Rattle.rays.specs.Rays.{isValidRayOf}
 use Rattle.scene.specs.Solids.{tagsFitOf, checkTagsOf, checkSolidsOf}
 use Rattle.detector.specs.declared.Detector2D.{Detector2D}
 use Rattle.detector.specs.Checks.{maxRes, isSizeOf, isParallelOf, checkGridOf, checkDetectorOf}
 use Rattle.detectors.specs.declared.Detectors.{Detectors}
-use Rattle.detectors.specs.Detectors.{maxDetectors, detectorAt, checkFromOf, checkDetectorsOf}
+use Rattle.detectors.specs.Detectors.{maxDetectors, detectorAt, checkListOf, checkDetectorsOf}
 use Rattle.memory.specs.Memory.{Memory, areLengthsOf}
 use Rattle.step.specs.declared.NonSeqTraceConfig.{NonSeqTraceConfig}
 use Rattle.step.specs.declared.ActiveRay.{ActiveRay}
 use Rattle.report.specs.Report.{#0}
-use Rattle.given_rays.specs.Given.{validMediaOf, checkListsOf, checkRayOf, checkRaysFrom}
-use Rattle.trace.specs.Trace.{Batch, raysOf, checkFlatOf, checkConfigOf, checkCountsOf, checkRulesOf, checkLengthsOf, checkMemoryOf, checkAllOf, checkTraceOf}
+use Rattle.given_rays.specs.Given.{validMediaOf, checkListsOf, checkRayOf, checkRaysOf}
+use Rattle.trace.specs.Trace.{Batch, raysIn, checkFlatOf, checkConfigOf, checkCountsOf, checkRulesOf, checkLengthsOf, checkMemoryOf, checkTraceOf, checkBatch}
 
 -- 1 to 11 and 17
 abbrev pub isEarly : ℕ → Bool
@@ -60,7 +60,7 @@ flat-early B =
 
 config-early : (g : NonSeqTraceConfig) → early (checkConfigOf g) ≡ true
 unfolding checkConfigOf
-config-early g = if-early (finiteOf (g .«min_power_threshold») && le #0 (g .«min_power_threshold»)) _ _ (if-early (leb (g .«max_bounces») 16) _ _ well (bad 2 0 refl)) (bad 1 0 refl)
+config-early g = if-early (isFiniteOf (g .«min_power_threshold») && le #0 (g .«min_power_threshold»)) _ _ (if-early (leb (g .«max_bounces») 16) _ _ well (bad 2 0 refl)) (bad 1 0 refl)
 
 counts-early : (solids rays : ℕ) → early (checkCountsOf solids rays) ≡ true
 unfolding checkCountsOf
@@ -74,8 +74,8 @@ detector-early d place =
     (if-early (leb (d .«res_x») maxRes && leb (d .«res_y») maxRes) _ _ (if-early (isParallelOf (d .normal) (d .up)) _ _ (bad 8 place refl) well) (bad 7 place refl)))
     (bad 5 place refl)
 
-from-early : (l : List Detector2D) (n i : ℕ) → early (checkFromOf l n i) ≡ true
-unfolding checkFromOf
+from-early : (l : List Detector2D) (n i : ℕ) → early (checkListOf l n i) ≡ true
+unfolding checkListOf
 from-early l zero i = well
 from-early l (suc n) i = after-early _ _ (detector-early (detectorAt l i) i) (from-early l n (i + 1))
 
@@ -87,18 +87,18 @@ lengths-early : (ds : Detectors) (nf nh nv nt used : ℕ) → early (checkLength
 unfolding checkLengthsOf
 lengths-early ds nf nh nv nt used = if-early (areLengthsOf ds nf nh nv nt used) _ _ well (bad 9 0 refl)
 
-rays-early : (given : ℕ → ActiveRay) (solids n i : ℕ) → early (checkRaysFrom given solids n i) ≡ true
-unfolding checkRaysFrom checkRayOf
+rays-early : (given : ℕ → ActiveRay) (solids n i : ℕ) → early (checkRaysOf given solids n i) ≡ true
+unfolding checkRaysOf checkRayOf
 rays-early given solids zero i = well
-rays-early given solids (suc n) i = after-early _ _ (if-early (validRayOf (given i .ray)) _ _ (if-early (validMediaOf (given i .media) solids) _ _ well (bad 11 i refl)) (bad 10 i refl)) (rays-early given solids n (i + 1))
+rays-early given solids (suc n) i = after-early _ _ (if-early (isValidRayOf (given i .ray)) _ _ (if-early (validMediaOf (given i .media) solids) _ _ well (bad 11 i refl)) (bad 10 i refl)) (rays-early given solids n (i + 1))
 
-all-early : (B : Batch) (s : Memory) → early (checkTraceOf B s) ≡ true
-unfolding checkTraceOf checkAllOf checkRulesOf checkMemoryOf
+all-early : (B : Batch) (s : Memory) → early (checkBatch B s) ≡ true
+unfolding checkBatch checkTraceOf checkRulesOf checkMemoryOf
 all-early B s =
     after-early _ _ (flat-early B)
     (after-early _ _ (after-early _ _ (config-early (B .config)) (counts-early (B .solids) (B .rays)))
-    (after-early _ _ (after-early _ _ (detectors-early (s .detectors)) (lengths-early (s .detectors) _ _ _ _ _)) (rays-early (raysOf B) (B .solids) (B .rays) 0)))
+    (after-early _ _ (after-early _ _ (detectors-early (s .detectors)) (lengths-early (s .detectors) _ _ _ _ _)) (rays-early (raysIn B) (B .solids) (B .rays) 0)))
 
-pub check-refuses : (B : Batch) (s : Memory) (n place : ℕ) → checkTraceOf B s ≡ refusedAt n place → isEarly n ≡ true
+pub check-refuses : (B : Batch) (s : Memory) (n place : ℕ) → checkBatch B s ≡ refusedAt n place → isEarly n ≡ true
 unfolding early
 check-refuses B s n place e = sym (ap early e) ∙ all-early B s

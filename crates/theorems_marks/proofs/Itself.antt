@@ -10,7 +10,7 @@ use lib.Pow.{pow-pos}
 use lib.Ieee.{Float, nan, inf, fin, up, down, binary64, div, lt, ofBits, round, size, units, nearest}
 use lib.Ieee.Fits.{up-pos, down-pos}
 use lib.Ieee.Positive.{first-pos}
-use Rattle.doubles.specs.Doubles.{finiteOf}
+use Rattle.doubles.specs.Doubles.{isFiniteOf}
 use Rattle.doubles.proofs.Floats.{clash}
 
 self-below : (n : ℕ) → n < suc n
@@ -72,8 +72,8 @@ unfolding div
 by-itself true m e p = rw (ne-eqb m 0 (λ (z : m ≡ 0). none m p z)) (from-whole (m * up e * down e) (some-left m e p) ∙ one-whole (m * up e * down e) (some-left m e p))
 by-itself false m e p = rw (ne-eqb m 0 (λ (z : m ≡ 0). none m p z)) (from-whole (m * up e * down e) (some-left m e p) ∙ one-whole (m * up e * down e) (some-left m e p))
 
-pub above-zero : (x : Float) → finiteOf x ≡ true → lt (ofBits binary64 0) x ≡ true → div binary64 x x ≡ ofBits binary64 0x3ff0000000000000
-unfolding finiteOf lt ofBits
+pub above-zero : (x : Float) → isFiniteOf x ≡ true → lt (ofBits binary64 0) x ≡ true → div binary64 x x ≡ ofBits binary64 0x3ff0000000000000
+unfolding isFiniteOf lt ofBits
 above-zero nan f l = absurd (clash (sym f))
 above-zero (inf s) f l = absurd (clash (sym f))
 above-zero (fin true m e) f l = absurd (clash (sym l))

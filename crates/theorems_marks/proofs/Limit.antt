@@ -9,34 +9,34 @@ use Rattle.detectors.specs.declared.Detectors.{Detectors}
 use Rattle.detector.specs.declared.DetectorHit.{DetectorHit}
 use Rattle.memory.specs.Memory.{Outcome, done}
 use Rattle.step.specs.declared.ActiveRay.{ActiveRay}
-use Rattle.step.specs.Rays.{Scene, Step, dim, spent, ended}
-use Rattle.step.specs.Turn.{turnOf, interactOf}
-use Rattle.report.specs.Report.{moreIf, interacts, reportAfter, startReportOf}
+use Rattle.step.specs.Rays.{Scene, Step, dim, spent, endsOf}
+use Rattle.step.specs.Turn.{takeStepOf, interactOf}
+use Rattle.report.specs.Report.{moreIfOf, isInteractionOf, reportAfterOf, startReportOf}
 use Rattle.run.specs.declared.Progress.{Progress}
 use Rattle.run.specs.declared.stack.Taken.{Taken}
-use Rattle.run.specs.Stack.{takenOf}
-use Rattle.run.specs.Run.{Run, hitIn, refusalIn, stepFrom, stepOn, isLeft, andThen, drive}
-use Rattle.trace.specs.Trace.{Batch, raysOf, sceneIn, allSteps, startOf, runOn}
+use Rattle.run.specs.Stack.{takenFrom}
+use Rattle.run.specs.Run.{Run, hitInOf, refusalInOf, stepFrom, stepOn, isLeft, andThen, drive}
+use Rattle.trace.specs.Trace.{Batch, raysIn, sceneIn, allSteps, startOf, runOn}
 
 -- every step is dim or spent
-only-ends : (S : Scene) (a : ActiveRay) → S .optics .config .«max_bounces» ≡ 0 → (turnOf S a ≡ ended a dim) ⊎ (turnOf S a ≡ ended a spent)
-unfolding turnOf
+only-ends : (S : Scene) (a : ActiveRay) → S .optics .config .«max_bounces» ≡ 0 → (takeStepOf S a ≡ endsOf a dim) ⊎ (takeStepOf S a ≡ endsOf a spent)
+unfolding takeStepOf
 only-ends S a z = go (le (a .ray .energy) (S .optics .config .«min_power_threshold»))
   where
     over : leb (S .optics .config .«max_bounces») (a .«bounce_count») ≡ true
     over = rw z (leb·zero (a .«bounce_count»))
 
     go : (b : Bool)
-        → (cond b (ended a dim) (cond (leb (S .optics .config .«max_bounces») (a .«bounce_count»)) (ended a spent) (interactOf S a)) ≡ ended a dim)
-        ⊎ (cond b (ended a dim) (cond (leb (S .optics .config .«max_bounces») (a .«bounce_count»)) (ended a spent) (interactOf S a)) ≡ ended a spent)
+        → (cond b (endsOf a dim) (cond (leb (S .optics .config .«max_bounces») (a .«bounce_count»)) (endsOf a spent) (interactOf S a)) ≡ endsOf a dim)
+        ⊎ (cond b (endsOf a dim) (cond (leb (S .optics .config .«max_bounces») (a .«bounce_count»)) (endsOf a spent) (interactOf S a)) ≡ endsOf a spent)
     go true = inl refl
     go false = inr (rw over)
 
 module _ {M : Type 0} (put : M → DetectorHit → Outcome M) (S : Scene) (given : ℕ → ActiveRay) where
   -- such a step leaves the memory, and counts nothing
-  settled : (m : M) (p : Progress) (t : Taken) (a : ActiveRay) (s : Step) → (s ≡ ended a dim) ⊎ (s ≡ ended a spent)
+  settled : (m : M) (p : Progress) (t : Taken) (a : ActiveRay) (s : Step) → (s ≡ endsOf a dim) ⊎ (s ≡ endsOf a spent)
       → (stepFrom put S given m p t s .outcome ≡ done m) × (stepFrom put S given m p t s .progress .report .«total_interactions» ≡ p .report .«total_interactions»)
-  unfolding hitIn refusalIn reportAfter moreIf interacts
+  unfolding hitInOf refusalInOf reportAfterOf moreIfOf isInteractionOf
   settled m p t a s (inl e) = (rw e, rw e)
   settled m p t a s (inr e) = (rw e, rw e)
 
@@ -47,13 +47,13 @@ module _ {M : Type 0} (put : M → DetectorHit → Outcome M) (S : Scene) (given
   uncounted z (suc k) m p e = go (uncounted z k m) (isLeft p)
     where
       t : Taken
-      t = takenOf given (p .stack) (p .left)
+      t = takenFrom given (p .stack) (p .left)
 
       next : Run M
-      next = stepFrom put S given m p t (turnOf S (t .ray))
+      next = stepFrom put S given m p t (takeStepOf S (t .ray))
 
       both : (next .outcome ≡ done m) × (next .progress .report .«total_interactions» ≡ p .report .«total_interactions»)
-      both = settled m p t (t .ray) (turnOf S (t .ray)) (only-ends S (t .ray) z)
+      both = settled m p t (t .ray) (takeStepOf S (t .ray)) (only-ends S (t .ray) z)
 
       on : (o : Outcome M) → o ≡ done m → drive put S given k m (next .progress) .progress .report .«total_interactions» ≡ 0
           → andThen (drive put S given k) o (next .progress) .progress .report .«total_interactions» ≡ 0
@@ -68,4 +68,4 @@ module _ {M : Type 0} (put : M → DetectorHit → Outcome M) (S : Scene) (given
 pub uninteracting : {M : Type 0} (put : M → DetectorHit → Outcome M) (ds : Detectors) (B : Batch) (m : M) → B .config .«max_bounces» ≡ 0
     → runOn put ds B m .progress .report .«total_interactions» ≡ 0
 unfolding runOn startOf startReportOf
-uninteracting put ds B m z = uncounted put (sceneIn B ds) (raysOf B) z allSteps m (startOf (raysOf B) (B .rays)) refl
+uninteracting put ds B m z = uncounted put (sceneIn B ds) (raysIn B) z allSteps m (startOf (raysIn B) (B .rays)) refl

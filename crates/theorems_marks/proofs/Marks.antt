@@ -3,23 +3,23 @@ use mathlib.Core.Path.{_≡_, refl, _∙_}
 use mathlib.Core.Logic.{_⊎_, inl, inr}
 use mathlib.Core.Bool.{true, false}
 use lib.Ieee.{Float, binary64, add, sub, mul, div, neg, lt, le, eq, ofBits, toBits}
-use Rattle.doubles.specs.Doubles.{clampOf, maxZeroOf, finiteOf}
+use Rattle.doubles.specs.Doubles.{clampOf, maxZeroOf, isFiniteOf}
 use Rattle.doubles.specs.Root.{sqrtOf}
 use Rattle.error.specs.Refusals.{value}
 use Rattle.rays.specs.declared.vector.Vec3.{Vec3}
 use Rattle.rays.specs.declared.Ray.{Ray}
-use Rattle.rays.specs.Vectors.{dotOf, plusOf, scaleOf, divideOf, normOf, normalizeOf, finiteVecOf}
-use Rattle.rays.specs.Rays.{finiteRayOf}
+use Rattle.rays.specs.Vectors.{dotOf, plusOf, scaleOf, divideOf, normOf, normalizeOf, isFiniteVecOf}
+use Rattle.rays.specs.Rays.{isFiniteRayOf}
 use Rattle.source.specs.Random.{newOf, nextU64Of, nextState, scrambled}
 use Rattle.geometry.proofs.Marks as geometry
 use Rattle.scene.specs.declared.NonSeqHit.{NonSeqHit}
-use Rattle.surface.specs.Fresnel.{leavingOf, cosineOf, radicandOf, reflectedDirectionOf, refractedDirectionOf, amplitudeOf, reflectanceOf, total, both, bothFrom, refractOf, snellFresnelOf, mirroredPowerOf}
+use Rattle.surface.specs.Fresnel.{leavingOf, cosineOf, radicandOf, reflectedDirectionOf, refractedDirectionOf, amplitudeOf, reflectanceOf, total, split, bothOf, refractOf, computeSnellFresnelInteractionOf, mirroredPowerOf}
 use Rattle.detector.proofs.Marks.{m8}
 use Rattle.step.specs.declared.ActiveRay.{ActiveRay}
-use Rattle.step.specs.Rays.{ended, stopped}
+use Rattle.step.specs.Rays.{endsOf, stopped}
 use Rattle.step.specs.Turn.{mirrorOf, nearerOf, firstMetOf}
-use Rattle.report.specs.Report.{absorbing, ledgerAfter, moreIf, surfacing, talliesAfter, reportAfter}
-use Rattle.theorems_marks.specs.Marks.{#0, #-0, #¼, #½, #¾, #1, #3, #5, #+x, #+z, #-z, #000, upward, sideways, facing, sentOf, M1, M2, M6, M7, M9, M10, M11, Marks}
+use Rattle.report.specs.Report.{absorbOf, ledgerAfterOf, moreIfOf, addSurfaceOf, talliesAfterOf, reportAfterOf}
+use Rattle.theorems_marks.specs.Marks.{#0, #-0, #¼, #½, #¾, #1, #3, #5, #+x, #+z, #-z, #000, upward, sideways, facing, sentRay, M1, M2, M6, M7, M9, M10, M11, Marks}
 use Rattle.theorems_marks.proofs.Itself.{below-itself, above-zero}
 use Rattle.theorems_marks.proofs.Sent.{sent}
 use Rattle.theorems_marks.proofs.Limit.{uninteracting}
@@ -47,8 +47,8 @@ unfolding reflectedDirectionOf refractedDirectionOf normalizeOf normOf divideOf 
 straight-directions = (refl, refl)
 
 straight : (r : Ray) (h : NonSeqHit) → r .direction ≡ #+z → h .normal ≡ #-z
-    → snellFresnelOf r h #1 #3 #1 ≡ bothFrom (leavingOf r (h .point) #-z #¼) (leavingOf r (h .point) #+z #¾)
-unfolding snellFresnelOf refractOf
+    → computeSnellFresnelInteractionOf r h #1 #3 #1 ≡ bothOf (leavingOf r (h .point) #-z #¼) (leavingOf r (h .point) #+z #¾)
+unfolding computeSnellFresnelInteractionOf refractOf
 straight r h d n =
     let c = straight-cosine in
     let p = straight-powers in
@@ -56,16 +56,16 @@ straight r h d n =
     rw (d, n, c .0, c .1, c .2, c .3, p .0, p .1, p .2, w .0, w .1)
 
 -- the rays that the closed cases send are finite
-finite-rays : (finiteRayOf (sentOf (upward (neg #5)) #000 #-z #¼) ≡ true) × (finiteRayOf (sentOf (upward (neg #5)) #000 #+z #¾) ≡ true) × (finiteRayOf (sentOf sideways #000 #+x #1) ≡ true)
-unfolding finiteRayOf finiteVecOf finiteOf plusOf scaleOf add mul neg ofBits
+finite-rays : (isFiniteRayOf (sentRay (upward (neg #5)) #000 #-z #¼) ≡ true) × (isFiniteRayOf (sentRay (upward (neg #5)) #000 #+z #¾) ≡ true) × (isFiniteRayOf (sentRay sideways #000 #+x #1) ≡ true)
+unfolding isFiniteRayOf isFiniteVecOf isFiniteOf plusOf scaleOf add mul neg ofBits
 finite-rays = (refl, refl, refl)
 
 pub m6 : M6
 m6 = (anywhere, anywhere (upward (neg #5)) facing refl refl (finite-rays .0) (finite-rays .1))
   where
     anywhere : (r : Ray) (h : NonSeqHit) → r .direction ≡ #+z → h .normal ≡ #-z
-        → finiteRayOf (sentOf r (h .point) #-z #¼) ≡ true → finiteRayOf (sentOf r (h .point) #+z #¾) ≡ true
-        → snellFresnelOf r h #1 #3 #1 ≡ value (both (sentOf r (h .point) #-z #¼) (sentOf r (h .point) #+z #¾))
+        → isFiniteRayOf (sentRay r (h .point) #-z #¼) ≡ true → isFiniteRayOf (sentRay r (h .point) #+z #¾) ≡ true
+        → computeSnellFresnelInteractionOf r h #1 #3 #1 ≡ value (split (sentRay r (h .point) #-z #¼) (sentRay r (h .point) #+z #¾))
     anywhere r h d n f g = straight r h d n ∙ rw (sent r (h .point) #-z #¼ f, sent r (h .point) #+z #¾ g)
 
 -- ---- M7
@@ -75,19 +75,19 @@ unfolding radicandOf maxZeroOf add sub mul neg lt le eq ofBits
 level-radicand c (inl e) = rw e
 level-radicand c (inr e) = rw e
 
-grazing : (r : Ray) (h : NonSeqHit) (n power : Float) → finiteOf n ≡ true → lt #0 n ≡ true
+grazing : (r : Ray) (h : NonSeqHit) (n power : Float) → isFiniteOf n ≡ true → lt #0 n ≡ true
     → (cosineOf (r .direction) (h .normal) ≡ #0) ⊎ (cosineOf (r .direction) (h .normal) ≡ #-0)
     → (d : Vec3) → d ≡ reflectedDirectionOf (r .direction) (h .normal) (cosineOf (r .direction) (h .normal))
-    → finiteRayOf (sentOf r (h .point) d power) ≡ true → snellFresnelOf r h n n power ≡ value (total (sentOf r (h .point) d power))
-unfolding snellFresnelOf
+    → isFiniteRayOf (sentRay r (h .point) d power) ≡ true → computeSnellFresnelInteractionOf r h n n power ≡ value (total (sentRay r (h .point) d power))
+unfolding computeSnellFresnelInteractionOf
 grazing r h n power i l c d e f = rw (above-zero n i l, level-radicand (cosineOf (r .direction) (h .normal)) c, ← e, sent r (h .point) d power f)
 
 side-cosine : (cosineOf #+x #-z ≡ #-0) × (#+x ≡ reflectedDirectionOf #+x #-z (cosineOf #+x #-z))
 unfolding cosineOf clampOf dotOf reflectedDirectionOf normalizeOf normOf divideOf plusOf scaleOf sqrtOf add mul div neg lt ofBits toBits
 side-cosine = (refl, refl)
 
-one-above : (finiteOf #1 ≡ true) × (lt #0 #1 ≡ true)
-unfolding finiteOf lt ofBits
+one-above : (isFiniteOf #1 ≡ true) × (lt #0 #1 ≡ true)
+unfolding isFiniteOf lt ofBits
 one-above = (refl, refl)
 
 pub m7 : M7
@@ -102,7 +102,7 @@ m9 s h e = rw (e, below-itself (h .t))
 pub m10 : M10
 m10 M put ds B m z = uninteracting put ds B m z
 
-left-half : (a : ActiveRay) (h : NonSeqHit) → a .ray .energy ≡ #1 → mirrorOf #½ a h #½ ≡ ended a (stopped #½)
+left-half : (a : ActiveRay) (h : NonSeqHit) → a .ray .energy ≡ #1 → mirrorOf #½ a h #½ ≡ endsOf a (stopped #½)
 unfolding mirrorOf mirroredPowerOf clampOf sub mul lt ofBits
 left-half a h e = rw e
 
@@ -111,7 +111,7 @@ unfolding add ofBits
 half = refl
 
 pub m11 : M11
-unfolding reportAfter ledgerAfter absorbing talliesAfter surfacing moreIf
+unfolding reportAfterOf ledgerAfterOf absorbOf talliesAfterOf addSurfaceOf moreIfOf
 m11 a h r e z =
     let s = left-half a h e in
     (rw s, rw s, rw s, rw (s, z) half, rw s, rw s)

@@ -8,11 +8,11 @@ use borrow.Author.Tests.{eqb-false}
 use Rattle.doubles.proofs.Floats.{clash}
 use Rattle.error.specs.Refusals.{refusedAt}
 use Rattle.detector.specs.declared.DetectorHit.{DetectorHit}
-use Rattle.memory.specs.Memory.{Memory, holdsOf}
+use Rattle.memory.specs.Memory.{Memory, hasPixel}
 use Rattle.step.specs.declared.ActiveRay.{ActiveRay}
 use Rattle.step.specs.Rays.{Scene, caught}
-use Rattle.step.specs.Turn.{turnOf}
-use Rattle.trace.specs.Trace.{Batch, sceneIn, checkTraceOf}
+use Rattle.step.specs.Turn.{takeStepOf}
+use Rattle.trace.specs.Trace.{Batch, sceneIn, checkBatch}
 use Rattle.theorems_marks.specs.Refused.{StepRefused, Reached, RunRefused, ListFull, CountFull, BadWavelength, BadMedium, BadRay, Only, Refusals}
 use Rattle.theorems_marks.proofs.Early.{isEarly, check-refuses}
 use Rattle.theorems_marks.proofs.Refused.{trace-refuses}
@@ -24,7 +24,7 @@ differ a b e f = absurd (eqb-false a b e f)
 
 module _ (t : Memory) (S : Scene) (a : ActiveRay) where
   -- the memory lacks the hit's place: no tracing that passed its checks meets this
-  pub at-9 : StepRefused t S a 9 → (h : DetectorHit) × ((turnOf S a .end ≡ caught h) × (holdsOf t h ≡ false))
+  pub at-9 : StepRefused t S a 9 → (h : DetectorHit) × ((takeStepOf S a .end ≡ caught h) × (hasPixel t h ≡ false))
   at-9 (inl (h, (e, inl (n, k)))) = (h, (e, k))
   at-9 (inl (h, (e, inr (inl (n, k))))) = differ 9 12 refl n
   at-9 (inl (h, (e, inr (inr (n, k))))) = differ 9 13 refl n
@@ -96,7 +96,7 @@ only : (B : Batch) (s : Memory) (n : ℕ) (C : Memory → Scene → ActiveRay �
     → ((t : Memory) (a : ActiveRay) → StepRefused t (sceneIn B (s .detectors)) a n → C t (sceneIn B (s .detectors)) a) → Only B s n C
 only B s n C late w place t x = go (trace-refuses B s n place t x)
   where
-    go : (checkTraceOf B s ≡ refusedAt n place) ⊎ RunRefused B s n place t → Reached B s place t (C t (sceneIn B (s .detectors)))
+    go : (checkBatch B s ≡ refusedAt n place) ⊎ RunRefused B s n place t → Reached B s place t (C t (sceneIn B (s .detectors)))
     go (inl e) = absurd (clash (sym (check-refuses B s n place e) ∙ late))
     go (inr (j, (p, (r, (l, (at, c)))))) = (j, (p, (r, (l, (at, w t _ c)))))
 

@@ -8,31 +8,31 @@ use lib.Ieee.{Float, binary64, sub, mul, div, lt, le}
 use lib.ListN.{getD}
 use borrow.Author.Tests.{leb-true, eqb-true}
 use Rattle.doubles.proofs.Floats.{clash}
-use Rattle.doubles.specs.Doubles.{finiteOf}
+use Rattle.doubles.specs.Doubles.{isFiniteOf}
 use Rattle.doubles.specs.Root.{sqrtOf}
 use Rattle.error.specs.Refusals.{Answer, value, refusal, Checked, passed, refusedAt}
 use Rattle.rays.specs.declared.vector.Vec3.{Vec3}
 use Rattle.rays.specs.declared.Ray.{Ray}
-use Rattle.rays.specs.Rays.{finiteRayOf}
+use Rattle.rays.specs.Rays.{isFiniteRayOf}
 use Rattle.material.specs.declared.OpticalMedium.{OpticalMedium}
 use Rattle.material.specs.declared.OpticalMedium.the-variants.{Air, Constant, Sellmeier1, Schott}
 use Rattle.material.specs.declared.SurfaceFinish.{SurfaceFinish}
 use Rattle.material.specs.declared.SurfaceFinish.the-variants.{Specular, Mirror, Absorber}
 use Rattle.material.specs.Media.{squareUmOf, sellmeierOf, schottOf, constantOf, rootOfSquareOf, indexAtOf, refractiveIndexOf}
 use Rattle.scene.specs.declared.NonSeqHit.{NonSeqHit}
-use Rattle.surface.specs.Fresnel.{leavingOf, radicandOf, reflectedDirectionOf, refractedDirectionOf, Parted, total, both, totalFrom, bothFrom, refractOf, snellFresnelOf, mirroredPowerOf, mirroredOf}
+use Rattle.surface.specs.Fresnel.{leavingOf, radicandOf, reflectedDirectionOf, refractedDirectionOf, FresnelInteraction, total, split, totalOf, bothOf, refractOf, computeSnellFresnelInteractionOf, mirroredPowerOf, mirroredOf}
 use Rattle.media.specs.declared.Media.{Media}
 use Rattle.detector.specs.declared.DetectorHit.{DetectorHit}
-use Rattle.memory.specs.Memory.{Memory, Outcome, done, refused, leftOf, judged, recordAt, recordHit, holdsOf, capacityOf, cellOf, detectorOf, maxCount, writtenAt}
+use Rattle.memory.specs.Memory.{Memory, Outcome, done, refused, memoryLeft, judged, putOf, recordOf, hasPixel, capacity, cellIn, hitDetector, maxCount, writtenAt}
 use Rattle.step.specs.declared.ActiveRay.{ActiveRay}
-use Rattle.step.specs.Rays.{Optics, Scene, End, dim, spent, gone, caught, stopped, parted, refusing, ended}
-use Rattle.step.specs.Turn.{Met, detector, solid, nothing, indexIn, beyondOf, partedOf, partedFrom, clearBetween, clearOf, mirrorFrom, mirrorOf, surfaceBy, surfaceOf, caughtBy, meetsOf, interactOf, turnOf}
+use Rattle.step.specs.Rays.{Optics, Scene, End, dim, spent, gone, caught, stopped, parted, refusing, endsOf}
+use Rattle.step.specs.Turn.{Met, detector, solid, nothing, indexInOf, beyondOf, partedBy, partedOf, betweenOf, clearOf, mirrorFromOf, mirrorOf, surfaceBy, surfaceOf, caughtByOf, meetsWith, interactOf, takeStepOf}
 use Rattle.report.specs.declared.NonSeqTraceReport.{NonSeqTraceReport}
 use Rattle.run.specs.declared.Progress.{Progress}
-use Rattle.run.specs.Stack.{takenOf}
-use Rattle.run.specs.Run.{Run, hitIn, refusalIn, putFrom, settleWith, isLeft, andThen, stepOn, drive}
-use Rattle.trace.specs.Trace.{Batch, raysOf, sceneIn, allSteps, startOf, runOn, checkTraceOf, traceAfter, traceRaysOf}
-use Rattle.theorems_marks.specs.Marks.{#0, #1, sentOf}
+use Rattle.run.specs.Stack.{takenFrom}
+use Rattle.run.specs.Run.{Run, hitInOf, refusalInOf, putFrom, settleWith, isLeft, andThen, stepOn, drive}
+use Rattle.trace.specs.Trace.{Batch, raysIn, sceneIn, allSteps, startOf, runOn, checkBatch, traceAfter, traceRaysOf}
+use Rattle.theorems_marks.specs.Marks.{#0, #1, sentRay}
 use Rattle.theorems_marks.specs.Refused.{BadSquare, BadIndex, IndexRefused, cosineAt, rootAt, shareAt, mirroredRay, ClearRefused, HitRefused, metBy, SurfaceRefused, TurnRefused, StepRefused, Refusing, RunRefused}
 use Rattle.theorems_marks.proofs.Sent.{leaving-is}
 
@@ -81,13 +81,13 @@ module _ {M : Type 0} (put : M → DetectorHit → Outcome M) (S : Scene) (given
 
 -- ---- a hit
 
-pub record-refuses : (s : Memory) (h : DetectorHit) (n place : ℕ) (t : Memory) → recordHit s h ≡ refused n place t → HitRefused s h n
-unfolding recordHit recordAt judged
+pub record-refuses : (s : Memory) (h : DetectorHit) (n place : ℕ) (t : Memory) → recordOf s h ≡ refused n place t → HitRefused s h n
+unfolding recordOf putOf judged
 record-refuses s h n place t x =
-    go (holdsOf s h) (leb (capacityOf s) (s .used)) (eqb (getD (s .hits) (cellOf (s .detectors .list) h) 0) maxCount) (eqb (detectorOf s h .«total_rays_hit») maxCount) refl refl refl refl x
+    go (hasPixel s h) (leb (capacity s) (s .used)) (eqb (getD (s .hits) (cellIn (s .detectors .list) h) 0) maxCount) (eqb (hitDetector s h .«total_rays_hit») maxCount) refl refl refl refl x
   where
-    go : (a b c d : Bool) → holdsOf s h ≡ a → leb (capacityOf s) (s .used) ≡ b → eqb (getD (s .hits) (cellOf (s .detectors .list) h) 0) maxCount ≡ c → eqb (detectorOf s h .«total_rays_hit») maxCount ≡ d
-        → cond a (cond b (refused 12 0 s) (cond (c || d) (refused 13 0 s) (done (writtenAt s (cellOf (s .detectors .list) h) h)))) (refused 9 0 s) ≡ refused n place t → HitRefused s h n
+    go : (a b c d : Bool) → hasPixel s h ≡ a → leb (capacity s) (s .used) ≡ b → eqb (getD (s .hits) (cellIn (s .detectors .list) h) 0) maxCount ≡ c → eqb (hitDetector s h .«total_rays_hit») maxCount ≡ d
+        → cond a (cond b (refused 12 0 s) (cond (c || d) (refused 13 0 s) (done (writtenAt s (cellIn (s .detectors .list) h) h)))) (refused 9 0 s) ≡ refused n place t → HitRefused s h n
     go false b c d ea eb ec ed x = inl (sym (ap numberIn x), ea)
     go true true c d ea eb ec ed x = inr (inl (sym (ap numberIn x), leb-true _ _ eb))
     go true false true d ea eb ec ed x = inr (inr (sym (ap numberIn x), inl (eqb-true _ _ ec)))
@@ -110,20 +110,20 @@ value-refusal e = clash (ap isValue e)
 same-number : {A : Type 0} (k n : ℕ) → _≡_ {A = Answer A} (refusal k) (refusal n) → n ≡ k
 same-number k n x = sym (ap answerNumber x)
 
-constant-refuses : (k : Float) (n : ℕ) → constantOf k ≡ refusal n → (n ≡ 15) × ((lt k #1 ≡ true) ⊎ (finiteOf k ≡ false))
+constant-refuses : (k : Float) (n : ℕ) → constantOf k ≡ refusal n → (n ≡ 15) × ((lt k #1 ≡ true) ⊎ (isFiniteOf k ≡ false))
 unfolding constantOf
-constant-refuses k n x = go (lt k #1) (finiteOf k) refl refl x
+constant-refuses k n x = go (lt k #1) (isFiniteOf k) refl refl x
   where
-    go : (a b : Bool) → lt k #1 ≡ a → finiteOf k ≡ b → cond a (refusal 15) (cond b (value k) (refusal 15)) ≡ refusal n → (n ≡ 15) × ((lt k #1 ≡ true) ⊎ (finiteOf k ≡ false))
+    go : (a b : Bool) → lt k #1 ≡ a → isFiniteOf k ≡ b → cond a (refusal 15) (cond b (value k) (refusal 15)) ≡ refusal n → (n ≡ 15) × ((lt k #1 ≡ true) ⊎ (isFiniteOf k ≡ false))
     go true b e f x = (same-number 15 n x, inl e)
     go false true e f x = absurd (value-refusal x)
     go false false e f x = (same-number 15 n x, inr f)
 
 square-refuses : (k : Float) (n : ℕ) → rootOfSquareOf k ≡ refusal n → (n ≡ 15) × BadSquare k
 unfolding rootOfSquareOf
-square-refuses k n x = go (le k #0) (finiteOf k) refl refl x
+square-refuses k n x = go (le k #0) (isFiniteOf k) refl refl x
   where
-    go : (a b : Bool) → le k #0 ≡ a → finiteOf k ≡ b → cond a (refusal 15) (cond b (value (sqrtOf k)) (refusal 15)) ≡ refusal n → (n ≡ 15) × BadSquare k
+    go : (a b : Bool) → le k #0 ≡ a → isFiniteOf k ≡ b → cond a (refusal 15) (cond b (value (sqrtOf k)) (refusal 15)) ≡ refusal n → (n ≡ 15) × BadSquare k
     go true b e f x = (same-number 15 n x, inl e)
     go false true e f x = absurd (value-refusal x)
     go false false e f x = (same-number 15 n x, inr f)
@@ -137,31 +137,31 @@ index-at-refuses (Schott a0 a1 a2 a3 a4 a5) w n x = square-refuses (schottOf (sq
 
 pub index-refuses : (m : OpticalMedium) (w : Float) (n : ℕ) → refractiveIndexOf m w ≡ refusal n → IndexRefused m w n
 unfolding refractiveIndexOf
-index-refuses m w n x = go (le w #0) (finiteOf w) refl refl x
+index-refuses m w n x = go (le w #0) (isFiniteOf w) refl refl x
   where
-    go : (a b : Bool) → le w #0 ≡ a → finiteOf w ≡ b → cond a (refusal 14) (cond b (indexAtOf m w) (refusal 14)) ≡ refusal n → IndexRefused m w n
+    go : (a b : Bool) → le w #0 ≡ a → isFiniteOf w ≡ b → cond a (refusal 14) (cond b (indexAtOf m w) (refusal 14)) ≡ refusal n → IndexRefused m w n
     go true b e f x = inl (same-number 14 n x, inl e)
     go false true e f x = inr (index-at-refuses m w n x)
     go false false e f x = inl (same-number 14 n x, inr f)
 
-leaving-refuses : (r : Ray) (p d : Vec3) (power : Float) (n : ℕ) → leavingOf r p d power ≡ refusal n → (n ≡ 16) × (finiteRayOf (sentOf r p d power) ≡ false)
-leaving-refuses r p d power n x = go (finiteRayOf (sentOf r p d power)) refl (sym (leaving-is r p d power) ∙ x)
+leaving-refuses : (r : Ray) (p d : Vec3) (power : Float) (n : ℕ) → leavingOf r p d power ≡ refusal n → (n ≡ 16) × (isFiniteRayOf (sentRay r p d power) ≡ false)
+leaving-refuses r p d power n x = go (isFiniteRayOf (sentRay r p d power)) refl (sym (leaving-is r p d power) ∙ x)
   where
-    go : (b : Bool) → finiteRayOf (sentOf r p d power) ≡ b → cond b (value (sentOf r p d power)) (refusal 16) ≡ refusal n → (n ≡ 16) × (finiteRayOf (sentOf r p d power) ≡ false)
+    go : (b : Bool) → isFiniteRayOf (sentRay r p d power) ≡ b → cond b (value (sentRay r p d power)) (refusal 16) ≡ refusal n → (n ≡ 16) × (isFiniteRayOf (sentRay r p d power) ≡ false)
     go true e x = absurd (value-refusal x)
     go false e x = (same-number 16 n x, e)
 
-total-refuses : (x : Answer Ray) (n : ℕ) → totalFrom x ≡ refusal n → x ≡ refusal n
+total-refuses : (x : Answer Ray) (n : ℕ) → totalOf x ≡ refusal n → x ≡ refusal n
 total-refuses (value r) n e = absurd (value-refusal e)
 total-refuses (refusal k) n e = ap refusal (sym (same-number k n e))
 
-both-refuses : (x y : Answer Ray) (n : ℕ) → bothFrom x y ≡ refusal n → (x ≡ refusal n) ⊎ (y ≡ refusal n)
+both-refuses : (x y : Answer Ray) (n : ℕ) → bothOf x y ≡ refusal n → (x ≡ refusal n) ⊎ (y ≡ refusal n)
 both-refuses (value r) (value t) n e = absurd (value-refusal e)
 both-refuses (value r) (refusal k) n e = inr (ap refusal (sym (same-number k n e)))
 both-refuses (refusal k) y n e = inl (ap refusal (sym (same-number k n e)))
 
-pub snell-refuses : (r : Ray) (h : NonSeqHit) (n1 n2 power : Float) (n : ℕ) → snellFresnelOf r h n1 n2 power ≡ refusal n → (n ≡ 16) × ClearRefused r h n1 n2 power
-unfolding snellFresnelOf refractOf
+pub snell-refuses : (r : Ray) (h : NonSeqHit) (n1 n2 power : Float) (n : ℕ) → computeSnellFresnelInteractionOf r h n1 n2 power ≡ refusal n → (n ≡ 16) × ClearRefused r h n1 n2 power
+unfolding computeSnellFresnelInteractionOf refractOf
 snell-refuses r h n1 n2 power n x = go (le (radicandOf (div binary64 n1 n2) (cosineAt r h)) #0) refl x
   where
     one : Answer Ray
@@ -177,11 +177,11 @@ snell-refuses r h n1 n2 power n x = go (le (radicandOf (div binary64 n1 n2) (cos
     two e (inl x) = let l = leaving-refuses _ _ _ _ n x in (l .0, inr (e, inl (l .1)))
     two e (inr x) = let l = leaving-refuses _ _ _ _ n x in (l .0, inr (e, inr (l .1)))
 
-    go : (b : Bool) → le (radicandOf (div binary64 n1 n2) (cosineAt r h)) #0 ≡ b → cond b (totalFrom one) (bothFrom first second) ≡ refusal n → (n ≡ 16) × ClearRefused r h n1 n2 power
+    go : (b : Bool) → le (radicandOf (div binary64 n1 n2) (cosineAt r h)) #0 ≡ b → cond b (totalOf one) (bothOf first second) ≡ refusal n → (n ≡ 16) × ClearRefused r h n1 n2 power
     go true e x = let l = leaving-refuses _ _ _ _ n (total-refuses one n x) in (l .0, inl (e, l .1))
     go false e x = two e (both-refuses first second n x)
 
-pub mirror-refuses : (r : Ray) (h : NonSeqHit) (power : Float) (n : ℕ) → mirroredOf r h power ≡ refusal n → (n ≡ 16) × (finiteRayOf (mirroredRay r h power) ≡ false)
+pub mirror-refuses : (r : Ray) (h : NonSeqHit) (power : Float) (n : ℕ) → mirroredOf r h power ≡ refusal n → (n ≡ 16) × (isFiniteRayOf (mirroredRay r h power) ≡ false)
 unfolding mirroredOf
 mirror-refuses r h power n x = leaving-refuses r (h .point) _ power n x
 
@@ -210,15 +210,15 @@ other : {n : ℕ} (e : End) → isRefusing e ≡ false → e ≡ refusing n → 
 other e f x = clash (sym (ap isRefusing x) ∙ f)
 
 -- the end of a parting is no refusal
-parted-ends : (threshold : Float) (a : ActiveRay) (m : Media) (p : Parted) → isRefusing (partedOf threshold a m p .end) ≡ false
-unfolding partedOf
+parted-ends : (threshold : Float) (a : ActiveRay) (m : Media) (p : FresnelInteraction) → isRefusing (partedBy threshold a m p .end) ≡ false
+unfolding partedBy
 parted-ends threshold a m (total r) = refl
-parted-ends threshold a m (both r t) = refl
+parted-ends threshold a m (split r t) = refl
 
 module _ (O : Optics) (a : ActiveRay) (h : NonSeqHit) (n : ℕ) where
   clear-refuses : O .finish (h .«object_id») ≡ Specular → clearOf O a h .end ≡ refusing n → SurfaceRefused O a h n
-  unfolding clearOf clearBetween partedFrom indexIn
-  clear-refuses s x = go (indexIn O (a .media) w) (indexIn O (beyondOf (a .media) h) w) refl refl x
+  unfolding clearOf betweenOf partedOf indexInOf
+  clear-refuses s x = go (indexInOf O (a .media) w) (indexInOf O (beyondOf (a .media) h) w) refl refl x
     where
       w : Float
       w = a .ray .«wavelength_nm»
@@ -226,20 +226,20 @@ module _ (O : Optics) (a : ActiveRay) (h : NonSeqHit) (n : ℕ) where
       threshold : Float
       threshold = O .config .«min_power_threshold»
 
-      sends : (n1 n2 : Float) → indexIn O (a .media) w ≡ value n1 → indexIn O (beyondOf (a .media) h) w ≡ value n2 → (p : Answer Parted) → snellFresnelOf (a .ray) h n1 n2 (a .ray .energy) ≡ p
-          → partedFrom threshold a (beyondOf (a .media) h) p .end ≡ refusing n → SurfaceRefused O a h n
-      sends n1 n2 e f (value p) g x = absurd (other (partedOf threshold a (beyondOf (a .media) h) p .end) (parted-ends threshold a (beyondOf (a .media) h) p) x)
+      sends : (n1 n2 : Float) → indexInOf O (a .media) w ≡ value n1 → indexInOf O (beyondOf (a .media) h) w ≡ value n2 → (p : Answer FresnelInteraction) → computeSnellFresnelInteractionOf (a .ray) h n1 n2 (a .ray .energy) ≡ p
+          → partedOf threshold a (beyondOf (a .media) h) p .end ≡ refusing n → SurfaceRefused O a h n
+      sends n1 n2 e f (value p) g x = absurd (other (partedBy threshold a (beyondOf (a .media) h) p .end) (parted-ends threshold a (beyondOf (a .media) h) p) x)
       sends n1 n2 e f (refusal k) g x =
           let l = snell-refuses (a .ray) h n1 n2 (a .ray .energy) n (g ∙ ap refusal (ap refusalOf x)) in
           inl (s, inr (inr (l .0, (n1, (n2, (e, (f, l .1)))))))
 
-      go : (i j : Answer Float) → indexIn O (a .media) w ≡ i → indexIn O (beyondOf (a .media) h) w ≡ j → clearBetween threshold a h (beyondOf (a .media) h) i j .end ≡ refusing n → SurfaceRefused O a h n
-      go (value n1) (value n2) e f x = sends n1 n2 e f (snellFresnelOf (a .ray) h n1 n2 (a .ray .energy)) refl x
+      go : (i j : Answer Float) → indexInOf O (a .media) w ≡ i → indexInOf O (beyondOf (a .media) h) w ≡ j → betweenOf threshold a h (beyondOf (a .media) h) i j .end ≡ refusing n → SurfaceRefused O a h n
+      go (value n1) (value n2) e f x = sends n1 n2 e f (computeSnellFresnelInteractionOf (a .ray) h n1 n2 (a .ray .energy)) refl x
       go (value n1) (refusal k) e f x = inl (s, inr (inl (index-refuses _ w n (f ∙ ap refusal (ap refusalOf x)))))
       go (refusal k) j e f x = inl (s, inl (index-refuses _ w n (e ∙ ap refusal (ap refusalOf x))))
 
   mirror-turn : (rho : Float) → O .finish (h .«object_id») ≡ Mirror rho → mirrorOf (O .config .«min_power_threshold») a h rho .end ≡ refusing n → SurfaceRefused O a h n
-  unfolding mirrorOf mirrorFrom
+  unfolding mirrorOf mirrorFromOf
   mirror-turn rho s x = go (lt (O .config .«min_power_threshold») power) x
     where
       power : Float
@@ -248,13 +248,13 @@ module _ (O : Optics) (a : ActiveRay) (h : NonSeqHit) (n : ℕ) where
       left : Float
       left = sub binary64 (a .ray .energy) power
 
-      sends : (r : Answer Ray) → mirroredOf (a .ray) h power ≡ r → mirrorFrom a left r .end ≡ refusing n → SurfaceRefused O a h n
+      sends : (r : Answer Ray) → mirroredOf (a .ray) h power ≡ r → mirrorFromOf a left r .end ≡ refusing n → SurfaceRefused O a h n
       sends (value r) g x = absurd (other (stopped left) refl x)
       sends (refusal k) g x =
           let l = mirror-refuses (a .ray) h power n (g ∙ ap refusal (ap refusalOf x)) in
           inr (l .0, (rho, (s, l .1)))
 
-      go : (b : Bool) → cond b (mirrorFrom a left (mirroredOf (a .ray) h power)) (ended a (stopped left)) .end ≡ refusing n → SurfaceRefused O a h n
+      go : (b : Bool) → cond b (mirrorFromOf a left (mirroredOf (a .ray) h power)) (endsOf a (stopped left)) .end ≡ refusing n → SurfaceRefused O a h n
       go true x = sends (mirroredOf (a .ray) h power) refl x
       go false x = absurd (other (stopped left) refl x)
 
@@ -267,16 +267,16 @@ module _ (O : Optics) (a : ActiveRay) (h : NonSeqHit) (n : ℕ) where
       go (Mirror rho) e x = mirror-turn rho e x
       go Absorber e x = absurd (other (stopped (a .ray .energy)) refl x)
 
-pub turn-refuses : (S : Scene) (a : ActiveRay) (n : ℕ) → turnOf S a .end ≡ refusing n → TurnRefused S a n
-unfolding turnOf interactOf meetsOf
+pub turn-refuses : (S : Scene) (a : ActiveRay) (n : ℕ) → takeStepOf S a .end ≡ refusing n → TurnRefused S a n
+unfolding takeStepOf interactOf meetsWith
 turn-refuses S a n x = go (le (a .ray .energy) (S .optics .config .«min_power_threshold»)) (leb (S .optics .config .«max_bounces») (a .«bounce_count»)) x
   where
-    meets : (m : Met) → metBy S a ≡ m → meetsOf S a m .end ≡ refusing n → TurnRefused S a n
-    meets (detector s) e x = absurd (other (caught (caughtBy a s)) refl x)
+    meets : (m : Met) → metBy S a ≡ m → meetsWith S a m .end ≡ refusing n → TurnRefused S a n
+    meets (detector s) e x = absurd (other (caught (caughtByOf a s)) refl x)
     meets (solid h) e x = (h, (e, surface-refuses (S .optics) a h n x))
     meets nothing e x = absurd (other gone refl x)
 
-    go : (b c : Bool) → cond b (ended a dim) (cond c (ended a spent) (interactOf S a)) .end ≡ refusing n → TurnRefused S a n
+    go : (b c : Bool) → cond b (endsOf a dim) (cond c (endsOf a spent) (interactOf S a)) .end ≡ refusing n → TurnRefused S a n
     go true c x = absurd (other dim refl x)
     go false true x = absurd (other spent refl x)
     go false false x = meets (metBy S a) refl x
@@ -284,15 +284,15 @@ turn-refuses S a n x = go (le (a .ray .energy) (S .optics .config .«min_power_t
 -- ---- a step
 
 -- a refused hit leaves the memory as it was
-pub record-leaves : (s : Memory) (h : DetectorHit) (n place : ℕ) (t : Memory) → recordHit s h ≡ refused n place t → s ≡ t
-unfolding recordHit recordAt judged
+pub record-leaves : (s : Memory) (h : DetectorHit) (n place : ℕ) (t : Memory) → recordOf s h ≡ refused n place t → s ≡ t
+unfolding recordOf putOf judged
 record-leaves s h n place t x =
-    go (holdsOf s h) (leb (capacityOf s) (s .used)) (eqb (getD (s .hits) (cellOf (s .detectors .list) h) 0) maxCount || eqb (detectorOf s h .«total_rays_hit») maxCount) x
+    go (hasPixel s h) (leb (capacity s) (s .used)) (eqb (getD (s .hits) (cellIn (s .detectors .list) h) 0) maxCount || eqb (hitDetector s h .«total_rays_hit») maxCount) x
   where
-    go : (a b c : Bool) → cond a (cond b (refused 12 0 s) (cond c (refused 13 0 s) (done (writtenAt s (cellOf (s .detectors .list) h) h)))) (refused 9 0 s) ≡ refused n place t → s ≡ t
-    go false b c x = ap leftOf x
-    go true true c x = ap leftOf x
-    go true false true x = ap leftOf x
+    go : (a b c : Bool) → cond a (cond b (refused 12 0 s) (cond c (refused 13 0 s) (done (writtenAt s (cellIn (s .detectors .list) h) h)))) (refused 9 0 s) ≡ refused n place t → s ≡ t
+    go false b c x = ap memoryLeft x
+    go true true c x = ap memoryLeft x
+    go true false true x = ap memoryLeft x
     go true false false x = absurd (done-refused x)
 
 module _ {M : Type 0} (put : M → DetectorHit → Outcome M) where
@@ -301,28 +301,28 @@ module _ {M : Type 0} (put : M → DetectorHit → Outcome M) where
   Settling m e n s = ((h : DetectorHit) × ((e ≡ caught h) × ((at : ℕ) × (put m h ≡ refused n at s)))) ⊎ ((e ≡ refusing n) × (m ≡ s))
 
   pub settle-refuses : (m : M) (at : ℕ) (found after : NonSeqTraceReport) (e : End) (n place : ℕ) (s : M)
-      → settleWith put m at found after (refusalIn e at) (hitIn e) .outcome ≡ refused n place s → (place ≡ at) × Settling m e n s
-  unfolding refusalIn hitIn
+      → settleWith put m at found after (refusalInOf e at) (hitInOf e) .outcome ≡ refused n place s → (place ≡ at) × Settling m e n s
+  unfolding refusalInOf hitInOf
   settle-refuses m at found after dim n place s x = absurd (done-refused x)
   settle-refuses m at found after spent n place s x = absurd (done-refused x)
   settle-refuses m at found after gone n place s x = absurd (done-refused x)
   settle-refuses m at found after (stopped p) n place s x = absurd (done-refused x)
   settle-refuses m at found after (parted r t all) n place s x = absurd (done-refused x)
-  settle-refuses m at found after (refusing k) n place s x = (sym (ap placeIn x), inr (ap refusing (ap numberIn x), ap leftOf x))
+  settle-refuses m at found after (refusing k) n place s x = (sym (ap placeIn x), inr (ap refusing (ap numberIn x), ap memoryLeft x))
   settle-refuses m at found after (caught h) n place s x = go (put m h) refl x
     where
       go : (o : Outcome M) → put m h ≡ o → putFrom at found after o .outcome ≡ refused n place s → (place ≡ at) × Settling m (caught h) n s
       go (done m₁) e x = absurd (done-refused x)
-      go (refused k a m₁) e x = (sym (ap placeIn x), inl (h, (refl, (a, rw (ap numberIn x, ap leftOf x) at e))))
+      go (refused k a m₁) e x = (sym (ap placeIn x), inl (h, (refl, (a, rw (ap numberIn x, ap memoryLeft x) at e))))
 
   pub step-refuses : (S : Scene) (given : ℕ → ActiveRay) (m : M) (p : Progress) (n place : ℕ) (s : M) → stepOn put S given m p .outcome ≡ refused n place s
-      → (place ≡ takenOf given (p .stack) (p .left) .left) × Settling m (turnOf S (takenOf given (p .stack) (p .left) .ray) .end) n s
+      → (place ≡ takenFrom given (p .stack) (p .left) .left) × Settling m (takeStepOf S (takenFrom given (p .stack) (p .left) .ray) .end) n s
   unfolding stepOn
   step-refuses S given m p n place s x = settle-refuses m _ _ _ _ n place s x
 
 -- ---- all of it: a run into the lent memory
 
-why : (S : Scene) (a : ActiveRay) (m : Memory) (n : ℕ) (t : Memory) → Settling recordHit m (turnOf S a .end) n t → (m ≡ t) × StepRefused t S a n
+why : (S : Scene) (a : ActiveRay) (m : Memory) (n : ℕ) (t : Memory) → Settling recordOf m (takeStepOf S a .end) n t → (m ≡ t) × StepRefused t S a n
 why S a m n t (inl (h, (e, (at, x)))) =
     let l = record-leaves m h n at t x in
     (l, inl (h, (e, subst (λ (s : Memory). HitRefused s h n) l (record-refuses m h n at t x))))
@@ -331,19 +331,19 @@ why S a m n t (inr (e, l)) = (l, inr (turn-refuses S a n e))
 left-is : (m t : Memory) (p : Progress) → m ≡ t → _≡_ {A = Run Memory} (record { outcome = done m; progress = p }) (record { outcome = done t; progress = p })
 left-is m t p e = rw e
 
-pub run-refuses : (B : Batch) (s : Memory) (n place : ℕ) (t : Memory) → runOn recordHit (s .detectors) B s .outcome ≡ refused n place t → RunRefused B s n place t
+pub run-refuses : (B : Batch) (s : Memory) (n place : ℕ) (t : Memory) → runOn recordOf (s .detectors) B s .outcome ≡ refused n place t → RunRefused B s n place t
 unfolding runOn
 run-refuses B s n place t x =
-    let (j, (m, (p, (r, (l, (y, w)))))) = refused-step recordHit (sceneIn B (s .detectors)) (raysOf B) allSteps s (startOf (raysOf B) (B .rays)) n place t x in
-    let (at, z) = step-refuses recordHit (sceneIn B (s .detectors)) (raysOf B) m p n place t y in
-    let (e, c) = why (sceneIn B (s .detectors)) (takenOf (raysOf B) (p .stack) (p .left) .ray) m n t z in
+    let (j, (m, (p, (r, (l, (y, w)))))) = refused-step recordOf (sceneIn B (s .detectors)) (raysIn B) allSteps s (startOf (raysIn B) (B .rays)) n place t x in
+    let (at, z) = step-refuses recordOf (sceneIn B (s .detectors)) (raysIn B) m p n place t y in
+    let (e, c) = why (sceneIn B (s .detectors)) (takenFrom (raysIn B) (p .stack) (p .left) .ray) m n t z in
     (j, (p, (r ∙ left-is m t p e, (l, (at, c)))))
 
 -- a tracing is refused by a check before the run, or so
-pub trace-refuses : (B : Batch) (s : Memory) (n place : ℕ) (t : Memory) → traceRaysOf B s .outcome ≡ refused n place t → (checkTraceOf B s ≡ refusedAt n place) ⊎ RunRefused B s n place t
+pub trace-refuses : (B : Batch) (s : Memory) (n place : ℕ) (t : Memory) → traceRaysOf B s .outcome ≡ refused n place t → (checkBatch B s ≡ refusedAt n place) ⊎ RunRefused B s n place t
 unfolding traceRaysOf
-trace-refuses B s n place t x = go (checkTraceOf B s) refl x
+trace-refuses B s n place t x = go (checkBatch B s) refl x
   where
-    go : (c : Checked Unit) → checkTraceOf B s ≡ c → traceAfter c s (runOn recordHit (s .detectors) B s) .outcome ≡ refused n place t → (checkTraceOf B s ≡ refusedAt n place) ⊎ RunRefused B s n place t
+    go : (c : Checked Unit) → checkBatch B s ≡ c → traceAfter c s (runOn recordOf (s .detectors) B s) .outcome ≡ refused n place t → (checkBatch B s ≡ refusedAt n place) ⊎ RunRefused B s n place t
     go (passed u) e x = inr (run-refuses B s n place t x)
     go (refusedAt k at) e x = inl (rw (e, ap numberIn x, ap placeIn x))

@@ -6,19 +6,19 @@ use mathlib.Core.Option.{none, some}
 use mathlib.Core.List.{List, [], _∷_}
 use Prim.Native.Nat.{ℕ}
 use lib.Ieee.{Float, nan, binary64, neg, lt, ofBits}
-use Rattle.doubles.specs.Doubles.{finiteOf}
+use Rattle.doubles.specs.Doubles.{isFiniteOf}
 use Rattle.doubles.specs.Root.{sqrtOf}
 use Rattle.error.specs.Refusals.{value}
 use Rattle.rays.specs.declared.vector.Vec3.{Vec3}
 use Rattle.rays.specs.declared.Ray.{Ray}
 use Rattle.rays.specs.Vectors.{vec3, plusOf, scaleOf}
-use Rattle.rays.specs.Rays.{offset, finiteRayOf}
+use Rattle.rays.specs.Rays.{offset, isFiniteRayOf}
 use Rattle.source.specs.Random.{newOf, nextU64Of}
 use Rattle.geometry.specs.declared.PrimitiveGeometry.the-variants.{Plane, Sphere, Box}
 use Rattle.geometry.specs.Hits.{hitAt}
 use Rattle.geometry.specs.Shapes.{intersectLocalOf}
 use Rattle.scene.specs.declared.NonSeqHit.{NonSeqHit}
-use Rattle.surface.specs.Fresnel.{cosineOf, reflectedDirectionOf, total, both, snellFresnelOf}
+use Rattle.surface.specs.Fresnel.{cosineOf, reflectedDirectionOf, total, split, computeSnellFresnelInteractionOf}
 use Rattle.detector.specs.Pixels.{indexAlongOf}
 use Rattle.detectors.specs.declared.Detectors.{Detectors}
 use Rattle.detector.specs.declared.DetectorHit.{DetectorHit}
@@ -28,7 +28,7 @@ use Rattle.step.specs.declared.ActiveRay.{ActiveRay}
 use Rattle.step.specs.Rays.{stopped}
 use Rattle.step.specs.Turn.{firstMetOf, solid, mirrorOf}
 use Rattle.report.specs.declared.NonSeqTraceReport.{NonSeqTraceReport}
-use Rattle.report.specs.Report.{reportAfter}
+use Rattle.report.specs.Report.{reportAfterOf}
 use Rattle.trace.specs.Trace.{Batch, runOn}
 
 abbrev pub #0 : Float
@@ -86,8 +86,8 @@ abbrev pub facing : NonSeqHit
 facing = record { t = #5; point = #000; normal = #-z; «geometric_normal» = #-z; «object_id» = record { 0 = 0 }; entering = true }
 
 -- the ray that a surface sends from its point p along d, if all its parts are finite
-abbrev pub sentOf : Ray → Vec3 → Vec3 → Float → Ray
-sentOf r p d power = record { origin = plusOf p (scaleOf d offset); direction = d; «wavelength_nm» = r .«wavelength_nm»; energy = power }
+abbrev pub sentRay : Ray → Vec3 → Vec3 → Float → Ray
+sentRay r p d power = record { origin = plusOf p (scaleOf d offset); direction = d; «wavelength_nm» = r .«wavelength_nm»; energy = power }
 
 -- the root of 4 is 2, of -0 it is -0
 abbrev pub M1 : Type 0
@@ -113,18 +113,18 @@ M5 = intersectLocalOf (Box #1 #1 #1) (upward (neg #5)) ≡ hitAt #4 #-z
 abbrev pub M6 : Type 0
 M6 =
     ((r : Ray) (h : NonSeqHit) → r .direction ≡ #+z → h .normal ≡ #-z
-    → finiteRayOf (sentOf r (h .point) #-z #¼) ≡ true → finiteRayOf (sentOf r (h .point) #+z #¾) ≡ true
-    → snellFresnelOf r h #1 #3 #1 ≡ value (both (sentOf r (h .point) #-z #¼) (sentOf r (h .point) #+z #¾)))
-    × (snellFresnelOf (upward (neg #5)) facing #1 #3 #1 ≡ value (both (sentOf (upward (neg #5)) #000 #-z #¼) (sentOf (upward (neg #5)) #000 #+z #¾)))
+    → isFiniteRayOf (sentRay r (h .point) #-z #¼) ≡ true → isFiniteRayOf (sentRay r (h .point) #+z #¾) ≡ true
+    → computeSnellFresnelInteractionOf r h #1 #3 #1 ≡ value (split (sentRay r (h .point) #-z #¼) (sentRay r (h .point) #+z #¾)))
+    × (computeSnellFresnelInteractionOf (upward (neg #5)) facing #1 #3 #1 ≡ value (split (sentRay (upward (neg #5)) #000 #-z #¼) (sentRay (upward (neg #5)) #000 #+z #¾)))
 
 -- equal indices, cosine 0: all reflected, wherever the ray is finite, as from (-5, 0, 0) along the surface
 abbrev pub M7 : Type 0
 M7 =
-    ((r : Ray) (h : NonSeqHit) (n power : Float) → finiteOf n ≡ true → lt #0 n ≡ true
+    ((r : Ray) (h : NonSeqHit) (n power : Float) → isFiniteOf n ≡ true → lt #0 n ≡ true
     → (cosineOf (r .direction) (h .normal) ≡ #0) ⊎ (cosineOf (r .direction) (h .normal) ≡ #-0)
     → (d : Vec3) → d ≡ reflectedDirectionOf (r .direction) (h .normal) (cosineOf (r .direction) (h .normal))
-    → finiteRayOf (sentOf r (h .point) d power) ≡ true → snellFresnelOf r h n n power ≡ value (total (sentOf r (h .point) d power)))
-    × (snellFresnelOf sideways facing #1 #1 #1 ≡ value (total (sentOf sideways #000 #+x #1)))
+    → isFiniteRayOf (sentRay r (h .point) d power) ≡ true → computeSnellFresnelInteractionOf r h n n power ≡ value (total (sentRay r (h .point) d power)))
+    × (computeSnellFresnelInteractionOf sideways facing #1 #1 #1 ≡ value (total (sentRay sideways #000 #+x #1)))
 
 -- width 4, resx 2: x = 2 is column 1, x = -2 column 0, NaN column 0
 abbrev pub M8 : Type 0
@@ -148,9 +148,9 @@ abbrev pub M11 : Type 0
 M11 =
     (a : ActiveRay) (h : NonSeqHit) (r : NonSeqTraceReport) → a .ray .energy ≡ #1 → r .ledger .«absorbed_flux_watts» ≡ #0
     → (mirrorOf #½ a h #½ .end ≡ stopped #½) × (mirrorOf #½ a h #½ .«first» ≡ false) × (mirrorOf #½ a h #½ .second ≡ false)
-    × (reportAfter r #1 (mirrorOf #½ a h #½) .ledger .«absorbed_flux_watts» ≡ #½)
-    × (reportAfter r #1 (mirrorOf #½ a h #½) .tallies .made ≡ r .tallies .made)
-    × (reportAfter r #1 (mirrorOf #½ a h #½) .tallies .weak ≡ r .tallies .weak)
+    × (reportAfterOf r #1 (mirrorOf #½ a h #½) .ledger .«absorbed_flux_watts» ≡ #½)
+    × (reportAfterOf r #1 (mirrorOf #½ a h #½) .tallies .made ≡ r .tallies .made)
+    × (reportAfterOf r #1 (mirrorOf #½ a h #½) .tallies .weak ≡ r .tallies .weak)
 
 abbrev pub Marks : Type 1
 Marks = M1 × M2 × M3 × M4 × M5 × M6 × M7 × M8 × M9 × M10 × M11

@@ -5,49 +5,49 @@ use mathlib.Core.Bool.{true, false}
 use Prim.Native.Nat.{ℕ, _≤_}
 use lib.Ieee.{Float, binary64, sub, mul, div, lt, le}
 use lib.ListN.{getD}
-use Rattle.doubles.specs.Doubles.{finiteOf}
+use Rattle.doubles.specs.Doubles.{isFiniteOf}
 use Rattle.doubles.specs.Root.{sqrtOf}
 use Rattle.error.specs.Refusals.{value}
 use Rattle.rays.specs.declared.Ray.{Ray}
 use Rattle.rays.specs.Vectors.{dotOf, minusOf, scaleOf, normalizeOf}
-use Rattle.rays.specs.Rays.{finiteRayOf}
+use Rattle.rays.specs.Rays.{isFiniteRayOf}
 use Rattle.material.specs.declared.OpticalMedium.{OpticalMedium}
 use Rattle.material.specs.declared.OpticalMedium.the-variants.{Air, Constant, Sellmeier1, Schott}
 use Rattle.material.specs.declared.SurfaceFinish.the-variants.{Specular, Mirror}
 use Rattle.material.specs.Media.{squareUmOf, sellmeierOf, schottOf}
 use Rattle.scene.specs.declared.NonSeqHit.{NonSeqHit}
-use Rattle.scene.specs.Closest.{closestOf}
+use Rattle.scene.specs.Closest.{closestObjectOf}
 use Rattle.surface.specs.Fresnel.{cosineOf, radicandOf, reflectedDirectionOf, refractedDirectionOf, reflectanceOf, mirroredPowerOf}
 use Rattle.media.specs.declared.Media.{Media}
 use Rattle.media.specs.Media.{newestOf}
 use Rattle.detector.specs.declared.DetectorHit.{DetectorHit}
-use Rattle.memory.specs.Memory.{Memory, Outcome, done, refused, recordHit, holdsOf, capacityOf, cellOf, detectorOf, maxCount}
+use Rattle.memory.specs.Memory.{Memory, Outcome, done, refused, recordOf, hasPixel, capacity, cellIn, hitDetector, maxCount}
 use Rattle.faces.specs.Faces.{nearestDetectorOf}
 use Rattle.step.specs.declared.ActiveRay.{ActiveRay}
 use Rattle.step.specs.Rays.{Optics, Scene, caught}
-use Rattle.step.specs.Turn.{Met, solid, mediumFrom, indexIn, beyondOf, firstMetOf, turnOf}
+use Rattle.step.specs.Turn.{Met, solid, mediumFrom, indexInOf, beyondOf, firstMetOf, takeStepOf}
 use Rattle.run.specs.declared.Progress.{Progress}
-use Rattle.run.specs.Stack.{takenOf}
+use Rattle.run.specs.Stack.{takenFrom}
 use Rattle.run.specs.Run.{isLeft, stepOn, drive}
-use Rattle.trace.specs.Trace.{Batch, raysOf, sceneIn, startOf, traceRaysOf}
-use Rattle.theorems_marks.specs.Marks.{#0, #1, #2, sentOf}
+use Rattle.trace.specs.Trace.{Batch, raysIn, sceneIn, startOf, traceRaysOf}
+use Rattle.theorems_marks.specs.Marks.{#0, #1, #2, sentRay}
 
 -- ---- 14 and 15: an index
 
 -- a squared index at most 0 or not finite
 abbrev pub BadSquare : Float → Type 0
-BadSquare n2 = (le n2 #0 ≡ true) ⊎ (finiteOf n2 ≡ false)
+BadSquare n2 = (le n2 #0 ≡ true) ⊎ (isFiniteOf n2 ≡ false)
 
 -- by the medium's rule; a constant index is bad below 1 or not finite
 abbrev pub BadIndex : OpticalMedium → Float → Type 0
 BadIndex Air w = ⊥
-BadIndex (Constant n) w = (lt n #1 ≡ true) ⊎ (finiteOf n ≡ false)
+BadIndex (Constant n) w = (lt n #1 ≡ true) ⊎ (isFiniteOf n ≡ false)
 BadIndex (Sellmeier1 b1 c1 b2 c2 b3 c3) w = BadSquare (sellmeierOf (squareUmOf w) b1 c1 b2 c2 b3 c3)
 BadIndex (Schott a0 a1 a2 a3 a4 a5) w = BadSquare (schottOf (squareUmOf w) a0 a1 a2 a3 a4 a5)
 
 -- 14: a wavelength at most 0 or not finite
 abbrev pub IndexRefused : OpticalMedium → Float → ℕ → Type 0
-IndexRefused m w n = ((n ≡ 14) × ((le w #0 ≡ true) ⊎ (finiteOf w ≡ false))) ⊎ ((n ≡ 15) × BadIndex m w)
+IndexRefused m w n = ((n ≡ 14) × ((le w #0 ≡ true) ⊎ (isFiniteOf w ≡ false))) ⊎ ((n ≡ 15) × BadIndex m w)
 
 -- ---- 16: a ray that is sent on
 
@@ -56,7 +56,7 @@ cosineAt r h = cosineOf (r .direction) (h .normal)
 
 -- all of it reflected
 abbrev pub totalRay : Ray → NonSeqHit → Float → Ray
-totalRay r h power = sentOf r (h .point) (reflectedDirectionOf (r .direction) (h .normal) (cosineAt r h)) power
+totalRay r h power = sentRay r (h .point) (reflectedDirectionOf (r .direction) (h .normal) (cosineAt r h)) power
 
 -- the two rays between indices n₁ and n₂
 abbrev pub rootAt : Ray → NonSeqHit → Float → Float → Float
@@ -66,38 +66,38 @@ abbrev pub shareAt : Ray → NonSeqHit → Float → Float → Float
 shareAt r h n1 n2 = reflectanceOf n1 n2 (cosineAt r h) (rootAt r h n1 n2)
 
 abbrev pub reflectedRay : Ray → NonSeqHit → Float → Float → Float → Ray
-reflectedRay r h n1 n2 power = sentOf r (h .point) (reflectedDirectionOf (r .direction) (h .normal) (cosineAt r h)) (mul binary64 power (shareAt r h n1 n2))
+reflectedRay r h n1 n2 power = sentRay r (h .point) (reflectedDirectionOf (r .direction) (h .normal) (cosineAt r h)) (mul binary64 power (shareAt r h n1 n2))
 
 abbrev pub transmittedRay : Ray → NonSeqHit → Float → Float → Float → Ray
 transmittedRay r h n1 n2 power =
-    sentOf r (h .point)
+    sentRay r (h .point)
     (refractedDirectionOf (r .direction) (h .normal) (div binary64 n1 n2) (cosineAt r h) (rootAt r h n1 n2))
     (mul binary64 power (sub binary64 #1 (shareAt r h n1 n2)))
 
 abbrev pub mirroredRay : Ray → NonSeqHit → Float → Ray
 mirroredRay r h power =
-    sentOf r (h .point) (normalizeOf (minusOf (r .direction) (scaleOf (h .normal) (mul binary64 #2 (dotOf (r .direction) (h .normal)))))) power
+    sentRay r (h .point) (normalizeOf (minusOf (r .direction) (scaleOf (h .normal) (mul binary64 #2 (dotOf (r .direction) (h .normal)))))) power
 
 -- one of the rays that are made at a clear surface isn't finite
 abbrev pub ClearRefused : Ray → NonSeqHit → Float → Float → Float → Type 0
 ClearRefused r h n1 n2 power =
-    ((le (radicandOf (div binary64 n1 n2) (cosineAt r h)) #0 ≡ true) × (finiteRayOf (totalRay r h power) ≡ false))
+    ((le (radicandOf (div binary64 n1 n2) (cosineAt r h)) #0 ≡ true) × (isFiniteRayOf (totalRay r h power) ≡ false))
     ⊎ ((le (radicandOf (div binary64 n1 n2) (cosineAt r h)) #0 ≡ false)
-    × ((finiteRayOf (reflectedRay r h n1 n2 power) ≡ false) ⊎ (finiteRayOf (transmittedRay r h n1 n2 power) ≡ false)))
+    × ((isFiniteRayOf (reflectedRay r h n1 n2 power) ≡ false) ⊎ (isFiniteRayOf (transmittedRay r h n1 n2 power) ≡ false)))
 
 -- ---- 9, 12 and 13: a hit
 
 abbrev pub HitRefused : Memory → DetectorHit → ℕ → Type 0
 HitRefused s h n =
-    ((n ≡ 9) × (holdsOf s h ≡ false))
-    ⊎ (((n ≡ 12) × (capacityOf s ≤ s .used))
-    ⊎ ((n ≡ 13) × ((getD (s .hits) (cellOf (s .detectors .list) h) 0 ≡ maxCount) ⊎ (detectorOf s h .«total_rays_hit» ≡ maxCount))))
+    ((n ≡ 9) × (hasPixel s h ≡ false))
+    ⊎ (((n ≡ 12) × (capacity s ≤ s .used))
+    ⊎ ((n ≡ 13) × ((getD (s .hits) (cellIn (s .detectors .list) h) 0 ≡ maxCount) ⊎ (hitDetector s h .«total_rays_hit» ≡ maxCount))))
 
 -- ---- a step
 
 -- what the ray meets first
 abbrev pub metBy : Scene → ActiveRay → Met
-metBy S a = firstMetOf (nearestDetectorOf (S .faces) (a .ray)) (closestOf (S .solid) (S .solids) (a .ray))
+metBy S a = firstMetOf (nearestDetectorOf (S .faces) (a .ray)) (closestObjectOf (S .solid) (S .solids) (a .ray))
 
 -- the index in the newest of the media, else the ambient, is refused
 abbrev pub MediaRefused : Optics → Media → Float → ℕ → Type 0
@@ -112,11 +112,11 @@ SurfaceRefused O a h n =
     ⊎ ((n ≡ 16)
     × ((n1 : Float)
     × ((n2 : Float)
-    × ((indexIn O (a .media) (a .ray .«wavelength_nm») ≡ value n1)
-    × ((indexIn O (beyondOf (a .media) h) (a .ray .«wavelength_nm») ≡ value n2) × ClearRefused (a .ray) h n1 n2 (a .ray .energy)))))))))
+    × ((indexInOf O (a .media) (a .ray .«wavelength_nm») ≡ value n1)
+    × ((indexInOf O (beyondOf (a .media) h) (a .ray .«wavelength_nm») ≡ value n2) × ClearRefused (a .ray) h n1 n2 (a .ray .energy)))))))))
     ⊎ ((n ≡ 16)
     × ((rho : Float)
-    × ((O .finish (h .«object_id») ≡ Mirror rho) × (finiteRayOf (mirroredRay (a .ray) h (mirroredPowerOf (a .ray .energy) rho)) ≡ false))))
+    × ((O .finish (h .«object_id») ≡ Mirror rho) × (isFiniteRayOf (mirroredRay (a .ray) h (mirroredPowerOf (a .ray .energy) rho)) ≡ false))))
 
 -- a solid is met, and its surface is refused
 abbrev pub TurnRefused : Scene → ActiveRay → ℕ → Type 0
@@ -124,7 +124,7 @@ TurnRefused S a n = (h : NonSeqHit) × ((metBy S a ≡ solid h) × SurfaceRefuse
 
 -- a detector is met, and the hit is refused
 abbrev pub CatchRefused : Memory → Scene → ActiveRay → ℕ → Type 0
-CatchRefused m S a n = (h : DetectorHit) × ((turnOf S a .end ≡ caught h) × HitRefused m h n)
+CatchRefused m S a n = (h : DetectorHit) × ((takeStepOf S a .end ≡ caught h) × HitRefused m h n)
 
 -- a refusal of one step with ray a, memory m
 abbrev pub StepRefused : Memory → Scene → ActiveRay → ℕ → Type 0
@@ -146,8 +146,8 @@ abbrev pub Reached : Batch → Memory → ℕ → Memory → (ActiveRay → Type
 Reached B s place t C =
     (j : ℕ)
     × ((p : Progress)
-    × ((drive recordHit (sceneIn B (s .detectors)) (raysOf B) j s (startOf (raysOf B) (B .rays)) ≡ record { outcome = done t; progress = p })
-    × ((isLeft p ≡ true) × ((place ≡ takenOf (raysOf B) (p .stack) (p .left) .left) × C (takenOf (raysOf B) (p .stack) (p .left) .ray)))))
+    × ((drive recordOf (sceneIn B (s .detectors)) (raysIn B) j s (startOf (raysIn B) (B .rays)) ≡ record { outcome = done t; progress = p })
+    × ((isLeft p ≡ true) × ((place ≡ takenFrom (raysIn B) (p .stack) (p .left) .left) × C (takenFrom (raysIn B) (p .stack) (p .left) .ray)))))
 
 abbrev pub RunRefused : Batch → Memory → ℕ → ℕ → Memory → Type 0
 RunRefused B s n place t = Reached B s place t (λ (a : ActiveRay). StepRefused t (sceneIn B (s .detectors)) a n)
@@ -156,14 +156,14 @@ RunRefused B s n place t = Reached B s place t (λ (a : ActiveRay). StepRefused 
 
 -- 12: a hit comes, and the list is full
 abbrev pub ListFull : Memory → Scene → ActiveRay → Type 0
-ListFull t S a = (h : DetectorHit) × ((turnOf S a .end ≡ caught h) × (capacityOf t ≤ t .used))
+ListFull t S a = (h : DetectorHit) × ((takeStepOf S a .end ≡ caught h) × (capacity t ≤ t .used))
 
 -- 13: a hit comes, and the count of its pixel or of its detector is the largest
 abbrev pub CountFull : Memory → Scene → ActiveRay → Type 0
 CountFull t S a =
     (h : DetectorHit)
-    × ((turnOf S a .end ≡ caught h)
-    × ((getD (t .hits) (cellOf (t .detectors .list) h) 0 ≡ maxCount) ⊎ (detectorOf t h .«total_rays_hit» ≡ maxCount)))
+    × ((takeStepOf S a .end ≡ caught h)
+    × ((getD (t .hits) (cellIn (t .detectors .list) h) 0 ≡ maxCount) ⊎ (hitDetector t h .«total_rays_hit» ≡ maxCount)))
 
 -- the ray meets a clear surface with property C
 abbrev pub AtClear : Scene → ActiveRay → (NonSeqHit → Type 0) → Type 0
@@ -171,7 +171,7 @@ AtClear S a C = (h : NonSeqHit) × ((metBy S a ≡ solid h) × ((S .optics .fini
 
 -- 14: there, with a wavelength at most 0 or not finite
 abbrev pub BadWavelength : Scene → ActiveRay → Type 0
-BadWavelength S a = AtClear S a (λ (h : NonSeqHit). (le (a .ray .«wavelength_nm») #0 ≡ true) ⊎ (finiteOf (a .ray .«wavelength_nm») ≡ false))
+BadWavelength S a = AtClear S a (λ (h : NonSeqHit). (le (a .ray .«wavelength_nm») #0 ≡ true) ⊎ (isFiniteOf (a .ray .«wavelength_nm») ≡ false))
 
 -- 15: there, with a bad index before or beyond the surface
 abbrev pub BadMedium : Scene → ActiveRay → Type 0
@@ -188,12 +188,12 @@ BadRay S a =
     (λ (h : NonSeqHit).
     (n1 : Float)
     × ((n2 : Float)
-    × ((indexIn (S .optics) (a .media) (a .ray .«wavelength_nm») ≡ value n1)
-    × ((indexIn (S .optics) (beyondOf (a .media) h) (a .ray .«wavelength_nm») ≡ value n2) × ClearRefused (a .ray) h n1 n2 (a .ray .energy)))))
+    × ((indexInOf (S .optics) (a .media) (a .ray .«wavelength_nm») ≡ value n1)
+    × ((indexInOf (S .optics) (beyondOf (a .media) h) (a .ray .«wavelength_nm») ≡ value n2) × ClearRefused (a .ray) h n1 n2 (a .ray .energy)))))
     ⊎ ((h : NonSeqHit)
     × ((metBy S a ≡ solid h)
     × ((rho : Float)
-    × ((S .optics .finish (h .«object_id») ≡ Mirror rho) × (finiteRayOf (mirroredRay (a .ray) h (mirroredPowerOf (a .ray .energy) rho)) ≡ false)))))
+    × ((S .optics .finish (h .«object_id») ≡ Mirror rho) × (isFiniteRayOf (mirroredRay (a .ray) h (mirroredPowerOf (a .ray .energy) rho)) ≡ false)))))
 
 -- if a tracing answers n, then one of its rays has property C, with the memory that is left
 abbrev pub Only : Batch → Memory → ℕ → (Memory → Scene → ActiveRay → Type 0) → Type 0

@@ -5,61 +5,61 @@ use mathlib.Core.List.{List}
 use native.Mathlib.Omega.{arith}
 use lib.ListN.{length, take}
 use Rattle.error.specs.Refusals.{Checked, passed, refusedAt}
-use Rattle.memory.specs.Memory.{Memory, leftOf}
-use Rattle.trace.specs.Trace.{Batch, checkTraceOf, traceRaysOf}
+use Rattle.memory.specs.Memory.{Memory, memoryLeft}
+use Rattle.trace.specs.Trace.{Batch, checkBatch, traceRaysOf}
 use Rattle.theorems_calls.proofs.Reached.{added-flux}
 use Rattle.theorems_calls.proofs.Checks.{passes}
 use Rattle.theorems_calls.proofs.Split.{trace-reaches}
 use Rattle.printing.specs.Printing.{out, putAll}
 use Rattle.printing.proofs.Writing.{written}
 use Rattle.answer_text.proofs.Lengths.{refusal-short}
-use Rattle.map_text.specs.Tables.{Tables, tablesOf, detectorsOf, batchIn, memoryIn, meantOf, wholeIn, mapOf}
+use Rattle.map_text.specs.Tables.{Tables, tables, detectorsOf, batchIn, memoryIn, meantOf, wholeOf, tablesText}
 use Rattle.map_text.proofs.Lengths.{trace-short, memory-short}
-use Rattle.scene_text.specs.Scene.{Answer, sceneOf}
-use Rattle.map_text.specs.StrayMap.{room, readText, answerTo, strayMapOf}
+use Rattle.scene_text.specs.Scene.{Answer, readSceneOf}
+use Rattle.map_text.specs.StrayMap.{room, readText, answerTo, strayMapText}
 
 -- ---- a tracing leaves the map as long as it was
 
 module _ (B : Batch) (s : Memory) where
-  passed-flux : checkTraceOf B s ≡ passed tt → length (leftOf (traceRaysOf B s .outcome) .flux) ≡ length (s .flux)
+  passed-flux : checkBatch B s ≡ passed tt → length (memoryLeft (traceRaysOf B s .outcome) .flux) ≡ length (s .flux)
   passed-flux e =
       let r = trace-reaches B s (passes B s e) in
       ap (λ (m : Memory). length (m .flux)) (r .sum) ∙ added-flux (r .hits) s
 
-  refused-flux : (n place : ℕ) → checkTraceOf B s ≡ refusedAt n place → length (leftOf (traceRaysOf B s .outcome) .flux) ≡ length (s .flux)
+  refused-flux : (n place : ℕ) → checkBatch B s ≡ refusedAt n place → length (memoryLeft (traceRaysOf B s .outcome) .flux) ≡ length (s .flux)
   unfolding traceRaysOf
   refused-flux n place e = rw e
 
-  pub left-flux : length (leftOf (traceRaysOf B s .outcome) .flux) ≡ length (s .flux)
-  left-flux = go (checkTraceOf B s) refl
+  pub left-flux : length (memoryLeft (traceRaysOf B s .outcome) .flux) ≡ length (s .flux)
+  left-flux = go (checkBatch B s) refl
     where
-      go : (c : Checked Unit) → checkTraceOf B s ≡ c → length (leftOf (traceRaysOf B s .outcome) .flux) ≡ length (s .flux)
+      go : (c : Checked Unit) → checkBatch B s ≡ c → length (memoryLeft (traceRaysOf B s .outcome) .flux) ≡ length (s .flux)
       go (passed tt) e = passed-flux e
       go (refusedAt n place) e = refused-flux n place e
 
 -- ---- the answer
 
-map-short : (t : Tables) → length (mapOf t) ≤ 119994
-unfolding mapOf
+map-short : (t : Tables) → length (tablesText t) ≤ 119994
+unfolding tablesText
 map-short t =
     let m = memoryIn (detectorsOf (t .places) (t .sizes) (t .detectors)) in
-    trace-short (meantOf (wholeIn (t .runs) 1)) (traceRaysOf (batchIn t) m) (rw (left-flux (batchIn t) m) (memory-short (detectorsOf (t .places) (t .sizes) (t .detectors))))
+    trace-short (meantOf (wholeOf (t .runs) 1)) (traceRaysOf (batchIn t) m) (rw (left-flux (batchIn t) m) (memory-short (detectorsOf (t .places) (t .sizes) (t .detectors))))
 
 read-short : (c : Checked Unit) (a : Answer) → length (readText c a) ≤ 119994
 read-short (passed u) a =
     let m = a .left in
-    map-short (tablesOf (m .run) (m .runs) (m .solids) (m .tags) (a .solids) (m .detectors) (m .sizes) (a .detectors) (m .rays) (m .marks) (a .rays))
+    map-short (tables (m .run) (m .runs) (m .solids) (m .tags) (a .solids) (m .detectors) (m .sizes) (a .detectors) (m .rays) (m .marks) (a .rays))
 read-short (refusedAt n place) a = omega (arith, refusal-short n place)
 
-pub answer-most : (s : List ℕ) → length (strayMapOf s) ≤ 119994
-unfolding strayMapOf answerTo
-answer-most s = read-short (sceneOf s room .check) (sceneOf s room)
+pub answer-most : (s : List ℕ) → length (strayMapText s) ≤ 119994
+unfolding strayMapText answerTo
+answer-most s = read-short (readSceneOf s room .check) (readSceneOf s room)
 
-pub answer-fits : (s : List ℕ) → length (strayMapOf s) ≤ 131072
+pub answer-fits : (s : List ℕ) → length (strayMapText s) ≤ 131072
 answer-fits s = omega (arith, answer-most s)
 
 -- What `put_stray_map` leaves, by its contract, in a buffer of at least 131,072 bytes that it writes from place 0 on; n is the place that it gives back, and no larger than the program lets it be.
-pub answer-whole : (buf left s : List ℕ) (n : ℕ) → 131072 ≤ length buf → out left n ≡ putAll buf 0 (strayMapOf s) → (n ≡ length (strayMapOf s)) × (take n left ≡ strayMapOf s) × (n ≤ 131072)
+pub answer-whole : (buf left s : List ℕ) (n : ℕ) → 131072 ≤ length buf → out left n ≡ putAll buf 0 (strayMapText s) → (n ≡ length (strayMapText s)) × (take n left ≡ strayMapText s) × (n ≤ 131072)
 answer-whole buf left s n h e =
-    let w = written buf left (strayMapOf s) n (omega (arith, answer-fits s)) e in
+    let w = written buf left (strayMapText s) n (omega (arith, answer-fits s)) e in
     (w .0, w .1, omega (arith, answer-fits s))

@@ -15,13 +15,13 @@ use Rattle.material.specs.declared.SurfaceFinish.{SurfaceFinish}
 use Rattle.material.specs.declared.SurfaceFinish.the-variants.{Specular, Mirror, Absorber}
 use Rattle.scene.specs.declared.SolidNo.{SolidNo}
 use Rattle.scene.specs.declared.NonSeqHit.{NonSeqHit}
-use Rattle.surface.specs.Fresnel.{Parted, total, both, mirroredPowerOf}
+use Rattle.surface.specs.Fresnel.{FresnelInteraction, total, split, mirroredPowerOf}
 use Rattle.media.specs.declared.Media.{Media}
-use Rattle.media.specs.Media.{enteredOf, leftOf, lastOf, movedDown, withoutOf, solidIn, maxMedia}
+use Rattle.media.specs.Media.{enteredOf, leftOf, lastPlaceOf, moveDownOf, withoutPlace, solidIn, maxMedia}
 use Rattle.step.specs.declared.ActiveRay.{ActiveRay}
-use Rattle.step.specs.Rays.{Optics, Scene, Step, End, ended, dim, spent, gone, caught, stopped, parted, refusing, moreOf, reflectedOf, transmittedOf}
-use Rattle.step.specs.Turn.{beyondOf, partedOf, partedFrom, clearBetween, clearOf, mirrorFrom, mirrorOf, surfaceBy, surfaceOf, Met, detector, solid, nothing, meetsOf, interactOf, turnOf}
-use Rattle.report.specs.Report.{interacts}
+use Rattle.step.specs.Rays.{Optics, Scene, Step, End, endsOf, dim, spent, gone, caught, stopped, parted, refusing, moreOf, reflectedOf, transmittedOf}
+use Rattle.step.specs.Turn.{beyondOf, partedBy, partedOf, betweenOf, clearOf, mirrorFromOf, mirrorOf, surfaceBy, surfaceOf, Met, detector, solid, nothing, meetsWith, interactOf, takeStepOf}
+use Rattle.report.specs.Report.{isInteractionOf}
 use Rattle.theorems_runs.specs.Sums.{isSurface}
 
 pub false-true : {A : Type 0} → false ≡ true → A
@@ -34,8 +34,8 @@ pick P false f g = g refl
 
 -- ---- the media beyond a surface
 
-moved-length : (k i : ℕ) (l : List SolidNo) → length (movedDown k i l) ≡ length l
-unfolding movedDown
+moved-length : (k i : ℕ) (l : List SolidNo) → length (moveDownOf k i l) ≡ length l
+unfolding moveDownOf
 moved-length zero i l = refl
 moved-length (suc k) i l = moved-length k (i + 1) (set l i (solidIn l (i + 1))) ∙ length-set l i (solidIn l (i + 1))
 
@@ -47,8 +47,8 @@ pub record Deeper (m n : Media) : Type 0 where
 same : (m : Media) → Deeper m m
 same m = record { depth = omega arith; long = refl }
 
-without : (m : Media) (o : Option ℕ) → Deeper m (withoutOf m o)
-unfolding withoutOf
+without : (m : Media) (o : Option ℕ) → Deeper m (withoutPlace m o)
+unfolding withoutPlace
 without m (some i) = record { depth = omega arith; long = moved-length (m .depth - 1 - i) i (m .list) }
 without m none = same m
 
@@ -59,7 +59,7 @@ entered m s =
 
 left-of : (m : Media) (s : SolidNo) → Deeper m (leftOf m s)
 unfolding leftOf
-left-of m s = pick (Deeper m) (leb (m .depth) maxMedia) (λ q. without m (lastOf (m .list) (m .depth) s)) (λ q. same m)
+left-of m s = pick (Deeper m) (leb (m .depth) maxMedia) (λ q. without m (lastPlaceOf (m .list) (m .depth) s)) (λ q. same m)
 
 beyond : (m : Media) (h : NonSeqHit) → Deeper m (beyondOf m h)
 unfolding beyondOf
@@ -91,7 +91,7 @@ transmitted-later a r m d = record { media = d; reflections = omega arith; tirs 
 
 -- an interaction is below the limit; a ray that is made has one bounce more and was made at a surface
 pub record Bred (b : ℕ) (a : ActiveRay) (s : Step) : Type 0 where
-  pub busy : interacts (s .end) ≡ true → a .«bounce_count» < b
+  pub busy : isInteractionOf (s .end) ≡ true → a .«bounce_count» < b
   pub one : s .«first» ≡ true → s .reflected .«bounce_count» ≡ moreOf (a .«bounce_count»)
   pub two : s .second ≡ true → s .transmitted .«bounce_count» ≡ moreOf (a .«bounce_count»)
   pub at-one : s .«first» ≡ true → isSurface (s .end) ≡ true
@@ -99,7 +99,7 @@ pub record Bred (b : ℕ) (a : ActiveRay) (s : Step) : Type 0 where
   pub later-one : Later a (s .reflected)
   pub later-two : Later a (s .transmitted)
 
-ended-bred : (b : ℕ) (a : ActiveRay) (e : End) → (interacts e ≡ true → a .«bounce_count» < b) → Bred b a (ended a e)
+ended-bred : (b : ℕ) (a : ActiveRay) (e : End) → (isInteractionOf e ≡ true → a .«bounce_count» < b) → Bred b a (endsOf a e)
 ended-bred b a e h =
     record {
       busy = h;
@@ -112,8 +112,8 @@ ended-bred b a e h =
     }
 
 module _ (b : ℕ) (a : ActiveRay) (low : a .«bounce_count» < b) where
-  parted-bred : (threshold : Float) (m : Media) (p : Parted) → Deeper (a .media) m → Bred b a (partedOf threshold a m p)
-  unfolding partedOf reflectedOf transmittedOf isSurface
+  parted-bred : (threshold : Float) (m : Media) (p : FresnelInteraction) → Deeper (a .media) m → Bred b a (partedBy threshold a m p)
+  unfolding partedBy reflectedOf transmittedOf isSurface
   parted-bred threshold m (total r) d =
       record {
         busy = λ q. low;
@@ -124,7 +124,7 @@ module _ (b : ℕ) (a : ActiveRay) (low : a .«bounce_count» < b) where
         later-one = reflected-later true a r;
         later-two = itself a;
       }
-  parted-bred threshold m (both r t) d =
+  parted-bred threshold m (split r t) d =
       record {
         busy = λ q. low;
         one = λ q. refl;
@@ -135,13 +135,13 @@ module _ (b : ℕ) (a : ActiveRay) (low : a .«bounce_count» < b) where
         later-two = transmitted-later a t m d;
       }
 
-  parted-from : (threshold : Float) (m : Media) (p : Answer Parted) → Deeper (a .media) m → Bred b a (partedFrom threshold a m p)
-  unfolding partedFrom
+  parted-from : (threshold : Float) (m : Media) (p : Answer FresnelInteraction) → Deeper (a .media) m → Bred b a (partedOf threshold a m p)
+  unfolding partedOf
   parted-from threshold m (value p) d = parted-bred threshold m p d
   parted-from threshold m (refusal n) d = ended-bred b a (refusing n) (λ q. low)
 
-  between-bred : (threshold : Float) (h : NonSeqHit) (m : Media) (x y : Answer Float) → Deeper (a .media) m → Bred b a (clearBetween threshold a h m x y)
-  unfolding clearBetween
+  between-bred : (threshold : Float) (h : NonSeqHit) (m : Media) (x y : Answer Float) → Deeper (a .media) m → Bred b a (betweenOf threshold a h m x y)
+  unfolding betweenOf
   between-bred threshold h m (value x) (value y) d = parted-from threshold m _ d
   between-bred threshold h m (value x) (refusal n) d = ended-bred b a (refusing n) (λ q. low)
   between-bred threshold h m (refusal n) y d = ended-bred b a (refusing n) (λ q. low)
@@ -150,8 +150,8 @@ module _ (b : ℕ) (a : ActiveRay) (low : a .«bounce_count» < b) where
   unfolding clearOf
   clear-bred O h = between-bred _ h (beyondOf (a .media) h) _ _ (beyond (a .media) h)
 
-  mirror-from : (left : Float) (r : Answer Ray) → Bred b a (mirrorFrom a left r)
-  unfolding mirrorFrom reflectedOf isSurface
+  mirror-from : (left : Float) (r : Answer Ray) → Bred b a (mirrorFromOf a left r)
+  unfolding mirrorFromOf reflectedOf isSurface
   mirror-from left (value r) =
       record {
         busy = λ q. low;
@@ -175,14 +175,14 @@ module _ (b : ℕ) (a : ActiveRay) (low : a .«bounce_count» < b) where
   by-bred O h (Mirror rho) = mirror-bred _ h rho
   by-bred O h Absorber = ended-bred b a _ (λ q. low)
 
-  meets-bred : (S : Scene) (k : Met) → Bred b a (meetsOf S a k)
-  unfolding meetsOf surfaceOf
+  meets-bred : (S : Scene) (k : Met) → Bred b a (meetsWith S a k)
+  unfolding meetsWith surfaceOf
   meets-bred S (detector s) = ended-bred b a _ (λ q. low)
   meets-bred S (solid h) = by-bred (S .optics) h (S .optics .finish (h .«object_id»))
   meets-bred S nothing = ended-bred b a gone (λ q. low)
 
-pub bred : (S : Scene) (a : ActiveRay) → Bred (S .optics .config .«max_bounces») a (turnOf S a)
-unfolding turnOf interactOf interacts
+pub bred : (S : Scene) (a : ActiveRay) → Bred (S .optics .config .«max_bounces») a (takeStepOf S a)
+unfolding takeStepOf interactOf isInteractionOf
 bred S a =
     let b : ℕ = S .optics .config .«max_bounces» in
     pick (Bred b a) (le (a .ray .energy) (S .optics .config .«min_power_threshold»)) (λ q. ended-bred b a dim (λ z. false-true z))
@@ -191,8 +191,8 @@ bred S a =
     (λ z. meets-bred b a (leb-false b (a .«bounce_count») z) S _))
 
 -- a ray made at a surface is made in an interaction
-pub surface-busy : (e : End) → isSurface e ≡ true → interacts e ≡ true
-unfolding isSurface interacts
+pub surface-busy : (e : End) → isSurface e ≡ true → isInteractionOf e ≡ true
+unfolding isSurface isInteractionOf
 surface-busy dim q = q
 surface-busy spent q = q
 surface-busy gone q = refl

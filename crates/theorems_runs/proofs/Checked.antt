@@ -8,20 +8,20 @@ use lib.Dec.{leb}
 use borrow.Author.Tests.{leb-true}
 use lib.Ieee.{le}
 use lib.ListN.{length}
-use Rattle.doubles.specs.Doubles.{finiteOf}
+use Rattle.doubles.specs.Doubles.{isFiniteOf}
 use Rattle.error.specs.Refusals.{Checked, passed, refusedAt, after}
-use Rattle.rays.specs.Rays.{validRayOf}
+use Rattle.rays.specs.Rays.{isValidRayOf}
 use Rattle.detectors.specs.Detectors.{checkDetectorsOf}
 use Rattle.media.specs.declared.Media.{Media}
-use Rattle.memory.specs.Memory.{Memory, Outcome, done, refused, recordHit}
+use Rattle.memory.specs.Memory.{Memory, Outcome, done, refused, recordOf}
 use Rattle.nearest.proofs.Order.{and-right}
 use Rattle.step.specs.declared.ActiveRay.{ActiveRay}
 use Rattle.step.specs.declared.NonSeqTraceConfig.{NonSeqTraceConfig}
 use Rattle.report.specs.declared.tallies.Tallies.{Tallies}
 use Rattle.report.specs.Report.{#0, startReportOf}
-use Rattle.given_rays.specs.Given.{validMediaOf, checkRayOf, checkRaysFrom}
+use Rattle.given_rays.specs.Given.{validMediaOf, checkRayOf, checkRaysOf}
 use Rattle.run.specs.Run.{isLeft}
-use Rattle.trace.specs.Trace.{Batch, raysOf, checkFlatOf, checkConfigOf, checkCountsOf, checkRulesOf, checkMemoryOf, checkAllOf, checkTraceOf, runOn, traceAfter, traceRaysOf}
+use Rattle.trace.specs.Trace.{Batch, raysIn, checkFlatOf, checkConfigOf, checkCountsOf, checkRulesOf, checkMemoryOf, checkTraceOf, checkBatch, runOn, traceAfter, traceRaysOf}
 use Rattle.theorems_runs.proofs.Bred.{pick, false-true}
 use Rattle.theorems_runs.proofs.Tracings.{enough, bound}
 use Rattle.theorems_runs.proofs.Balance.{balance, balance-met}
@@ -40,7 +40,7 @@ both-passed a (refusedAt n p) x e = not-passed n p a e
 config-lim : (g : NonSeqTraceConfig) → checkConfigOf g ≡ passed tt → g .«max_bounces» ≤ 16
 unfolding checkConfigOf
 config-lim g =
-    pick (λ (c : Checked Unit). (c ≡ passed tt → g .«max_bounces» ≤ 16)) (finiteOf (g .«min_power_threshold») && le #0 (g .«min_power_threshold»))
+    pick (λ (c : Checked Unit). (c ≡ passed tt → g .«max_bounces» ≤ 16)) (isFiniteOf (g .«min_power_threshold») && le #0 (g .«min_power_threshold»))
     (λ q. pick (λ (c : Checked Unit). (c ≡ passed tt → g .«max_bounces» ≤ 16)) (leb (g .«max_bounces») 16) (λ z e. leb-true (g .«max_bounces») 16 z) (λ z e. not-passed 2 0 tt e))
     (λ q e. not-passed 1 0 tt e)
 
@@ -58,36 +58,36 @@ media-deep m solids =
 ray-deep : (a : ActiveRay) (solids place : ℕ) → checkRayOf a solids place ≡ passed tt → a .media .depth ≤ 8
 unfolding checkRayOf
 ray-deep a solids place =
-    pick (λ (c : Checked Unit). (c ≡ passed tt → a .media .depth ≤ 8)) (validRayOf (a .ray))
+    pick (λ (c : Checked Unit). (c ≡ passed tt → a .media .depth ≤ 8)) (isValidRayOf (a .ray))
     (λ q.
     pick (λ (c : Checked Unit). (c ≡ passed tt → a .media .depth ≤ 8)) (validMediaOf (a .media) solids) (λ z e. media-deep (a .media) solids z) (λ z e. not-passed 11 place tt e))
     (λ q e. not-passed 10 place tt e)
 
-rays-deep : (given : ℕ → ActiveRay) (solids n i j : ℕ) → checkRaysFrom given solids n i ≡ passed tt → j < n → given (i + j) .media .depth ≤ 8
-unfolding checkRaysFrom
+rays-deep : (given : ℕ → ActiveRay) (solids n i j : ℕ) → checkRaysOf given solids n i ≡ passed tt → j < n → given (i + j) .media .depth ≤ 8
+unfolding checkRaysOf
 rays-deep given solids zero i j e k = absurd (omega arith)
-rays-deep given solids (suc n) i zero e k = rw add-zero (ray-deep (given i) solids i (both-passed tt (checkRayOf (given i) solids i) (checkRaysFrom given solids n (i + 1)) e .0))
+rays-deep given solids (suc n) i zero e k = rw add-zero (ray-deep (given i) solids i (both-passed tt (checkRayOf (given i) solids i) (checkRaysOf given solids n (i + 1)) e .0))
 rays-deep given solids (suc n) i (suc j) e k =
     let q : i + suc j ≡ i + 1 + j = omega arith in
-    rw q (rays-deep given solids n (i + 1) j (both-passed tt (checkRayOf (given i) solids i) (checkRaysFrom given solids n (i + 1)) e .1) (omega arith))
+    rw q (rays-deep given solids n (i + 1) j (both-passed tt (checkRayOf (given i) solids i) (checkRaysOf given solids n (i + 1)) e .1) (omega arith))
 
 -- what the theorems ask of a batch
 pub record Fit (B : Batch) : Type 0 where
   pub limit : B .config .«max_bounces» ≤ 16
   pub few : B .rays ≤ 4096
-  pub deep : (i : ℕ) → i < B .rays → raysOf B i .media .depth ≤ 8
+  pub deep : (i : ℕ) → i < B .rays → raysIn B i .media .depth ≤ 8
 
-pub fit : (B : Batch) (s : Memory) → checkTraceOf B s ≡ passed tt → Fit B
-unfolding checkTraceOf checkAllOf checkRulesOf
+pub fit : (B : Batch) (s : Memory) → checkBatch B s ≡ passed tt → Fit B
+unfolding checkBatch checkTraceOf checkRulesOf
 fit B s e =
     let e1 = both-passed tt (checkFlatOf B) _ e in
     let e2 = both-passed tt (checkRulesOf (B .config) (B .solids) (B .rays)) _ (e1 .1) in
     let e3 = both-passed tt (checkConfigOf (B .config)) (checkCountsOf (B .solids) (B .rays)) (e2 .0) in
-    let e4 = both-passed tt (checkMemoryOf (s .detectors) (length (s .flux)) (length (s .hits)) (length (s .values)) (length (s .tags)) (s .used)) (checkRaysFrom (raysOf B) (B .solids) (B .rays) 0) (e2 .1) in
+    let e4 = both-passed tt (checkMemoryOf (s .detectors) (length (s .flux)) (length (s .hits)) (length (s .values)) (length (s .tags)) (s .used)) (checkRaysOf (raysIn B) (B .solids) (B .rays) 0) (e2 .1) in
     record {
       limit = config-lim (B .config) (e3 .0);
       few = counts-few (B .solids) (B .rays) (e3 .1);
-      deep = λ i q. rw zero-add at (rays-deep (raysOf B) (B .solids) (B .rays) 0 i (e4 .1) q);
+      deep = λ i q. rw zero-add at (rays-deep (raysIn B) (B .solids) (B .rays) 0 i (e4 .1) q);
     }
 
 -- ---- every tracing
@@ -98,45 +98,45 @@ isDone (refused n place m) = false
 
 -- a tracing that is not refused passed the checks, and is its run
 pub record Ran (B : Batch) (s z : Memory) : Type 0 where
-  pub passes : checkTraceOf B s ≡ passed tt
-  pub run : runOn recordHit (s .detectors) B s .outcome ≡ done z
-  pub reports : traceRaysOf B s .report ≡ runOn recordHit (s .detectors) B s .progress .report
+  pub passes : checkBatch B s ≡ passed tt
+  pub run : runOn recordOf (s .detectors) B s .outcome ≡ done z
+  pub reports : traceRaysOf B s .report ≡ runOn recordOf (s .detectors) B s .progress .report
 
 module _ (B : Batch) (s : Memory) where
-  after-passed : checkTraceOf B s ≡ passed tt → traceRaysOf B s .report ≡ runOn recordHit (s .detectors) B s .progress .report
+  after-passed : checkBatch B s ≡ passed tt → traceRaysOf B s .report ≡ runOn recordOf (s .detectors) B s .progress .report
   unfolding traceRaysOf
   after-passed q = rw q
 
-  after-refused : (n place : ℕ) → checkTraceOf B s ≡ refusedAt n place → traceRaysOf B s .report .«total_interactions» ≡ 0
+  after-refused : (n place : ℕ) → checkBatch B s ≡ refusedAt n place → traceRaysOf B s .report .«total_interactions» ≡ 0
   unfolding traceRaysOf startReportOf
   after-refused n place q = rw q
 
-  ran-by : (z : Memory) (c : Checked Unit) → checkTraceOf B s ≡ c → traceAfter c s (runOn recordHit (s .detectors) B s) .outcome ≡ done z → Ran B s z
+  ran-by : (z : Memory) (c : Checked Unit) → checkBatch B s ≡ c → traceAfter c s (runOn recordOf (s .detectors) B s) .outcome ≡ done z → Ran B s z
   ran-by z (passed tt) q e = record { passes = q; run = e; reports = after-passed q }
   ran-by z (refusedAt n place) q e = false-true (ap isDone e)
 
   pub ran : (z : Memory) → traceRaysOf B s .outcome ≡ done z → Ran B s z
   unfolding traceRaysOf
-  ran z e = ran-by z (checkTraceOf B s) refl e
+  ran z e = ran-by z (checkBatch B s) refl e
 
   -- no ray is left where a tracing is done
-  pub trace-enough : (z : Memory) → traceRaysOf B s .outcome ≡ done z → isLeft (runOn recordHit (s .detectors) B s .progress) ≡ false
-  trace-enough z e = let f : Fit B = fit B s (ran z e .passes) in enough recordHit (s .detectors) B s (f .limit) z (f .few) (ran z e .run)
+  pub trace-enough : (z : Memory) → traceRaysOf B s .outcome ≡ done z → isLeft (runOn recordOf (s .detectors) B s .progress) ≡ false
+  trace-enough z e = let f : Fit B = fit B s (ran z e .passes) in enough recordOf (s .detectors) B s (f .limit) z (f .few) (ran z e .run)
 
   -- refused or not, rays without bounces lead to at most 2 ^ limit - 1 interactions each
-  bound-by : (c : Checked Unit) → checkTraceOf B s ≡ c → ((i : ℕ) → i < B .rays → raysOf B i .«bounce_count» ≡ 0) → traceRaysOf B s .report .«total_interactions» ≤ B .rays * (2 ^ (B .config .«max_bounces») - 1)
-  bound-by (passed tt) q h = rw (after-passed q) (bound recordHit (s .detectors) B s (fit B s q .limit) h)
+  bound-by : (c : Checked Unit) → checkBatch B s ≡ c → ((i : ℕ) → i < B .rays → raysIn B i .«bounce_count» ≡ 0) → traceRaysOf B s .report .«total_interactions» ≤ B .rays * (2 ^ (B .config .«max_bounces») - 1)
+  bound-by (passed tt) q h = rw (after-passed q) (bound recordOf (s .detectors) B s (fit B s q .limit) h)
   bound-by (refusedAt n place) q h = omega (arith, after-refused n place q)
 
-  pub trace-bound : ((i : ℕ) → i < B .rays → raysOf B i .«bounce_count» ≡ 0) → traceRaysOf B s .report .«total_interactions» ≤ B .rays * (2 ^ (B .config .«max_bounces») - 1)
-  trace-bound h = bound-by (checkTraceOf B s) refl h
+  pub trace-bound : ((i : ℕ) → i < B .rays → raysIn B i .«bounce_count» ≡ 0) → traceRaysOf B s .report .«total_interactions» ≤ B .rays * (2 ^ (B .config .«max_bounces») - 1)
+  trace-bound h = bound-by (checkBatch B s) refl h
 
   -- every ray of a tracing that is done ended in one tally, and its interactions are the tallies that are interactions
   abbrev tallies : Tallies
   tallies = traceRaysOf B s .report .tallies
 
   pub trace-balance : (z : Memory) → traceRaysOf B s .outcome ≡ done z → B .rays + tallies .made ≡ tallies .dim + tallies .spent + tallies .caught + tallies .gone + tallies .surface
-  trace-balance z e = let f : Fit B = fit B s (ran z e .passes) in rw (ran z e .reports, tallies) (balance recordHit (s .detectors) B s z (f .limit) (f .few) (ran z e .run))
+  trace-balance z e = let f : Fit B = fit B s (ran z e .passes) in rw (ran z e .reports, tallies) (balance recordOf (s .detectors) B s z (f .limit) (f .few) (ran z e .run))
 
   pub trace-met : (z : Memory) → traceRaysOf B s .outcome ≡ done z → traceRaysOf B s .report .«total_interactions» ≡ tallies .caught + tallies .gone + tallies .surface
-  trace-met z e = let f : Fit B = fit B s (ran z e .passes) in rw (ran z e .reports, tallies) (balance-met recordHit (s .detectors) B s z (f .limit) (f .few) (ran z e .run))
+  trace-met z e = let f : Fit B = fit B s (ran z e .passes) in rw (ran z e .reports, tallies) (balance-met recordOf (s .detectors) B s z (f .limit) (f .few) (ran z e .run))

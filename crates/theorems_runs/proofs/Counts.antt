@@ -11,14 +11,14 @@ use Rattle.detector.specs.declared.DetectorHit.{DetectorHit}
 use Rattle.memory.specs.Memory.{Outcome, done, refused}
 use Rattle.step.specs.declared.ActiveRay.{ActiveRay}
 use Rattle.step.specs.Rays.{Scene, Step, End, dim, spent, gone, caught, stopped, parted, refusing}
-use Rattle.step.specs.Turn.{turnOf}
+use Rattle.step.specs.Turn.{takeStepOf}
 use Rattle.report.specs.declared.tallies.Tallies.{Tallies}
 use Rattle.report.specs.declared.NonSeqTraceReport.{NonSeqTraceReport}
-use Rattle.report.specs.Report.{moreIf, dimmer, spending, catching, going, surfacing, talliesAfter, interacts, reportAfter, countedOf, startReportOf}
+use Rattle.report.specs.Report.{moreIfOf, addDimOf, addSpentOf, addCaughtOf, addGoneOf, addSurfaceOf, talliesAfterOf, isInteractionOf, reportAfterOf, countedOf, startReportOf}
 use Rattle.run.specs.declared.Progress.{Progress}
-use Rattle.run.specs.Stack.{takenOf}
-use Rattle.run.specs.Run.{hitIn, refusalIn, putFrom, isLeft, settleWith, stepOn, drive}
-use Rattle.trace.specs.Trace.{Batch, raysOf, startOf, sceneIn}
+use Rattle.run.specs.Stack.{takenFrom}
+use Rattle.run.specs.Run.{hitInOf, refusalInOf, putFrom, isLeft, settleWith, stepOn, drive}
+use Rattle.trace.specs.Trace.{Batch, raysIn, startOf, sceneIn}
 use Rattle.theorems_runs.specs.Sums.{sumLeft, heft, Full}
 use Rattle.theorems_runs.specs.Room.{SmallTallies, SmallCounts}
 use Rattle.theorems_runs.proofs.Bred.{more-most}
@@ -26,24 +26,24 @@ use Rattle.theorems_runs.proofs.Stacks.{ray, next, next-full}
 use Rattle.theorems_runs.proofs.Runs.{drive-keeps, next-less}
 use Rattle.theorems_runs.proofs.Tracings.{start-full, start-weight}
 
-if-more : (t : Bool) (n : ℕ) → moreIf t n ≤ n + 1
-unfolding moreIf
+if-more : (t : Bool) (n : ℕ) → moreIfOf t n ≤ n + 1
+unfolding moreIfOf
 if-more true n = more-most n
 if-more false n = omega arith
 
 -- a step raises no count by more than 2
 module _ (n w v : ℕ) (less : w + 2 ≤ v) where
-  surfacing-small : (t : Tallies) (f s x y : Bool) → SmallTallies n v t → SmallTallies n w (surfacing t f s x y)
-  unfolding surfacing
+  surfacing-small : (t : Tallies) (f s x y : Bool) → SmallTallies n v t → SmallTallies n w (addSurfaceOf t f s x y)
+  unfolding addSurfaceOf
   surfacing-small t f s x y h =
-      let m1 : moreIf f (t .made) ≤ t .made + 1 = if-more f (t .made) in
-      let m2 : moreIf s (moreIf f (t .made)) ≤ moreIf f (t .made) + 1 = if-more s (moreIf f (t .made)) in
-      let w1 : moreIf x (t .weak) ≤ t .weak + 1 = if-more x (t .weak) in
-      let w2 : moreIf y (moreIf x (t .weak)) ≤ moreIf x (t .weak) + 1 = if-more y (moreIf x (t .weak)) in
+      let m1 : moreIfOf f (t .made) ≤ t .made + 1 = if-more f (t .made) in
+      let m2 : moreIfOf s (moreIfOf f (t .made)) ≤ moreIfOf f (t .made) + 1 = if-more s (moreIfOf f (t .made)) in
+      let w1 : moreIfOf x (t .weak) ≤ t .weak + 1 = if-more x (t .weak) in
+      let w2 : moreIfOf y (moreIfOf x (t .weak)) ≤ moreIfOf x (t .weak) + 1 = if-more y (moreIfOf x (t .weak)) in
       record { made = omega (arith, h .made); dim = omega (arith, h .dim); spent = omega (arith, h .spent); caught = omega (arith, h .caught); gone = omega (arith, h .gone); surface = omega (arith, h .surface, more-most (t .surface)); weak = omega (arith, h .weak) }
 
-  tallies-small : (t : Tallies) (e : End) (f s : Bool) → SmallTallies n v t → SmallTallies n w (talliesAfter t e f s)
-  unfolding talliesAfter dimmer spending catching going
+  tallies-small : (t : Tallies) (e : End) (f s : Bool) → SmallTallies n v t → SmallTallies n w (talliesAfterOf t e f s)
+  unfolding talliesAfterOf addDimOf addSpentOf addCaughtOf addGoneOf
   tallies-small t dim f s h = record { made = omega (arith, h .made); dim = omega (arith, h .dim, more-most (t .dim)); spent = omega (arith, h .spent); caught = omega (arith, h .caught); gone = omega (arith, h .gone); surface = omega (arith, h .surface); weak = omega (arith, h .weak) }
   tallies-small t spent f s h = record { made = omega (arith, h .made); dim = omega (arith, h .dim); spent = omega (arith, h .spent, more-most (t .spent)); caught = omega (arith, h .caught); gone = omega (arith, h .gone); surface = omega (arith, h .surface); weak = omega (arith, h .weak) }
   tallies-small t gone f s h = record { made = omega (arith, h .made); dim = omega (arith, h .dim); spent = omega (arith, h .spent); caught = omega (arith, h .caught); gone = omega (arith, h .gone, more-most (t .gone)); surface = omega (arith, h .surface); weak = omega (arith, h .weak) }
@@ -52,12 +52,12 @@ module _ (n w v : ℕ) (less : w + 2 ≤ v) where
   tallies-small t (parted x y z) f s h = surfacing-small t f s _ _ h
   tallies-small t (refusing k) f s h = record { made = omega (arith, h .made); dim = omega (arith, h .dim); spent = omega (arith, h .spent); caught = omega (arith, h .caught); gone = omega (arith, h .gone); surface = omega (arith, h .surface); weak = omega (arith, h .weak) }
 
-  after-small : (r : NonSeqTraceReport) (power : Float) (s : Step) → SmallCounts n v r → SmallCounts n w (reportAfter r power s)
-  unfolding reportAfter
+  after-small : (r : NonSeqTraceReport) (power : Float) (s : Step) → SmallCounts n v r → SmallCounts n w (reportAfterOf r power s)
+  unfolding reportAfterOf
   after-small r power s h =
       record {
         tallies = tallies-small (r .tallies) (s .end) (s .«first») (s .second) (h .tallies);
-        interactions = omega (arith, h .interactions, if-more (interacts (s .end)) (r .«total_interactions»));
+        interactions = omega (arith, h .interactions, if-more (isInteractionOf (s .end)) (r .«total_interactions»));
       }
 
   counted-small : (r : NonSeqTraceReport) → SmallCounts n v r → SmallCounts n w (countedOf r)
@@ -87,9 +87,9 @@ module _ {M : Type 0} (put : M → DetectorHit → Outcome M) (S : Scene) (given
   unfolding stepOn
   next-small m p w v less h =
       let a : ActiveRay = ray put S given m p in
-      let s : Step = turnOf S a in
-      let place : ℕ = takenOf given (p .stack) (p .left) .left in
-      settle-either put (SmallCounts n w) m place (p .report) (reportAfter (p .report) (a .ray .energy) s) (refusalIn (s .end) place) (hitIn (s .end))
+      let s : Step = takeStepOf S a in
+      let place : ℕ = takenFrom given (p .stack) (p .left) .left in
+      settle-either put (SmallCounts n w) m place (p .report) (reportAfterOf (p .report) (a .ray .energy) s) (refusalInOf (s .end) place) (hitInOf (s .end))
       (after-small n w v less (p .report) (a .ray .energy) s h) (counted-small n w v less (p .report) h)
 
   next-kept : (m : M) (p : Progress) → isLeft p ≡ true → Kept given (S .optics .config .«max_bounces») n p → Kept given (S .optics .config .«max_bounces») n (next put S given m p)
@@ -114,14 +114,14 @@ less-small n w r k =
 
 -- after any k steps, refused or not, no count of the report is above 1073733632
 pub counts-small : {M : Type 0} (put : M → DetectorHit → Outcome M) (ds : Detectors) (B : Batch) (m : M) (k : ℕ) → B .config .«max_bounces» ≤ 16 → B .rays ≤ 4096
-    → SmallCounts 1073733632 0 (drive put (sceneIn B ds) (raysOf B) k m (startOf (raysOf B) (B .rays)) .progress .report)
+    → SmallCounts 1073733632 0 (drive put (sceneIn B ds) (raysIn B) k m (startOf (raysIn B) (B .rays)) .progress .report)
 counts-small put ds B m k lim few =
     let b : ℕ = B .config .«max_bounces» in
-    let start : Progress = startOf (raysOf B) (B .rays) in
-    let r : Kept (raysOf B) b 1073733632 (drive put (sceneIn B ds) (raysOf B) k m start .progress) =
-    drive-keeps put (sceneIn B ds) (raysOf B) (Kept (raysOf B) b 1073733632) (λ u p l h. next-kept put (sceneIn B ds) (raysOf B) 1073733632 lim u p l h) k m start
+    let start : Progress = startOf (raysIn B) (B .rays) in
+    let r : Kept (raysIn B) b 1073733632 (drive put (sceneIn B ds) (raysIn B) k m start .progress) =
+    drive-keeps put (sceneIn B ds) (raysIn B) (Kept (raysIn B) b 1073733632) (λ u p l h. next-kept put (sceneIn B ds) (raysIn B) 1073733632 lim u p l h) k m start
     (record {
-      full = start-full (raysOf B) (B .rays);
-      small = start-small (raysOf B) (B .rays) _ 1073733632 (omega (arith, start-weight b (raysOf B) (B .rays) lim few));
+      full = start-full (raysIn B) (B .rays);
+      small = start-small (raysIn B) (B .rays) _ 1073733632 (omega (arith, start-weight b (raysIn B) (B .rays) lim few));
     }) in
     less-small 1073733632 _ _ (r .small)

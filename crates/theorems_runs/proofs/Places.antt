@@ -14,10 +14,10 @@ use Rattle.detector.specs.declared.DetectorHit.{DetectorHit}
 use Rattle.memory.specs.Memory.{Outcome}
 use Rattle.step.specs.declared.ActiveRay.{ActiveRay}
 use Rattle.step.specs.Rays.{Scene, Step}
-use Rattle.step.specs.Turn.{turnOf}
+use Rattle.step.specs.Turn.{takeStepOf}
 use Rattle.run.specs.declared.stack.Stack.{Stack}
 use Rattle.run.specs.declared.Progress.{Progress}
-use Rattle.run.specs.Stack.{noRay, takenOf, pushed, pushedIf, popped, afterOf}
+use Rattle.run.specs.Stack.{noRay, takenFrom, pushed, pushedIf, popped, stackAfter}
 use Rattle.run.specs.Run.{isLeft}
 use Rattle.theorems_runs.specs.Sums.{sumLeft, sumMade, Full, Each, Low, Tidy}
 use Rattle.theorems_runs.proofs.Bred.{pick, bred}
@@ -43,8 +43,8 @@ module _ (Q : ℕ → ActiveRay → Type 0) where
   each-if false s a l f h r = h
 
   -- the transmitted ray comes to the next place, or to the one after it
-  pub each-after : (s : Stack) (e : Step) → Full s → Each Q s → (e .«first» ≡ true → Q (popped s .len) (e .reflected)) → ((i : ℕ) → i ≤ popped s .len + 1 → e .second ≡ true → Q i (e .transmitted)) → Each Q (afterOf s e)
-  unfolding afterOf
+  pub each-after : (s : Stack) (e : Step) → Full s → Each Q s → (e .«first» ≡ true → Q (popped s .len) (e .reflected)) → ((i : ℕ) → i ≤ popped s .len + 1 → e .second ≡ true → Q i (e .transmitted)) → Each Q (stackAfter s e)
+  unfolding stackAfter
   each-after s e f h one two =
       pick (Each Q) (ltb (popped s .len) 16)
       (λ q.
@@ -57,7 +57,7 @@ module _ (Q : ℕ → ActiveRay → Type 0) where
 
 -- ---- a tidy stack
 
-pub taken-low : (given : ℕ → ActiveRay) (s : Stack) (left : ℕ) → Tidy s → popped s .len ≤ takenOf given s left .ray .«bounce_count»
+pub taken-low : (given : ℕ → ActiveRay) (s : Stack) (left : ℕ) → Tidy s → popped s .len ≤ takenFrom given s left .ray .«bounce_count»
 taken-low given s left t =
     ⊎-elim (λ z. omega (arith, popped-len s))
     (λ q. rw (top-taken given s left q (t .full .small)) (omega (arith, popped-len s, t .low (s .len - 1) (omega arith))))
@@ -68,7 +68,7 @@ module _ {M : Type 0} (put : M → DetectorHit → Outcome M) (S : Scene) (given
   here = ray put S given m p
 
   abbrev made : Step
-  made = turnOf S here
+  made = takeStepOf S here
 
   abbrev b : ℕ
   b = S .optics .config .«max_bounces»

@@ -14,21 +14,21 @@ use borrow.Author.Tests.{ltb-true, ltb-false, lt-ltb, le-ltb, le-leb}
 use Rattle.detectors.specs.declared.Detectors.{Detectors}
 use Rattle.scene.specs.declared.SolidNo.{SolidNo}
 use Rattle.media.specs.declared.Media.{Media}
-use Rattle.media.specs.Media.{newestOf, enteredOf, leftOf, lastOf, withoutOf, solidIn}
+use Rattle.media.specs.Media.{newestOf, enteredOf, leftOf, lastPlaceOf, withoutPlace, solidIn}
 use Rattle.detector.specs.declared.DetectorHit.{DetectorHit}
 use Rattle.memory.specs.Memory.{Outcome}
 use Rattle.step.specs.declared.ActiveRay.{ActiveRay}
 use Rattle.step.specs.Rays.{Scene, Step}
-use Rattle.step.specs.Turn.{turnOf}
-use Rattle.given_rays.specs.Given.{givenOf, readMediaOf, blank}
+use Rattle.step.specs.Turn.{takeStepOf}
+use Rattle.given_rays.specs.Given.{givenAtOf, readMediaOf, noRayOf}
 use Rattle.run.specs.declared.stack.Stack.{Stack}
 use Rattle.run.specs.declared.stack.Taken.{Taken}
 use Rattle.run.specs.declared.Progress.{Progress}
-use Rattle.run.specs.Stack.{loadedOf, takenOf, pushedIf, popped, afterOf, emptyStack}
+use Rattle.run.specs.Stack.{loadOf, takenFrom, pushedIf, popped, stackAfter, emptyStackOf}
 use Rattle.run.specs.Run.{isLeft, drive}
-use Rattle.trace.specs.Trace.{Batch, raysOf, startOf, sceneIn}
+use Rattle.trace.specs.Trace.{Batch, raysIn, startOf, sceneIn}
 use Rattle.theorems_runs.specs.Sums.{Each, Tidy}
-use Rattle.theorems_runs.specs.Room.{Housed, rayOf, plainAfter, Roomy}
+use Rattle.theorems_runs.specs.Room.{Housed, nextRay, plainAfter, Roomy}
 use Rattle.theorems_runs.proofs.Bred.{pick, Later, bred}
 use Rattle.theorems_runs.proofs.Stacks.{ray, next, next-stack, next-left, full-after, top-taken, given-taken, some-left}
 use Rattle.theorems_runs.proofs.Weights.{if-true, one-more, two-more}
@@ -42,7 +42,7 @@ pub entered-plain : (m : Media) (s : SolidNo) → m .depth < 24 → enteredOf m 
 unfolding enteredOf
 entered-plain m s h = rw (lt-ltb (m .depth) 24 h)
 
-pub left-plain : (m : Media) (s : SolidNo) → m .depth ≤ 24 → leftOf m s ≡ withoutOf m (lastOf (m .list) (m .depth) s)
+pub left-plain : (m : Media) (s : SolidNo) → m .depth ≤ 24 → leftOf m s ≡ withoutPlace m (lastPlaceOf (m .list) (m .depth) s)
 unfolding leftOf
 left-plain m s h = rw (le-leb (m .depth) 24 h)
 
@@ -60,12 +60,12 @@ pushes-none : (s : Stack) (a : ActiveRay) (t : Bool) → t ≡ false → pushedI
 unfolding pushedIf
 pushes-none s a t e = rw e
 
-after-room : (s : Stack) (e : Step) → popped s .len < 16 → afterOf s e ≡ plainAfter s e
-unfolding afterOf
+after-room : (s : Stack) (e : Step) → popped s .len < 16 → stackAfter s e ≡ plainAfter s e
+unfolding stackAfter
 after-room s e h = rw (lt-ltb (popped s .len) 16 h)
 
-after-none : (s : Stack) (e : Step) → 16 ≤ popped s .len → e .«first» ≡ false → e .second ≡ false → afterOf s e ≡ plainAfter s e
-unfolding afterOf
+after-none : (s : Stack) (e : Step) → 16 ≤ popped s .len → e .«first» ≡ false → e .second ≡ false → stackAfter s e ≡ plainAfter s e
+unfolding stackAfter
 after-none s e h x y =
     rw (le-ltb (popped s .len) 16 h)
     (sym (pushes-none (pushedIf (e .«first») (popped s) (e .reflected)) (e .transmitted) (e .second) y ∙ pushes-none (popped s) (e .reflected) (e .«first») x))
@@ -93,22 +93,22 @@ module _ (S : Scene) (given : ℕ → ActiveRay) (n : ℕ) (lim : S .optics .con
   abbrev b : ℕ
   b = S .optics .config .«max_bounces»
 
-  taken-housed : (p : Progress) → isLeft p ≡ true → Orderly n p → Housed (rayOf given p)
+  taken-housed : (p : Progress) → isLeft p ≡ true → Orderly n p → Housed (nextRay given p)
   taken-housed p l o =
       ⊎-elim
-      (λ z. rw (given-taken given (p .stack) (p .left) z, rayOf) (homes (p .left - 1) (omega (arith, some-left p l z, o .left))))
-      (λ q. rw (top-taken given (p .stack) (p .left) q (o .tidy .full .small), rayOf) (o .each (p .stack .len - 1) (omega arith)))
+      (λ z. rw (given-taken given (p .stack) (p .left) z, nextRay) (homes (p .left - 1) (omega (arith, some-left p l z, o .left))))
+      (λ q. rw (top-taken given (p .stack) (p .left) q (o .tidy .full .small), nextRay) (o .each (p .stack .len - 1) (omega arith)))
       (eq-zero-or-pos (p .stack .len))
 
-  taken-left : (s : Stack) (left : ℕ) → takenOf given s left .left ≤ left
-  unfolding takenOf loadedOf
+  taken-left : (s : Stack) (left : ℕ) → takenFrom given s left .left ≤ left
+  unfolding takenFrom loadOf
   taken-left s left = pick (λ (t : Taken). t .left ≤ left) (ltb 0 (s .len) && leb (s .len) 17) (λ q. omega arith) (λ q. omega arith)
 
   module _ {M : Type 0} (put : M → DetectorHit → Outcome M) where
     next-orderly : (m : M) (p : Progress) → isLeft p ≡ true → Orderly n p → Orderly n (next put S given m p)
     next-orderly m p l o =
-        let a : ActiveRay = rayOf given p in
-        let s : Step = turnOf S a in
+        let a : ActiveRay = nextRay given p in
+        let s : Step = takeStepOf S a in
         let h : Housed a = taken-housed p l o in
         record {
           tidy = next-tidy put S given m p lim (o .tidy);
@@ -120,30 +120,30 @@ module _ (S : Scene) (given : ℕ → ActiveRay) (n : ℕ) (lim : S .optics .con
           left = rw (next-left put S given m p) (omega (arith, o .left, taken-left (p .stack) (p .left)));
         }
 
-    next-plain : (m : M) (p : Progress) → Orderly n p → afterOf (p .stack) (turnOf S (rayOf given p)) ≡ plainAfter (p .stack) (turnOf S (rayOf given p))
+    next-plain : (m : M) (p : Progress) → Orderly n p → stackAfter (p .stack) (takeStepOf S (nextRay given p)) ≡ plainAfter (p .stack) (takeStepOf S (nextRay given p))
     next-plain m p o = more (ltb (popped (p .stack) .len) 16) refl
       where
-        more : (t : Bool) → ltb (popped (p .stack) .len) 16 ≡ t → afterOf (p .stack) (turnOf S (rayOf given p)) ≡ plainAfter (p .stack) (turnOf S (rayOf given p))
-        more true q = after-room (p .stack) (turnOf S (rayOf given p)) (ltb-true (popped (p .stack) .len) 16 q)
+        more : (t : Bool) → ltb (popped (p .stack) .len) 16 ≡ t → stackAfter (p .stack) (takeStepOf S (nextRay given p)) ≡ plainAfter (p .stack) (takeStepOf S (nextRay given p))
+        more true q = after-room (p .stack) (takeStepOf S (nextRay given p)) (ltb-true (popped (p .stack) .len) 16 q)
         more false q =
             let g : 16 ≤ popped (p .stack) .len = ltb-false (popped (p .stack) .len) 16 q in
-            after-none (p .stack) (turnOf S (rayOf given p)) g
+            after-none (p .stack) (takeStepOf S (nextRay given p)) g
             (if-true _ (λ y. omega (arith, room-one put S given m p lim (o .tidy) y)))
             (if-true _ (λ y. omega (arith, room-two put S given m p lim (o .tidy) y)))
 
     orderly-roomy : (m : M) (p : Progress) → isLeft p ≡ true → Orderly n p → Roomy S given p
     orderly-roomy m p l o =
-        let h : Housed (rayOf given p) = taken-housed p l o in
+        let h : Housed (nextRay given p) = taken-housed p l o in
         record {
           full = o .tidy .full;
-          after-full = full-after (p .stack) (turnOf S (rayOf given p)) (o .tidy .full);
+          after-full = full-after (p .stack) (takeStepOf S (nextRay given p)) (o .tidy .full);
           after-plain = next-plain m p o;
           long = h .long;
           going = λ q. record { deep = omega (arith, h .deep); bounces = omega arith; reflections = omega (arith, h .reflections); tirs = omega (arith, h .tirs) };
         }
 
     start-orderly : Orderly n (startOf given n)
-    unfolding startOf emptyStack
+    unfolding startOf emptyStackOf
     start-orderly = record { tidy = start-tidy given n; each = λ i q. absurd (omega arith); left = omega arith }
 
     -- after any k steps of a run, if a ray is left
@@ -154,16 +154,16 @@ module _ (S : Scene) (given : ℕ → ActiveRay) (n : ℕ) (lim : S .optics .con
 
 -- ---- the given rays
 
-given-housed : (v : List Float) (t : List ℕ) (i : ℕ) → givenOf v t i .media .depth ≤ 8 → Housed (givenOf v t i)
-unfolding givenOf readMediaOf blank
+given-housed : (v : List Float) (t : List ℕ) (i : ℕ) → givenAtOf v t i .media .depth ≤ 8 → Housed (givenAtOf v t i)
+unfolding givenAtOf readMediaOf noRayOf
 given-housed v t i =
     pick (λ (a : ActiveRay). (a .media .depth ≤ 8 → Housed a)) (leb (i * 8 + 8) (length v) && leb (i * 10 + 10) (length t))
     (λ q h. record { deep = omega arith; long = refl; reflections = omega arith; tirs = omega arith })
     (λ q h. record { deep = omega arith; long = refl; reflections = omega arith; tirs = omega arith })
 
 -- in a run of any number of steps of rays with at most 8 media no guard acts
-pub roomy : {M : Type 0} (put : M → DetectorHit → Outcome M) (ds : Detectors) (B : Batch) (m : M) (k : ℕ) → B .config .«max_bounces» ≤ 16 → ((i : ℕ) → i < B .rays → raysOf B i .media .depth ≤ 8)
-    → isLeft (drive put (sceneIn B ds) (raysOf B) k m (startOf (raysOf B) (B .rays)) .progress) ≡ true
-    → Roomy (sceneIn B ds) (raysOf B) (drive put (sceneIn B ds) (raysOf B) k m (startOf (raysOf B) (B .rays)) .progress)
+pub roomy : {M : Type 0} (put : M → DetectorHit → Outcome M) (ds : Detectors) (B : Batch) (m : M) (k : ℕ) → B .config .«max_bounces» ≤ 16 → ((i : ℕ) → i < B .rays → raysIn B i .media .depth ≤ 8)
+    → isLeft (drive put (sceneIn B ds) (raysIn B) k m (startOf (raysIn B) (B .rays)) .progress) ≡ true
+    → Roomy (sceneIn B ds) (raysIn B) (drive put (sceneIn B ds) (raysIn B) k m (startOf (raysIn B) (B .rays)) .progress)
 roomy put ds B m k lim few =
-    roomy-after (sceneIn B ds) (raysOf B) (B .rays) lim (λ i q. given-housed (B .rayValues) (B .rayTags) i (few i q)) put k m
+    roomy-after (sceneIn B ds) (raysIn B) (B .rays) lim (λ i q. given-housed (B .rayValues) (B .rayTags) i (few i q)) put k m

@@ -7,12 +7,12 @@ use Rattle.detector.specs.declared.DetectorHit.{DetectorHit}
 use Rattle.memory.specs.Memory.{Outcome, done, refused}
 use Rattle.step.specs.declared.ActiveRay.{ActiveRay}
 use Rattle.step.specs.Rays.{Scene, End, dim, spent, gone, caught, stopped, parted, refusing}
-use Rattle.step.specs.Turn.{turnOf}
+use Rattle.step.specs.Turn.{takeStepOf}
 use Rattle.report.specs.declared.NonSeqTraceReport.{NonSeqTraceReport}
-use Rattle.report.specs.Report.{interacts, moreIf, reportAfter, countedOf}
+use Rattle.report.specs.Report.{isInteractionOf, moreIfOf, reportAfterOf, countedOf}
 use Rattle.run.specs.declared.Progress.{Progress}
-use Rattle.run.specs.Stack.{takenOf}
-use Rattle.run.specs.Run.{Run, hitIn, refusalIn, putFrom, isLeft, andThen, settleWith, stepOn, drive}
+use Rattle.run.specs.Stack.{takenFrom}
+use Rattle.run.specs.Run.{Run, hitInOf, refusalInOf, putFrom, isLeft, andThen, settleWith, stepOn, drive}
 use Rattle.theorems_runs.specs.Sums.{sumLeft, heft, share, Full}
 use Rattle.theorems_runs.proofs.Bred.{pick, false-true, bred, more-most}
 use Rattle.theorems_runs.proofs.Stacks.{ray, next, next-full, next-sum, taken-sum}
@@ -29,8 +29,8 @@ not-done n place m m' e = false-true (ap isDone e)
 
 -- ---- the interactions that a step counts
 
-if-more : (t : Bool) (n : ℕ) → moreIf t n ≤ n + cond t 1 0
-unfolding moreIf
+if-more : (t : Bool) (n : ℕ) → moreIfOf t n ≤ n + cond t 1 0
+unfolding moreIfOf
 if-more true n = more-most n
 if-more false n = omega arith
 
@@ -40,9 +40,9 @@ module _ {M : Type 0} (put : M → DetectorHit → Outcome M) (S : Scene) (given
   put-count place r after (done m) h = h
   put-count place r after (refused n at m) h = more-most (r .«total_interactions»)
 
-  settle-count : (m : M) (place : ℕ) (r after : NonSeqTraceReport) (e : End) → after .«total_interactions» ≤ r .«total_interactions» + cond (interacts e) 1 0
-      → (settleWith put m place r after (refusalIn e place) (hitIn e)) .report .«total_interactions» ≤ r .«total_interactions» + cond (interacts e) 1 0
-  unfolding hitIn interacts
+  settle-count : (m : M) (place : ℕ) (r after : NonSeqTraceReport) (e : End) → after .«total_interactions» ≤ r .«total_interactions» + cond (isInteractionOf e) 1 0
+      → (settleWith put m place r after (refusalInOf e place) (hitInOf e)) .report .«total_interactions» ≤ r .«total_interactions» + cond (isInteractionOf e) 1 0
+  unfolding hitInOf isInteractionOf
   settle-count m place r after dim h = h
   settle-count m place r after spent h = h
   settle-count m place r after gone h = h
@@ -51,9 +51,9 @@ module _ {M : Type 0} (put : M → DetectorHit → Outcome M) (S : Scene) (given
   settle-count m place r after (parted x y z) h = h
   settle-count m place r after (refusing n) h = h
 
-  pub next-count : (m : M) (p : Progress) → next put S given m p .report .«total_interactions» ≤ p .report .«total_interactions» + cond (interacts (turnOf S (ray put S given m p) .end)) 1 0
-  unfolding stepOn reportAfter
-  next-count m p = settle-count m _ (p .report) _ (turnOf S (ray put S given m p) .end) (if-more (interacts (turnOf S (ray put S given m p) .end)) (p .report .«total_interactions»))
+  pub next-count : (m : M) (p : Progress) → next put S given m p .report .«total_interactions» ≤ p .report .«total_interactions» + cond (isInteractionOf (takeStepOf S (ray put S given m p) .end)) 1 0
+  unfolding stepOn reportAfterOf
+  next-count m p = settle-count m _ (p .report) _ (takeStepOf S (ray put S given m p) .end) (if-more (isInteractionOf (takeStepOf S (ray put S given m p) .end)) (p .report .«total_interactions»))
 
   -- ---- what each step keeps
 
@@ -96,16 +96,16 @@ module _ {M : Type 0} (put : M → DetectorHit → Outcome M) (S : Scene) (given
   -- every step lowers the weight
   pub next-less : (m : M) (p : Progress) → limit ≤ 16 → Full (p .stack) → isLeft p ≡ true → weight (next put S given m p) + 1 ≤ weight p
   next-less m p lim h l =
-      omega (arith, next-sum put S given m p (heft limit) h l, made-heft limit (ray put S given m p) (turnOf S (ray put S given m p)) lim (bred S (ray put S given m p)))
+      omega (arith, next-sum put S given m p (heft limit) h l, made-heft limit (ray put S given m p) (takeStepOf S (ray put S given m p)) lim (bred S (ray put S given m p)))
 
   -- the interactions counted and those that can still come do not rise
   pub next-shares : (m : M) (p : Progress) → limit ≤ 16 → Full (p .stack) → isLeft p ≡ true
       → next put S given m p .report .«total_interactions» + sumLeft (share limit) given (next put S given m p) ≤ p .report .«total_interactions» + sumLeft (share limit) given p
   next-shares m p lim h l =
-      omega (arith, next-count m p, next-sum put S given m p (share limit) h l, made-share limit (ray put S given m p) (turnOf S (ray put S given m p)) lim (bred S (ray put S given m p)))
+      omega (arith, next-count m p, next-sum put S given m p (share limit) h l, made-share limit (ray put S given m p) (takeStepOf S (ray put S given m p)) lim (bred S (ray put S given m p)))
 
   pub weight-pos : (p : Progress) → Full (p .stack) → isLeft p ≡ true → 1 ≤ weight p
-  weight-pos p h l = omega (arith, taken-sum (heft limit) given p h l, heft-pos limit (takenOf given (p .stack) (p .left) .ray))
+  weight-pos p h l = omega (arith, taken-sum (heft limit) given p h l, heft-pos limit (takenFrom given (p .stack) (p .left) .ray))
 
   weightless : (p : Progress) (t : Bool) → isLeft p ≡ t → Full (p .stack) → weight p ≤ 0 → isLeft p ≡ false
   weightless p true q h z = absurd (omega (arith, weight-pos p h q))

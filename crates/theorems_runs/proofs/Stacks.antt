@@ -15,12 +15,12 @@ use Rattle.detector.specs.declared.DetectorHit.{DetectorHit}
 use Rattle.memory.specs.Memory.{Outcome}
 use Rattle.step.specs.declared.ActiveRay.{ActiveRay}
 use Rattle.step.specs.Rays.{Scene, Step}
-use Rattle.step.specs.Turn.{turnOf}
+use Rattle.step.specs.Turn.{takeStepOf}
 use Rattle.run.specs.declared.stack.Stack.{Stack}
 use Rattle.run.specs.declared.Progress.{Progress}
-use Rattle.run.specs.Stack.{noRay, loadedOf, takenOf, pushed, pushedIf, popped, afterOf}
+use Rattle.run.specs.Stack.{noRay, loadOf, takenFrom, pushed, pushedIf, popped, stackAfter}
 use Rattle.run.specs.Run.{isLeft, stepOn}
-use Rattle.theorems_runs.specs.Sums.{sumOf, sumGiven, sumStack, sumLeft, sumMade, Full}
+use Rattle.theorems_runs.specs.Sums.{sumFirst, sumGiven, sumStack, sumLeft, sumMade, Full}
 use Rattle.theorems_runs.proofs.Bred.{pick, false-true}
 
 -- ---- the stack
@@ -43,8 +43,8 @@ unfolding pushedIf pushed
 if-len true s a = omega arith
 if-len false s a = omega arith
 
-pub full-after : (s : Stack) (e : Step) → Full s → Full (afterOf s e)
-unfolding afterOf
+pub full-after : (s : Stack) (e : Step) → Full s → Full (stackAfter s e)
+unfolding stackAfter
 full-after s e h =
     pick Full (ltb (popped s .len) 16)
     (λ q.
@@ -56,13 +56,13 @@ full-after s e h =
 -- ---- the sum over the stack
 
 module _ (f : ActiveRay → ℕ) where
-  sum-set : (n i : ℕ) (xs : List ActiveRay) (a : ActiveRay) → n ≤ i → sumOf f (set xs i a) n ≡ sumOf f xs n
-  unfolding sumOf
+  sum-set : (n i : ℕ) (xs : List ActiveRay) (a : ActiveRay) → n ≤ i → sumFirst f (set xs i a) n ≡ sumFirst f xs n
+  unfolding sumFirst
   sum-set zero i xs a h = refl
   sum-set (suc n) i xs a h = rw (getD-set-other xs i n a noRay (λ e. omega arith), sum-set n i xs a (omega arith))
 
-  sum-split : (xs : List ActiveRay) (n : ℕ) → 0 < n → sumOf f xs n ≡ f (getD xs (n - 1) noRay) + sumOf f xs (n - 1)
-  unfolding sumOf
+  sum-split : (xs : List ActiveRay) (n : ℕ) → 0 < n → sumFirst f xs n ≡ f (getD xs (n - 1) noRay) + sumFirst f xs (n - 1)
+  unfolding sumFirst
   sum-split xs zero h = absurd (omega arith)
   sum-split xs (suc m) h = let q : suc m - 1 ≡ m = omega arith in rw q
 
@@ -72,7 +72,7 @@ module _ (f : ActiveRay → ℕ) where
   given-split given (suc m) h = let q : suc m - 1 ≡ m = omega arith in rw q
 
   sum-pushed : (s : Stack) (a : ActiveRay) → s .len < 17 → Full s → sumStack f (pushed s a) ≡ f a + sumStack f s
-  unfolding sumStack pushed sumOf
+  unfolding sumStack pushed sumFirst
   sum-pushed s a q h =
       let l : s .len < length (s .rays) = omega (arith, h .room) in
       rw (add-one, getD-set-same (s .rays) (s .len) a noRay l, sum-set (s .len) (s .len) (s .rays) a (omega arith))
@@ -83,8 +83,8 @@ module _ (f : ActiveRay → ℕ) where
   sum-if false s a q h = omega arith
 
   -- with room for both rays
-  pub sum-after : (s : Stack) (e : Step) → Full s → popped s .len < 16 → sumStack f (afterOf s e) ≡ sumMade f e + sumStack f (popped s)
-  unfolding afterOf sumMade
+  pub sum-after : (s : Stack) (e : Step) → Full s → popped s .len < 16 → sumStack f (stackAfter s e) ≡ sumMade f e + sumStack f (popped s)
+  unfolding stackAfter sumMade
   sum-after s e h l =
       let u : Stack = pushedIf (e .«first») (popped s) (e .reflected) in
       let p1 : sumStack f u ≡ cond (e .«first») (f (e .reflected)) 0 + sumStack f (popped s) = sum-if (e .«first») (popped s) (e .reflected) (omega arith) (full-popped s h) in
@@ -93,25 +93,25 @@ module _ (f : ActiveRay → ℕ) where
       rw (lt-ltb (popped s .len) 16 l) (omega (arith, p1, p2))
 
   -- without
-  pub sum-none : (s : Stack) (e : Step) → 16 ≤ popped s .len → sumStack f (afterOf s e) ≡ sumStack f (popped s)
-  unfolding afterOf
+  pub sum-none : (s : Stack) (e : Step) → 16 ≤ popped s .len → sumStack f (stackAfter s e) ≡ sumStack f (popped s)
+  unfolding stackAfter
   sum-none s e l = rw (le-ltb (popped s .len) 16 l)
 
-  pub sum-most : (s : Stack) (e : Step) → Full s → sumStack f (afterOf s e) ≤ sumMade f e + sumStack f (popped s)
+  pub sum-most : (s : Stack) (e : Step) → Full s → sumStack f (stackAfter s e) ≤ sumMade f e + sumStack f (popped s)
   sum-most s e h = more (ltb (popped s .len) 16) refl
     where
-      more : (t : Bool) → ltb (popped s .len) 16 ≡ t → sumStack f (afterOf s e) ≤ sumMade f e + sumStack f (popped s)
+      more : (t : Bool) → ltb (popped s .len) 16 ≡ t → sumStack f (stackAfter s e) ≤ sumMade f e + sumStack f (popped s)
       more true q = omega (arith, sum-after s e h (ltb-true (popped s .len) 16 q))
       more false q = omega (arith, sum-none s e (ltb-false (popped s .len) 16 q))
 
 -- ---- the ray that is taken
 
-pub top-taken : (given : ℕ → ActiveRay) (s : Stack) (left : ℕ) → 0 < s .len → s .len ≤ 17 → takenOf given s left ≡ record { ray = getD (s .rays) (s .len - 1) noRay; left = left }
-unfolding takenOf
+pub top-taken : (given : ℕ → ActiveRay) (s : Stack) (left : ℕ) → 0 < s .len → s .len ≤ 17 → takenFrom given s left ≡ record { ray = getD (s .rays) (s .len - 1) noRay; left = left }
+unfolding takenFrom
 top-taken given s left p q = rw (lt-ltb 0 (s .len) p, le-leb (s .len) 17 q)
 
-pub given-taken : (given : ℕ → ActiveRay) (s : Stack) (left : ℕ) → s .len ≡ 0 → takenOf given s left ≡ record { ray = given (left - 1); left = left - 1 }
-unfolding takenOf loadedOf
+pub given-taken : (given : ℕ → ActiveRay) (s : Stack) (left : ℕ) → s .len ≡ 0 → takenFrom given s left ≡ record { ray = given (left - 1); left = left - 1 }
+unfolding takenFrom loadOf
 given-taken given s left z = rw (le-ltb 0 (s .len) (omega arith))
 
 pub some-left : (p : Progress) → isLeft p ≡ true → p .stack .len ≡ 0 → 0 < p .left
@@ -137,13 +137,13 @@ module _ (f : ActiveRay → ℕ) (given : ℕ → ActiveRay) where
   top-sum s h = sum-split f (s .rays) (s .len) h
 
   empty-sum : (s : Stack) → s .len ≡ 0 → sumStack f s ≡ 0
-  unfolding sumStack sumOf
+  unfolding sumStack sumFirst
   empty-sum s h = rw h
 
   empty-popped : (s : Stack) → s .len ≡ 0 → sumStack f (popped s) ≡ 0
   empty-popped s h = empty-sum (popped s) (omega (arith, popped-len s))
 
-  pub taken-sum : (p : Progress) → Full (p .stack) → isLeft p ≡ true → sumLeft f given p ≡ f (takenOf given (p .stack) (p .left) .ray) + sumStack f (popped (p .stack)) + sumGiven f given (takenOf given (p .stack) (p .left) .left)
+  pub taken-sum : (p : Progress) → Full (p .stack) → isLeft p ≡ true → sumLeft f given p ≡ f (takenFrom given (p .stack) (p .left) .ray) + sumStack f (popped (p .stack)) + sumGiven f given (takenFrom given (p .stack) (p .left) .left)
   unfolding sumLeft
   taken-sum p h l =
       ⊎-elim
@@ -156,25 +156,25 @@ module _ (f : ActiveRay → ℕ) (given : ℕ → ActiveRay) where
 
 module _ {M : Type 0} (put : M → DetectorHit → Outcome M) (S : Scene) (given : ℕ → ActiveRay) (m : M) (p : Progress) where
   abbrev pub ray : ActiveRay
-  ray = takenOf given (p .stack) (p .left) .ray
+  ray = takenFrom given (p .stack) (p .left) .ray
 
   abbrev pub next : Progress
   next = stepOn put S given m p .progress
 
-  pub next-stack : next .stack ≡ afterOf (p .stack) (turnOf S ray)
+  pub next-stack : next .stack ≡ stackAfter (p .stack) (takeStepOf S ray)
   unfolding stepOn
   next-stack = refl
 
-  pub next-left : next .left ≡ takenOf given (p .stack) (p .left) .left
+  pub next-left : next .left ≡ takenFrom given (p .stack) (p .left) .left
   unfolding stepOn
   next-left = refl
 
   pub next-full : Full (p .stack) → Full (next .stack)
-  next-full h = rw next-stack (full-after (p .stack) (turnOf S ray) h)
+  next-full h = rw next-stack (full-after (p .stack) (takeStepOf S ray) h)
 
-  pub next-is : (f : ActiveRay → ℕ) → sumLeft f given next ≡ sumStack f (afterOf (p .stack) (turnOf S ray)) + sumGiven f given (takenOf given (p .stack) (p .left) .left)
+  pub next-is : (f : ActiveRay → ℕ) → sumLeft f given next ≡ sumStack f (stackAfter (p .stack) (takeStepOf S ray)) + sumGiven f given (takenFrom given (p .stack) (p .left) .left)
   unfolding stepOn sumLeft
   next-is f = refl
 
-  pub next-sum : (f : ActiveRay → ℕ) → Full (p .stack) → isLeft p ≡ true → sumLeft f given next + f ray ≤ sumMade f (turnOf S ray) + sumLeft f given p
-  next-sum f h l = omega (arith, next-is f, taken-sum f given p h l, sum-most f (p .stack) (turnOf S ray) h)
+  pub next-sum : (f : ActiveRay → ℕ) → Full (p .stack) → isLeft p ≡ true → sumLeft f given next + f ray ≤ sumMade f (takeStepOf S ray) + sumLeft f given p
+  next-sum f h l = omega (arith, next-is f, taken-sum f given p h l, sum-most f (p .stack) (takeStepOf S ray) h)

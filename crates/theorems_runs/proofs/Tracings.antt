@@ -11,10 +11,10 @@ use Rattle.step.specs.declared.ActiveRay.{ActiveRay}
 use Rattle.step.specs.Rays.{Scene}
 use Rattle.report.specs.Report.{startReportOf}
 use Rattle.run.specs.declared.Progress.{Progress}
-use Rattle.run.specs.Stack.{emptyStack}
+use Rattle.run.specs.Stack.{emptyStackOf}
 use Rattle.run.specs.Run.{isLeft, drive}
-use Rattle.trace.specs.Trace.{Batch, raysOf, allSteps, startOf, sceneIn, runOn}
-use Rattle.theorems_runs.specs.Sums.{sumOf, sumGiven, sumStack, sumLeft, heft, share, Full}
+use Rattle.trace.specs.Trace.{Batch, raysIn, allSteps, startOf, sceneIn, runOn}
+use Rattle.theorems_runs.specs.Sums.{sumFirst, sumGiven, sumStack, sumLeft, heft, share, Full}
 use Rattle.theorems_runs.proofs.Stacks.{next-full}
 use Rattle.theorems_runs.proofs.Weights.{heft-most}
 use Rattle.theorems_runs.proofs.Runs.{drive-keeps, drive-stops, next-shares}
@@ -27,11 +27,11 @@ given-most f given c zero h = omega arith
 given-most f given c (suc n) h = omega (arith, suc-mul n c, h n (omega arith), given-most f given c n (λ i q. h i (omega arith)))
 
 pub start-full : (given : ℕ → ActiveRay) (n : ℕ) → Full (startOf given n .stack)
-unfolding startOf emptyStack
+unfolding startOf emptyStackOf
 start-full given n = record { room = refl; small = omega arith }
 
 pub start-sum : (f : ActiveRay → ℕ) (given : ℕ → ActiveRay) (n : ℕ) → sumLeft f given (startOf given n) ≡ sumGiven f given n
-unfolding startOf emptyStack sumLeft sumStack sumOf
+unfolding startOf emptyStackOf sumLeft sumStack sumFirst
 start-sum f given n = omega arith
 
 start-count : (given : ℕ → ActiveRay) (n : ℕ) → startOf given n .report .«total_interactions» ≡ 0
@@ -59,24 +59,24 @@ module _ {M : Type 0} (put : M → DetectorHit → Outcome M) (ds : Detectors) (
   pub enough : (z : M) → B .rays ≤ 4096 → runOn put ds B m .outcome ≡ done z → isLeft (runOn put ds B m .progress) ≡ false
   unfolding runOn
   enough z few =
-      drive-stops put (sceneIn B ds) (raysOf B) lim allSteps m z (startOf (raysOf B) (B .rays)) (start-full (raysOf B) (B .rays))
-      (omega (arith, start-weight (B .config .«max_bounces») (raysOf B) (B .rays) lim few))
+      drive-stops put (sceneIn B ds) (raysIn B) lim allSteps m z (startOf (raysIn B) (B .rays)) (start-full (raysIn B) (B .rays))
+      (omega (arith, start-weight (B .config .«max_bounces») (raysIn B) (B .rays) lim few))
 
   -- the interactions of any run are at most those that the given rays can lead to
-  pub bound-any : runOn put ds B m .progress .report .«total_interactions» ≤ sumGiven (share (B .config .«max_bounces»)) (raysOf B) (B .rays)
+  pub bound-any : runOn put ds B m .progress .report .«total_interactions» ≤ sumGiven (share (B .config .«max_bounces»)) (raysIn B) (B .rays)
   unfolding runOn
   bound-any =
       let S : Scene = sceneIn B ds in
       let b : ℕ = B .config .«max_bounces» in
-      let n : ℕ = sumGiven (share b) (raysOf B) (B .rays) in
-      let r : Kept (raysOf B) b n (drive put S (raysOf B) allSteps m (startOf (raysOf B) (B .rays)) .progress) =
-      drive-keeps put S (raysOf B) (Kept (raysOf B) b n)
-      (λ u p l k. record { full = next-full put S (raysOf B) u p (k .full); most = omega (arith, next-shares put S (raysOf B) u p lim (k .full) l, k .most) })
-      allSteps m (startOf (raysOf B) (B .rays))
-      (record { full = start-full (raysOf B) (B .rays); most = omega (arith, start-count (raysOf B) (B .rays), start-sum (share b) (raysOf B) (B .rays)) }) in
+      let n : ℕ = sumGiven (share b) (raysIn B) (B .rays) in
+      let r : Kept (raysIn B) b n (drive put S (raysIn B) allSteps m (startOf (raysIn B) (B .rays)) .progress) =
+      drive-keeps put S (raysIn B) (Kept (raysIn B) b n)
+      (λ u p l k. record { full = next-full put S (raysIn B) u p (k .full); most = omega (arith, next-shares put S (raysIn B) u p lim (k .full) l, k .most) })
+      allSteps m (startOf (raysIn B) (B .rays))
+      (record { full = start-full (raysIn B) (B .rays); most = omega (arith, start-count (raysIn B) (B .rays), start-sum (share b) (raysIn B) (B .rays)) }) in
       omega (arith, r .most)
 
   -- rays without bounces: at most 2 ^ limit - 1 for each
-  pub bound : ((i : ℕ) → i < B .rays → raysOf B i .«bounce_count» ≡ 0) → runOn put ds B m .progress .report .«total_interactions» ≤ B .rays * (2 ^ (B .config .«max_bounces») - 1)
+  pub bound : ((i : ℕ) → i < B .rays → raysIn B i .«bounce_count» ≡ 0) → runOn put ds B m .progress .report .«total_interactions» ≤ B .rays * (2 ^ (B .config .«max_bounces») - 1)
   bound zero-bounces =
-      omega (arith, bound-any, given-most (share (B .config .«max_bounces»)) (raysOf B) (2 ^ (B .config .«max_bounces») - 1) (B .rays) (λ i q. share-zero (B .config .«max_bounces») (raysOf B i) (zero-bounces i q)))
+      omega (arith, bound-any, given-most (share (B .config .«max_bounces»)) (raysIn B) (2 ^ (B .config .«max_bounces») - 1) (B .rays) (λ i q. share-zero (B .config .«max_bounces») (raysIn B i) (zero-bounces i q)))

@@ -10,7 +10,7 @@ use lib.Pow.{pow-pos, pow-mono}
 use borrow.Author.Tests.{leb-true, leb-false, lt-ltb}
 use Rattle.step.specs.declared.ActiveRay.{ActiveRay}
 use Rattle.step.specs.Rays.{Step, moreOf}
-use Rattle.report.specs.Report.{interacts}
+use Rattle.report.specs.Report.{isInteractionOf}
 use Rattle.theorems_runs.specs.Sums.{sumMade, heft, share}
 use Rattle.theorems_runs.proofs.Bred.{Bred, surface-busy}
 
@@ -94,19 +94,19 @@ module _ (b : ℕ) where
           made-most (heft b) s c (λ y. omega (arith, heft-child a (s .reflected) l (one-more a s lim k y))) (λ y. omega (arith, heft-child a (s .transmitted) l (two-more a s lim k y))) in
           omega (arith, heft-pos a)
 
-  pub made-share : (a : ActiveRay) (s : Step) → b ≤ 16 → Bred b a s → sumMade (share b) s + cond (interacts (s .end)) 1 0 ≤ share b a
+  pub made-share : (a : ActiveRay) (s : Step) → b ≤ 16 → Bred b a s → sumMade (share b) s + cond (isInteractionOf (s .end)) 1 0 ≤ share b a
   made-share a s lim k = more (leb b (a .«bounce_count»)) refl
     where
-      more : (t : Bool) → leb b (a .«bounce_count») ≡ t → sumMade (share b) s + cond (interacts (s .end)) 1 0 ≤ share b a
+      more : (t : Bool) → leb b (a .«bounce_count») ≡ t → sumMade (share b) s + cond (isInteractionOf (s .end)) 1 0 ≤ share b a
       more true q =
           let l : b ≤ a .«bounce_count» = leb-true b (a .«bounce_count») q in
           let z : sumMade (share b) s ≤ 0 + 0 = made-most (share b) s 0 (λ y. absurd (omega (arith, one-low a s k y))) (λ y. absurd (omega (arith, two-low a s k y))) in
-          let i : cond (interacts (s .end)) 1 0 ≤ 0 = if-most (interacts (s .end)) 1 0 (λ y. absurd (omega (arith, k .busy y))) in
+          let i : cond (isInteractionOf (s .end)) 1 0 ≤ 0 = if-most (isInteractionOf (s .end)) 1 0 (λ y. absurd (omega (arith, k .busy y))) in
           omega arith
       more false q =
           let l : a .«bounce_count» < b = leb-false b (a .«bounce_count») q in
           let c : ℕ = (share b a - 1) / 2 in
           let z : sumMade (share b) s ≤ c + c =
           made-most (share b) s c (λ y. omega (arith, share-child a (s .reflected) l (one-more a s lim k y))) (λ y. omega (arith, share-child a (s .transmitted) l (two-more a s lim k y))) in
-          let i : cond (interacts (s .end)) 1 0 ≤ 1 = if-most (interacts (s .end)) 1 1 (λ y. omega arith) in
+          let i : cond (isInteractionOf (s .end)) 1 0 ≤ 1 = if-most (isInteractionOf (s .end)) 1 1 (λ y. omega arith) in
           omega (arith, share-pos a l)

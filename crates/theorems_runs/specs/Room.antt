@@ -4,12 +4,12 @@ use mathlib.Core.Path.{_≡_}
 use lib.ListN.{length}
 use Rattle.step.specs.declared.ActiveRay.{ActiveRay}
 use Rattle.step.specs.Rays.{Scene, Step}
-use Rattle.step.specs.Turn.{turnOf}
+use Rattle.step.specs.Turn.{takeStepOf}
 use Rattle.report.specs.declared.tallies.Tallies.{Tallies}
 use Rattle.report.specs.declared.NonSeqTraceReport.{NonSeqTraceReport}
 use Rattle.run.specs.declared.stack.Stack.{Stack}
 use Rattle.run.specs.declared.Progress.{Progress}
-use Rattle.run.specs.Stack.{takenOf, pushedIf, popped, afterOf}
+use Rattle.run.specs.Stack.{takenFrom, pushedIf, popped, stackAfter}
 use Rattle.theorems_runs.specs.Sums.{Full}
 
 pub record Housed (a : ActiveRay) : Type 0 where
@@ -19,8 +19,8 @@ pub record Housed (a : ActiveRay) : Type 0 where
   pub tirs : a .«tir_count» ≤ a .«bounce_count»
 
 -- the ray that the next step takes
-abbrev pub rayOf : (ℕ → ActiveRay) → Progress → ActiveRay
-rayOf given p = takenOf given (p .stack) (p .left) .ray
+abbrev pub nextRay : (ℕ → ActiveRay) → Progress → ActiveRay
+nextRay given p = takenFrom given (p .stack) (p .left) .ray
 
 -- the stack after a step, without a guard
 abbrev pub plainAfter : Stack → Step → Stack
@@ -35,10 +35,10 @@ pub record Going (a : ActiveRay) : Type 0 where
 
 pub record Roomy (S : Scene) (given : ℕ → ActiveRay) (p : Progress) : Type 0 where
   pub full : Full (p .stack)
-  pub after-full : Full (afterOf (p .stack) (turnOf S (rayOf given p)))
-  pub after-plain : afterOf (p .stack) (turnOf S (rayOf given p)) ≡ plainAfter (p .stack) (turnOf S (rayOf given p))
-  pub long : length (rayOf given p .media .list) ≡ 24
-  pub going : rayOf given p .«bounce_count» < S .optics .config .«max_bounces» → Going (rayOf given p)
+  pub after-full : Full (stackAfter (p .stack) (takeStepOf S (nextRay given p)))
+  pub after-plain : stackAfter (p .stack) (takeStepOf S (nextRay given p)) ≡ plainAfter (p .stack) (takeStepOf S (nextRay given p))
+  pub long : length (nextRay given p .media .list) ≡ 24
+  pub going : nextRay given p .«bounce_count» < S .optics .config .«max_bounces» → Going (nextRay given p)
 
 -- every count of a report with w more is at most n
 pub record SmallTallies (n w : ℕ) (t : Tallies) : Type 0 where

@@ -12,9 +12,9 @@ use Rattle.run.specs.declared.Progress.{Progress}
 use Rattle.run.specs.Stack.{noRay}
 
 -- f summed over the first n places of a list
-unfoldable pub sumOf : (ActiveRay → ℕ) → List ActiveRay → ℕ → ℕ
-sumOf f xs zero = 0
-sumOf f xs (suc n) = f (getD xs n noRay) + sumOf f xs n
+unfoldable pub sumFirst : (ActiveRay → ℕ) → List ActiveRay → ℕ → ℕ
+sumFirst f xs zero = 0
+sumFirst f xs (suc n) = f (getD xs n noRay) + sumFirst f xs n
 
 -- f summed over the first n given rays
 unfoldable pub sumGiven : (ActiveRay → ℕ) → (ℕ → ActiveRay) → ℕ → ℕ
@@ -22,7 +22,7 @@ sumGiven f given zero = 0
 sumGiven f given (suc n) = f (given n) + sumGiven f given n
 
 unfoldable pub sumStack : (ActiveRay → ℕ) → Stack → ℕ
-sumStack f s = sumOf f (s .rays) (s .len)
+sumStack f s = sumFirst f (s .rays) (s .len)
 
 -- over the stack and the given rays that are left
 unfoldable pub sumLeft : (ActiveRay → ℕ) → (ℕ → ActiveRay) → Progress → ℕ
@@ -77,8 +77,8 @@ refuses (parted r t total) = false
 refuses (refusing n) = true
 
 -- the rays whose life is over, and those that interacted
-unfoldable pub overOf : Tallies → ℕ
-overOf t = t .dim + t .spent + t .caught + t .gone + t .surface
+unfoldable pub overIn : Tallies → ℕ
+overIn t = t .dim + t .spent + t .caught + t .gone + t .surface
 
-unfoldable pub metOf : Tallies → ℕ
-metOf t = t .caught + t .gone + t .surface
+unfoldable pub metIn : Tallies → ℕ
+metIn t = t .caught + t .gone + t .surface

@@ -7,28 +7,28 @@ use lib.ListN.{length}
 use Rattle.error.specs.declared.Check.{Check}
 use Rattle.error.specs.declared.Check.the-variants.{Passed, Refused}
 use Rattle.error.specs.declared.NonSeqError.{NonSeqError}
-use Rattle.error.specs.Refusals.{checkOf}
-use Rattle.memory.specs.Memory.{Memory, outcomeOf, recordHit}
+use Rattle.error.specs.Refusals.{asChecked}
+use Rattle.memory.specs.Memory.{Memory, asOutcome, recordOf}
 use Rattle.faces.specs.declared.Faces.{Faces}
-use Rattle.faces.specs.Faces.{facesOf}
-use Rattle.step.specs.Rays.{sceneOf}
+use Rattle.faces.specs.Faces.{newFacesOf}
+use Rattle.step.specs.Rays.{listedScene}
 use Rattle.report.specs.declared.NonSeqTraceReport.{NonSeqTraceReport}
 use Rattle.report.specs.Report.{startReportOf, #0}
 use Rattle.run.specs.declared.Progress.{Progress}
 use Rattle.run.specs.declared.Advanced.{Advanced}
-use Rattle.run.specs.Run.{drive, advancedOf}
+use Rattle.run.specs.Run.{drive, asAdvanced}
 use Rattle.trace.specs.declared.Traced.{Traced}
-use Rattle.trace.specs.Trace.{Batch, raysOf, checkAllOf, checkTraceOf, allSteps, startOf, runOn, endOf, traceRaysOf, answeredOf, tracedOf}
+use Rattle.trace.specs.Trace.{Batch, raysIn, checkTraceOf, checkBatch, allSteps, startOf, runOn, traced, traceRaysOf, answerOf, asTraced}
 
 module _ (B : Batch) (s : Memory) (c : Check)
-    (said : checkOf c ≡ checkAllOf B (s .detectors) (length (s .flux)) (length (s .hits)) (length (s .values)) (length (s .tags)) (s .used)) where
-  pub refused-call : (e : NonSeqError) (place : ℕ) → c ≡ Refused e place → (r : NonSeqTraceReport) → r ≡ startReportOf 0 #0 → record { outcome = outcomeOf (Refused e place) s; report = r } ≡ traceRaysOf B s
-  unfolding traceRaysOf checkTraceOf
+    (said : asChecked c ≡ checkTraceOf B (s .detectors) (length (s .flux)) (length (s .hits)) (length (s .values)) (length (s .tags)) (s .used)) where
+  pub refused-call : (e : NonSeqError) (place : ℕ) → c ≡ Refused e place → (r : NonSeqTraceReport) → r ≡ startReportOf 0 #0 → record { outcome = asOutcome (Refused e place) s; report = r } ≡ traceRaysOf B s
+  unfolding traceRaysOf checkBatch
   refused-call e place k r er = rw (er, ← said, k)
 
-  pub passed-call : c ≡ Passed → (fs : Faces) → fs ≡ facesOf (s .detectors) → (p : Progress) → p ≡ startOf (raysOf B) (B .rays)
+  pub passed-call : c ≡ Passed → (fs : Faces) → fs ≡ newFacesOf (s .detectors) → (p : Progress) → p ≡ startOf (raysIn B) (B .rays)
       → (a : Advanced) (f : List Float) (h : List ℕ) (v : List Float) (t : List ℕ)
-      → advancedOf a f h v t ≡ drive recordHit (sceneOf (B .values) (B .tags) (B .solids) fs (B .config)) (raysOf B) allSteps s p
-      → (r : Traced) → r ≡ answeredOf a → tracedOf r f h v t ≡ traceRaysOf B s
-  unfolding traceRaysOf checkTraceOf runOn
-  passed-call k fs efs p ep a f h v t ran r er = rw (er, ← said, k) (ap endOf (rw (efs, ep) at ran))
+      → asAdvanced a f h v t ≡ drive recordOf (listedScene (B .values) (B .tags) (B .solids) fs (B .config)) (raysIn B) allSteps s p
+      → (r : Traced) → r ≡ answerOf a → asTraced r f h v t ≡ traceRaysOf B s
+  unfolding traceRaysOf checkBatch runOn
+  passed-call k fs efs p ep a f h v t ran r er = rw (er, ← said, k) (ap traced (rw (efs, ep) at ran))

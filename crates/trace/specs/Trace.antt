@@ -5,23 +5,23 @@ use mathlib.Core.List.{List}
 use lib.Dec.{leb}
 use lib.Ieee.{Float, binary64, ofBits, le}
 use lib.ListN.{length}
-use Rattle.doubles.specs.Doubles.{finiteOf}
+use Rattle.doubles.specs.Doubles.{isFiniteOf}
 use Rattle.error.specs.Refusals.{Checked, passed, refusedAt, after}
 use Rattle.scene.specs.Solids.{checkSolidsOf}
 use Rattle.detectors.specs.declared.Detectors.{Detectors}
 use Rattle.detectors.specs.Detectors.{checkDetectorsOf}
 use Rattle.detector.specs.declared.DetectorHit.{DetectorHit}
-use Rattle.memory.specs.Memory.{Memory, memoryOf, Outcome, refused, outcomeOf, areLengthsOf, recordHit}
-use Rattle.faces.specs.Faces.{facesOf}
+use Rattle.memory.specs.Memory.{Memory, lentMemory, Outcome, refused, asOutcome, areLengthsOf, recordOf}
+use Rattle.faces.specs.Faces.{newFacesOf}
 use Rattle.step.specs.declared.NonSeqTraceConfig.{NonSeqTraceConfig}
 use Rattle.step.specs.declared.ActiveRay.{ActiveRay}
-use Rattle.step.specs.Rays.{Scene, sceneOf}
+use Rattle.step.specs.Rays.{Scene, listedScene}
 use Rattle.report.specs.declared.NonSeqTraceReport.{NonSeqTraceReport}
 use Rattle.report.specs.Report.{startReportOf, #0}
-use Rattle.given_rays.specs.Given.{givenOf, checkListsOf, checkRaysFrom, launchedOf}
+use Rattle.given_rays.specs.Given.{givenAtOf, checkListsOf, checkRaysOf, launchedOf}
 use Rattle.run.specs.declared.Progress.{Progress}
 use Rattle.run.specs.declared.Advanced.{Advanced}
-use Rattle.run.specs.Stack.{emptyStack}
+use Rattle.run.specs.Stack.{emptyStackOf}
 use Rattle.run.specs.Run.{Run, drive}
 use Rattle.trace.specs.declared.Traced.{Traced}
 
@@ -35,11 +35,11 @@ pub record Batch : Type 0 where
   pub rayTags : List ℕ
   pub rays : ℕ
 
-abbrev pub batchOf : NonSeqTraceConfig → List Float → List ℕ → ℕ → List Float → List ℕ → ℕ → Batch
-batchOf g x k n v t m = record { config = g; values = x; tags = k; solids = n; rayValues = v; rayTags = t; rays = m }
+abbrev pub lentBatch : NonSeqTraceConfig → List Float → List ℕ → ℕ → List Float → List ℕ → ℕ → Batch
+lentBatch g x k n v t m = record { config = g; values = x; tags = k; solids = n; rayValues = v; rayTags = t; rays = m }
 
-abbrev pub raysOf : Batch → ℕ → ActiveRay
-raysOf B = givenOf (B .rayValues) (B .rayTags)
+abbrev pub raysIn : Batch → ℕ → ActiveRay
+raysIn B = givenAtOf (B .rayValues) (B .rayTags)
 
 -- ---- the checks before the run
 
@@ -50,7 +50,7 @@ checkFlatOf B = after (checkSolidsOf (B .values) (B .tags) (B .solids)) (checkLi
 -- 1, then 2
 unfoldable pub checkConfigOf : NonSeqTraceConfig → Checked Unit
 checkConfigOf g =
-    cond (finiteOf (g .«min_power_threshold») && le #0 (g .«min_power_threshold»))
+    cond (isFiniteOf (g .«min_power_threshold») && le #0 (g .«min_power_threshold»))
     (cond (leb (g .«max_bounces») 16) (passed tt) (refusedAt 2 0))
     (refusedAt 1 0)
 
@@ -70,14 +70,14 @@ unfoldable pub checkMemoryOf : Detectors → ℕ → ℕ → ℕ → ℕ → ℕ
 checkMemoryOf ds nf nh nv nt used = after (checkDetectorsOf ds) (checkLengthsOf ds nf nh nv nt used)
 
 -- 17, 1, 2, 3, the detectors, 9, the rays in list order (10, 11)
-unfoldable pub checkAllOf : Batch → Detectors → ℕ → ℕ → ℕ → ℕ → ℕ → Checked Unit
-checkAllOf B ds nf nh nv nt used =
+unfoldable pub checkTraceOf : Batch → Detectors → ℕ → ℕ → ℕ → ℕ → ℕ → Checked Unit
+checkTraceOf B ds nf nh nv nt used =
     after (checkFlatOf B)
     (after (checkRulesOf (B .config) (B .solids) (B .rays))
-    (after (checkMemoryOf ds nf nh nv nt used) (checkRaysFrom (raysOf B) (B .solids) (B .rays) 0)))
+    (after (checkMemoryOf ds nf nh nv nt used) (checkRaysOf (raysIn B) (B .solids) (B .rays) 0)))
 
-unfoldable pub checkTraceOf : Batch → Memory → Checked Unit
-checkTraceOf B s = checkAllOf B (s .detectors) (length (s .flux)) (length (s .hits)) (length (s .values)) (length (s .tags)) (s .used)
+unfoldable pub checkBatch : Batch → Memory → Checked Unit
+checkBatch B s = checkTraceOf B (s .detectors) (length (s .flux)) (length (s .hits)) (length (s .values)) (length (s .tags)) (s .used)
 
 -- ---- the run
 
@@ -86,34 +86,34 @@ abbrev pub allSteps : ℕ
 allSteps = 4294967295
 
 unfoldable pub startOf : (ℕ → ActiveRay) → ℕ → Progress
-startOf given n = record { stack = emptyStack; left = n; report = startReportOf n (launchedOf given n) }
+startOf given n = record { stack = emptyStackOf; left = n; report = startReportOf n (launchedOf given n) }
 
 abbrev pub sceneIn : Batch → Detectors → Scene
-sceneIn B ds = sceneOf (B .values) (B .tags) (B .solids) (facesOf ds) (B .config)
+sceneIn B ds = listedScene (B .values) (B .tags) (B .solids) (newFacesOf ds) (B .config)
 
 -- into any memory; of the detectors it uses the faces
 unfoldable pub runOn : {M : Type 0} → (M → DetectorHit → Outcome M) → Detectors → Batch → M → Run M
-runOn put ds B m = drive put (sceneIn B ds) (raysOf B) allSteps m (startOf (raysOf B) (B .rays))
+runOn put ds B m = drive put (sceneIn B ds) (raysIn B) allSteps m (startOf (raysIn B) (B .rays))
 
 -- what a tracing answers and leaves
 pub record Trace (M : Type 0) : Type 0 where
   pub outcome : Outcome M
   pub report : NonSeqTraceReport
 
-abbrev pub endOf : {M : Type 0} → Run M → Trace M
-endOf r = record { outcome = r .outcome; report = r .progress .report }
+abbrev pub traced : {M : Type 0} → Run M → Trace M
+traced r = record { outcome = r .outcome; report = r .progress .report }
 
 -- a refusal before the run changes nothing, and its report is all zeros
 abbrev pub traceAfter : {M : Type 0} → Checked Unit → M → Run M → Trace M
-traceAfter (passed u) m r = endOf r
+traceAfter (passed u) m r = traced r
 traceAfter (refusedAt n place) m r = record { outcome = refused n place m; report = startReportOf 0 #0 }
 
 unfoldable pub traceRaysOf : Batch → Memory → Trace Memory
-traceRaysOf B s = traceAfter (checkTraceOf B s) s (runOn recordHit (s .detectors) B s)
+traceRaysOf B s = traceAfter (checkBatch B s) s (runOn recordOf (s .detectors) B s)
 
 -- what the code's answers say
-abbrev pub answeredOf : Advanced → Traced
-answeredOf r = record { check = r .check; report = r .progress .report; detectors = r .detectors; used = r .used }
+abbrev pub answerOf : Advanced → Traced
+answerOf r = record { check = r .check; report = r .progress .report; detectors = r .detectors; used = r .used }
 
-abbrev pub tracedOf : Traced → List Float → List ℕ → List Float → List ℕ → Trace Memory
-tracedOf r f h v t = record { outcome = outcomeOf (r .check) (memoryOf (r .detectors) f h v t (r .used)); report = r .report }
+abbrev pub asTraced : Traced → List Float → List ℕ → List Float → List ℕ → Trace Memory
+asTraced r f h v t = record { outcome = asOutcome (r .check) (lentMemory (r .detectors) f h v t (r .used)); report = r .report }

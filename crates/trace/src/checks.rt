@@ -4,8 +4,8 @@ use error::Check;
 use error::NonSeqError;
 use step::NonSeqTraceConfig;
 ghost use mathlib.Core.Path.{_≡_};
-ghost use Rattle.error.specs.Refusals.{checkOf};
-ghost use Rattle.trace.specs.Trace.{batchOf, checkFlatOf, checkConfigOf, checkCountsOf, checkRulesOf, checkLengthsOf, checkMemoryOf, checkAllOf};
+ghost use Rattle.error.specs.Refusals.{asChecked};
+ghost use Rattle.trace.specs.Trace.{lentBatch, checkFlatOf, checkConfigOf, checkCountsOf, checkRulesOf, checkLengthsOf, checkMemoryOf, checkTraceOf};
 
 // Lists of solids or rays that do not fit (17).
 fn check_flat(
@@ -17,7 +17,7 @@ fn check_flat(
     marks: &[u32],
     given: u32,
 ) -> Check
-    ensures { λ r. ⌜ checkOf r ≡ checkFlatOf (batchOf config (now (values .entry)) (now (tags .entry)) count (now (rays .entry)) (now (marks .entry)) given) ⌝ }
+    ensures { λ r. ⌜ asChecked r ≡ checkFlatOf (lentBatch config (now (values .entry)) (now (tags .entry)) count (now (rays .entry)) (now (marks .entry)) given) ⌝ }
 {
     match scene::check_solids(values, tags, count) {
         Check::Passed => given_rays::check_lists(rays.len(), marks.len(), given),
@@ -27,7 +27,7 @@ fn check_flat(
 
 // The threshold (1), then the bounce limit (2).
 fn check_config(config: NonSeqTraceConfig) -> Check
-    ensures { λ r. ⌜ checkOf r ≡ checkConfigOf config ⌝ }
+    ensures { λ r. ⌜ asChecked r ≡ checkConfigOf config ⌝ }
 {
     let threshold = config.min_power_threshold;
     if doubles::is_finite(threshold) {
@@ -49,7 +49,7 @@ fn check_config(config: NonSeqTraceConfig) -> Check
 
 // At most 32 solids and 4,096 rays (3).
 fn check_counts(count: u32, given: u32) -> Check
-    ensures { λ r. ⌜ checkOf r ≡ checkCountsOf count given ⌝ }
+    ensures { λ r. ⌜ asChecked r ≡ checkCountsOf count given ⌝ }
 {
     if count <= 32 {
         if given <= 4096 {
@@ -63,7 +63,7 @@ fn check_counts(count: u32, given: u32) -> Check
 }
 
 fn check_rules(config: NonSeqTraceConfig, count: u32, given: u32) -> Check
-    ensures { λ r. ⌜ checkOf r ≡ checkRulesOf config count given ⌝ }
+    ensures { λ r. ⌜ asChecked r ≡ checkRulesOf config count given ⌝ }
 {
     match check_config(config) {
         Check::Passed => check_counts(count, given),
@@ -80,7 +80,7 @@ fn check_lengths(
     kinds: usize,
     used: usize,
 ) -> Check
-    ensures { λ r. ⌜ checkOf r ≡ checkLengthsOf detectors flux hits places kinds used ⌝ }
+    ensures { λ r. ⌜ asChecked r ≡ checkLengthsOf detectors flux hits places kinds used ⌝ }
 {
     if memory::are_lengths(detectors, flux, hits, places, kinds, used) {
         return Check::Passed;
@@ -99,7 +99,7 @@ fn check_memory(
     kinds: usize,
     used: usize,
 ) -> Check
-    ensures { λ r. ⌜ checkOf r ≡ checkMemoryOf detectors flux hits places kinds used ⌝ }
+    ensures { λ r. ⌜ asChecked r ≡ checkMemoryOf detectors flux hits places kinds used ⌝ }
 {
     match detectors.check() {
         Check::Passed => check_lengths(detectors, flux, hits, places, kinds, used),
@@ -123,7 +123,7 @@ pub fn check_trace(
     kinds: usize,
     used: usize,
 ) -> Check
-    ensures { λ r. ⌜ checkOf r ≡ checkAllOf (batchOf config (now (values .entry)) (now (tags .entry)) count (now (rays .entry)) (now (marks .entry)) given) detectors flux hits places kinds used ⌝ }
+    ensures { λ r. ⌜ asChecked r ≡ checkTraceOf (lentBatch config (now (values .entry)) (now (tags .entry)) count (now (rays .entry)) (now (marks .entry)) given) detectors flux hits places kinds used ⌝ }
 {
     match check_flat(config, values, tags, count, rays, marks, given) {
         Check::Passed => match check_rules(config, count, given) {

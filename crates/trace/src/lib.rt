@@ -11,9 +11,9 @@ use run::Progress;
 use run::Stack;
 use step::NonSeqTraceConfig;
 ghost use mathlib.Core.Path.{_≡_};
-ghost use Rattle.memory.specs.Memory.{memoryOf};
-ghost use Rattle.given_rays.specs.Given.{givenOf};
-ghost use Rattle.trace.specs.Trace.{batchOf, startOf, answeredOf, traceRaysOf, tracedOf};
+ghost use Rattle.memory.specs.Memory.{lentMemory};
+ghost use Rattle.given_rays.specs.Given.{givenAtOf};
+ghost use Rattle.trace.specs.Trace.{lentBatch, startOf, answerOf, traceRaysOf, asTraced};
 
 // The refusal or none, the ledger and tallies, and what goes on: the detectors' records and the number
 // of hits used.
@@ -26,7 +26,7 @@ pub struct Traced {
 
 // Before the first step.
 fn start(rays: &[f64], marks: &[u32], given: u32) -> Progress
-    ensures { λ r. ⌜ r ≡ startOf (givenOf (now (rays .entry)) (now (marks .entry))) given ⌝ }
+    ensures { λ r. ⌜ r ≡ startOf (givenAtOf (now (rays .entry)) (now (marks .entry))) given ⌝ }
 {
     let launched = given_rays::launched(rays, marks, given);
     Progress {
@@ -38,7 +38,7 @@ fn start(rays: &[f64], marks: &[u32], given: u32) -> Progress
 
 // What a run leaves, as the answer.
 fn answer(r: Advanced) -> Traced
-    ensures { λ a. ⌜ a ≡ answeredOf r ⌝ }
+    ensures { λ a. ⌜ a ≡ answerOf r ⌝ }
 {
     let check = r.check;
     let detectors = r.detectors;
@@ -71,9 +71,9 @@ pub fn trace_rays(
     kinds: &mut [u32],
     used: usize,
 ) -> Traced
-    ensures { λ r. ⌜ tracedOf r (now (flux .exit)) (now (hits .exit)) (now (places .exit)) (now (kinds .exit))
-        ≡ traceRaysOf (batchOf config (now (values .entry)) (now (tags .entry)) count (now (rays .entry)) (now (marks .entry)) given)
-        (memoryOf detectors (now (flux .entry)) (now (hits .entry)) (now (places .entry)) (now (kinds .entry)) used) ⌝ }
+    ensures { λ r. ⌜ asTraced r (now (flux .exit)) (now (hits .exit)) (now (places .exit)) (now (kinds .exit))
+        ≡ traceRaysOf (lentBatch config (now (values .entry)) (now (tags .entry)) count (now (rays .entry)) (now (marks .entry)) given)
+        (lentMemory detectors (now (flux .entry)) (now (hits .entry)) (now (places .entry)) (now (kinds .entry)) used) ⌝ }
 {
     match check_trace(
         config,

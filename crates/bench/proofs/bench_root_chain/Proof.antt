@@ -7,20 +7,20 @@ use lib.ListN.{length, drop}
 use lib.Ieee.{Float, binary64, add, ofBits}
 use Rattle.doubles.specs.Root.{sqrtOf}
 use Rattle.bench.proofs.Turns.{turn, done}
-use Rattle.bench.specs.Loops.{rootChainOf}
+use Rattle.bench.specs.Loops.{benchRootChainOf}
 use Rattle.bench.proofs.bench_root_chain.Statement.{statement}
 use Rattle.bench.proofs.bench_root_chain.Tie as tie
 
-none : (t : Float) → rootChainOf t [] ≡ t
-unfolding rootChainOf
+none : (t : Float) → benchRootChainOf t [] ≡ t
+unfolding benchRootChainOf
 none t = refl
 
-more : (t x : Float) (xs : List Float) → rootChainOf t (x ∷ xs) ≡ rootChainOf (sqrtOf (add binary64 x t)) xs
-unfolding rootChainOf
+more : (t x : Float) (xs : List Float) → benchRootChainOf t (x ∷ xs) ≡ benchRootChainOf (sqrtOf (add binary64 x t)) xs
+unfolding benchRootChainOf
 more t x xs = refl
 
 abbrev Inv-loop : tie.InvT-loop
-Inv-loop xs t₀ i₀ t i = rootChainOf t (drop i xs) ≡ rootChainOf (ofBits binary64 0) xs
+Inv-loop xs t₀ i₀ t i = benchRootChainOf t (drop i xs) ≡ benchRootChainOf (ofBits binary64 0) xs
 
 abbrev μ-loop : tie.MeasureT-loop
 μ-loop xs t₀ i₀ t i = length xs - i
@@ -44,10 +44,10 @@ loop-less : tie.Need-loop-less Inv-loop μ-loop
 loop-less c = search needs
 
 loop-again : tie.Need-loop-again Inv-loop μ-loop
-loop-again c = turn rootChainOf (λ t x. sqrtOf (add binary64 x t)) none more _ _ _ _ _ (c .before .before .loop-test .taken) (c .sqrt .ensures) (c .before .before .before .loop .inv)
+loop-again c = turn benchRootChainOf (λ t x. sqrtOf (add binary64 x t)) none more _ _ _ _ _ (c .before .before .loop-test .taken) (c .sqrt .ensures) (c .before .before .before .loop .inv)
 
 returns : tie.Need-returns Inv-loop μ-loop
-returns c = done rootChainOf (λ t x. sqrtOf (add binary64 x t)) none more _ _ _ _ (c .loop-test .left) (c .before .loop .inv)
+returns c = done benchRootChainOf (λ t x. sqrtOf (add binary64 x t)) none more _ _ _ _ (c .loop-test .left) (c .before .loop .inv)
 
 pub bench-root-chain-spec : {M : Type 1} → statement M
 bench-root-chain-spec =

@@ -7,20 +7,20 @@ use lib.ListN.{length, drop}
 use lib.Ieee.{Float, binary64, add, ofBits}
 use Rattle.doubles.specs.Root.{sqrtOf}
 use Rattle.bench.proofs.Turns.{turn, done}
-use Rattle.bench.specs.Loops.{rootSumOf}
+use Rattle.bench.specs.Loops.{benchRootSumOf}
 use Rattle.bench.proofs.bench_root_sum.Statement.{statement}
 use Rattle.bench.proofs.bench_root_sum.Tie as tie
 
-none : (t : Float) → rootSumOf t [] ≡ t
-unfolding rootSumOf
+none : (t : Float) → benchRootSumOf t [] ≡ t
+unfolding benchRootSumOf
 none t = refl
 
-more : (t x : Float) (xs : List Float) → rootSumOf t (x ∷ xs) ≡ rootSumOf (add binary64 t (sqrtOf x)) xs
-unfolding rootSumOf
+more : (t x : Float) (xs : List Float) → benchRootSumOf t (x ∷ xs) ≡ benchRootSumOf (add binary64 t (sqrtOf x)) xs
+unfolding benchRootSumOf
 more t x xs = refl
 
 abbrev Inv-loop : tie.InvT-loop
-Inv-loop xs t₀ i₀ t i = rootSumOf t (drop i xs) ≡ rootSumOf (ofBits binary64 0) xs
+Inv-loop xs t₀ i₀ t i = benchRootSumOf t (drop i xs) ≡ benchRootSumOf (ofBits binary64 0) xs
 
 abbrev μ-loop : tie.MeasureT-loop
 μ-loop xs t₀ i₀ t i = length xs - i
@@ -44,10 +44,10 @@ loop-less : tie.Need-loop-less Inv-loop μ-loop
 loop-less c = search needs
 
 loop-again : tie.Need-loop-again Inv-loop μ-loop
-loop-again c = turn rootSumOf (λ t x. add binary64 t (sqrtOf x)) none more _ _ _ _ _ (c .before .before .loop-test .taken) (ap (add binary64 (c .before .before .before .loop .t)) (c .sqrt .ensures)) (c .before .before .before .loop .inv)
+loop-again c = turn benchRootSumOf (λ t x. add binary64 t (sqrtOf x)) none more _ _ _ _ _ (c .before .before .loop-test .taken) (ap (add binary64 (c .before .before .before .loop .t)) (c .sqrt .ensures)) (c .before .before .before .loop .inv)
 
 returns : tie.Need-returns Inv-loop μ-loop
-returns c = done rootSumOf (λ t x. add binary64 t (sqrtOf x)) none more _ _ _ _ (c .loop-test .left) (c .before .loop .inv)
+returns c = done benchRootSumOf (λ t x. add binary64 t (sqrtOf x)) none more _ _ _ _ (c .loop-test .left) (c .before .loop .inv)
 
 pub bench-root-sum-spec : {M : Type 1} → statement M
 bench-root-sum-spec =

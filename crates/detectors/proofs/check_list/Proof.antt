@@ -5,12 +5,12 @@ use mathlib.Core.Path.{_≡_}
 use borrow.Author.Needs.{needs}
 use Rattle.detectors.proofs.Lists.{check-turn, check-refused, check-end}
 use borrow.Author.Needs.{needs}
-use Rattle.detectors.specs.Detectors.{checkFromOf}
+use Rattle.detectors.specs.Detectors.{checkListOf}
 use Rattle.detectors.proofs.check_list.Statement.{statement}
 use Rattle.detectors.proofs.check_list.Tie as tie
 
 abbrev Inv-loop : tie.InvT-loop
-Inv-loop count list i₀ i = (i ≤ count) × (checkFromOf list (count - i) i ≡ checkFromOf list count 0)
+Inv-loop count list i₀ i = (i ≤ count) × (checkListOf list (count - i) i ≡ checkListOf list count 0)
 
 abbrev μ-loop : tie.MeasureT-loop
 μ-loop count list i₀ i = count - i

@@ -1,16 +1,16 @@
 -- `faces::shown` meets its contract. Assumes nothing.
 use native.Mathlib.Omega.{arith}
 use borrow.Author.Tests.{le-leb, lt-leb}
-use Rattle.faces.specs.Faces.{shownOf}
+use Rattle.faces.specs.Faces.{faceCountOf}
 use Rattle.faces.proofs.shown.Statement.{statement}
 use Rattle.faces.proofs.shown.Tie as tie
 
 returns : tie.Need-returns
-unfolding shownOf
+unfolding faceCountOf
 returns c = (simp (le-leb _ _ (c .if1 .taken)), omega (arith, c .if1 .taken))
 
 returns-2 : tie.Need-returns-2
-unfolding shownOf
+unfolding faceCountOf
 returns-2 c = (simp (lt-leb _ _ (c .if1 .left)), omega arith)
 
 pub shown-spec : {M : Type 1} → statement M

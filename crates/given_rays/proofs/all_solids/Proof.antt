@@ -4,12 +4,12 @@ use mathlib.Core.Path.{_≡_}
 use native.Mathlib.Omega.{arith}
 use borrow.Author.Needs.{needs}
 use Rattle.given_rays.proofs.Turns.{solids-start, solids-turn, solids-not, solids-end}
-use Rattle.given_rays.specs.Given.{allSolids}
+use Rattle.given_rays.specs.Given.{allSolidsOf}
 use Rattle.given_rays.proofs.all_solids.Statement.{statement}
 use Rattle.given_rays.proofs.all_solids.Tie as tie
 
 abbrev Inv-loop : tie.InvT-loop
-Inv-loop n solids list i₀ i = (n ≤ 24) × (allSolids list solids (n - i) i ≡ allSolids list solids n 0)
+Inv-loop n solids list i₀ i = (n ≤ 24) × (allSolidsOf list solids (n - i) i ≡ allSolidsOf list solids n 0)
 
 abbrev μ-loop : tie.MeasureT-loop
 μ-loop n solids list i₀ i = n - i

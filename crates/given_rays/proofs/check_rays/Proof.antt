@@ -3,12 +3,12 @@ use Prim.Native.Nat.{ℕ, _≤_, _<_, _-_, _+_, _*_}
 use mathlib.Core.Path.{_≡_}
 use borrow.Author.Needs.{needs}
 use Rattle.given_rays.proofs.Turns.{rays-start, rays-turn, rays-refused, rays-end}
-use Rattle.given_rays.specs.Given.{checkRaysFrom, givenOf}
+use Rattle.given_rays.specs.Given.{checkRaysOf, givenAtOf}
 use Rattle.given_rays.proofs.check_rays.Statement.{statement}
 use Rattle.given_rays.proofs.check_rays.Tie as tie
 
 abbrev Inv-loop : tie.InvT-loop
-Inv-loop values tags rays solids i₀ i = checkRaysFrom (givenOf values tags) solids (rays - i) i ≡ checkRaysFrom (givenOf values tags) solids rays 0
+Inv-loop values tags rays solids i₀ i = checkRaysOf (givenAtOf values tags) solids (rays - i) i ≡ checkRaysOf (givenAtOf values tags) solids rays 0
 
 abbrev μ-loop : tie.MeasureT-loop
 μ-loop values tags rays solids i₀ i = rays - i

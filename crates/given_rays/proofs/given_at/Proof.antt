@@ -1,6 +1,6 @@
 -- `given_rays::given_at` meets its contract. Assumes nothing.
 use borrow.Author.Tests.{le-leb, lt-leb}
-use Rattle.given_rays.specs.Given.{givenOf}
+use Rattle.given_rays.specs.Given.{givenAtOf}
 use borrow.Author.Needs.{needs}
 use Rattle.given_rays.proofs.given_at.Statement.{statement}
 use Rattle.given_rays.proofs.given_at.Tie as tie
@@ -36,15 +36,15 @@ read-media-requires : tie.Need-read-media-requires
 read-media-requires c κs = search needs
 
 returns : tie.Need-returns
-unfolding givenOf
+unfolding givenAtOf
 returns c = simp (← c .before .before .before .before .before .no-ray .ensures, le-leb _ _ (c .before .before .before .before .if1 .taken), le-leb _ _ (c .before .before .before .if2 .taken), ← c .before .before .read-ray .ensures, ← c .read-media .ensures)
 
 returns-2 : tie.Need-returns-2
-unfolding givenOf
+unfolding givenAtOf
 returns-2 c = simp (← c .before .before .no-ray .ensures, le-leb _ _ (c .before .if1 .taken), lt-leb _ _ (c .if2 .left))
 
 returns-3 : tie.Need-returns-3
-unfolding givenOf
+unfolding givenAtOf
 returns-3 c = simp (← c .before .no-ray .ensures, lt-leb _ _ (c .if1 .left))
 
 pub given-at-spec : {M : Type 1} → statement M

@@ -2,14 +2,14 @@
 use Prim.Native.Nat.{ℕ, _≤_, _<_, _-_, _+_, _*_}
 use mathlib.Core.Path.{_≡_}
 use borrow.Author.Needs.{needs}
-use Rattle.given_rays.specs.Given.{givenOf, launchedFrom}
+use Rattle.given_rays.specs.Given.{givenAtOf, launchedFrom}
 use Rattle.given_rays.proofs.Turns.{launch-start, launch-turn, launch-end}
-use Rattle.given_rays.specs.Given.{givenOf, launchedFrom, launchedOf}
+use Rattle.given_rays.specs.Given.{givenAtOf, launchedFrom, launchedOf}
 use Rattle.given_rays.proofs.launched.Statement.{statement}
 use Rattle.given_rays.proofs.launched.Tie as tie
 
 abbrev Inv-loop : tie.InvT-loop
-Inv-loop values tags rays sum₀ i₀ sum i = launchedFrom (givenOf values tags) (rays - i) i sum ≡ launchedOf (givenOf values tags) rays
+Inv-loop values tags rays sum₀ i₀ sum i = launchedFrom (givenAtOf values tags) (rays - i) i sum ≡ launchedOf (givenAtOf values tags) rays
 
 abbrev μ-loop : tie.MeasureT-loop
 μ-loop values tags rays sum₀ i₀ sum i = rays - i

@@ -1,11 +1,11 @@
 -- `given_rays::no_ray` meets its contract. Assumes nothing.
 use Rattle.doubles.proofs.Floats.{zero-by-zero}
-use Rattle.given_rays.specs.Given.{blank}
+use Rattle.given_rays.specs.Given.{noRayOf}
 use Rattle.given_rays.proofs.no_ray.Statement.{statement}
 use Rattle.given_rays.proofs.no_ray.Tie as tie
 
 returns : tie.Need-returns
-unfolding blank
+unfolding noRayOf
 returns c = simp zero-by-zero
 
 pub no-ray-spec : {M : Type 1} → statement M

@@ -1,16 +1,16 @@
 -- `halves::cut_at` meets its contract. Assumes nothing.
 use native.Mathlib.Omega.{arith}
 use borrow.Author.Tests.{le-leb, lt-leb}
-use Rattle.halves.specs.Halves.{cutOf}
+use Rattle.halves.specs.Halves.{cutAtOf}
 use Rattle.halves.proofs.cut_at.Statement.{statement}
 use Rattle.halves.proofs.cut_at.Tie as tie
 
 returns : tie.Need-returns
-unfolding cutOf
+unfolding cutAtOf
 returns c = (simp (le-leb _ _ (c .if1 .taken)), omega (arith, c .if1 .taken))
 
 returns-2 : tie.Need-returns-2
-unfolding cutOf
+unfolding cutAtOf
 returns-2 c = (simp (lt-leb _ _ (c .if1 .left)), omega arith)
 
 pub cut-at-spec : {M : Type 1} → statement M

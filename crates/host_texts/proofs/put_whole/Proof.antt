@@ -1,6 +1,6 @@
 -- `host_texts::put_whole` meets its contract. Assumes nothing.
 use borrow.Author.Tests.{le-leb, lt-leb}
-use Rattle.host_texts.specs.Texts.{wholeOf}
+use Rattle.host_texts.specs.Texts.{putWholeOf}
 use borrow.Author.Needs.{needs}
 use Rattle.host_texts.proofs.put_whole.Statement.{statement}
 use Rattle.host_texts.proofs.put_whole.Tie as tie
@@ -12,11 +12,11 @@ same-length : tie.Need-same-length
 same-length c = search needs
 
 returns : tie.Need-returns
-unfolding wholeOf
+unfolding putWholeOf
 returns c = simp (le-leb _ _ (c .before .before .before .before .if1 .taken), ← c .before .before .put-all .ensures)
 
 returns-2 : tie.Need-returns-2
-unfolding wholeOf
+unfolding putWholeOf
 returns-2 c = simp (lt-leb _ _ (c .if1 .left))
 
 pub put-whole-spec : {M : Type 1} → statement M

@@ -4,12 +4,12 @@ use mathlib.Core.Path.{_≡_, refl, _∙_}
 use native.Mathlib.Omega.{arith}
 use borrow.Author.Needs.{needs}
 use Rattle.media.proofs.Places.{last-here, last-before, last-none}
-use Rattle.media.specs.Media.{lastOf}
+use Rattle.media.specs.Media.{lastPlaceOf}
 use Rattle.media.proofs.last_of.Statement.{statement}
 use Rattle.media.proofs.last_of.Tie as tie
 
 abbrev Inv-loop : tie.InvT-loop
-Inv-loop depth solid list i₀ i = (i ≤ depth) × ((depth ≤ 24) × (lastOf list i solid ≡ lastOf list depth solid))
+Inv-loop depth solid list i₀ i = (i ≤ depth) × ((depth ≤ 24) × (lastPlaceOf list i solid ≡ lastPlaceOf list depth solid))
 
 abbrev μ-loop : tie.MeasureT-loop
 μ-loop depth solid list i₀ i = i

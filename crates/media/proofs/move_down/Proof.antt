@@ -5,12 +5,12 @@ use lib.ListN.{length}
 use native.Mathlib.Omega.{arith}
 use borrow.Author.Needs.{needs}
 use Rattle.media.proofs.Places.{down-turn, down-end}
-use Rattle.media.specs.Media.{movedDown}
+use Rattle.media.specs.Media.{moveDownOf}
 use Rattle.media.proofs.move_down.Statement.{statement}
 use Rattle.media.proofs.move_down.Tie as tie
 
 abbrev Inv-loop : tie.InvT-loop
-Inv-loop at end r₀ i₀ r i = (length r ≡ 24) × (movedDown (end - i) i r ≡ movedDown (end - at) at r₀)
+Inv-loop at end r₀ i₀ r i = (length r ≡ 24) × (moveDownOf (end - i) i r ≡ moveDownOf (end - at) at r₀)
 
 abbrev μ-loop : tie.MeasureT-loop
 μ-loop at end r₀ i₀ r i = end - i

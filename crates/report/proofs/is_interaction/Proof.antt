@@ -1,5 +1,5 @@
 -- `report::is_interaction` meets its contract. Assumes nothing.
-use Rattle.report.specs.Report.{interacts}
+use Rattle.report.specs.Report.{isInteractionOf}
 use borrow.Author.Needs.{needs}
 use Rattle.report.proofs.is_interaction.Statement.{statement}
 use Rattle.report.proofs.is_interaction.Tie as tie
@@ -26,31 +26,31 @@ enum-told-7 : tie.Need-enum-told-7
 enum-told-7 c = search needs
 
 returns : tie.Need-returns
-unfolding interacts
+unfolding isInteractionOf
 returns c = simp (c .enum-told .given .1)
 
 returns-2 : tie.Need-returns-2
-unfolding interacts
+unfolding isInteractionOf
 returns-2 c = simp (c .enum-told2 .given .1)
 
 returns-3 : tie.Need-returns-3
-unfolding interacts
+unfolding isInteractionOf
 returns-3 c = simp (c .enum-told3 .given .1)
 
 returns-4 : tie.Need-returns-4
-unfolding interacts
+unfolding isInteractionOf
 returns-4 c = simp (c .enum-told4 .given .1)
 
 returns-5 : tie.Need-returns-5
-unfolding interacts
+unfolding isInteractionOf
 returns-5 c = simp (c .enum-told5 .given .1)
 
 returns-6 : tie.Need-returns-6
-unfolding interacts
+unfolding isInteractionOf
 returns-6 c = simp (c .enum-told6 .given .1)
 
 returns-7 : tie.Need-returns-7
-unfolding interacts
+unfolding isInteractionOf
 returns-7 c = simp (c .enum-told7 .given .1)
 
 pub is-interaction-spec : {M : Type 1} → statement M

@@ -1,5 +1,5 @@
 -- `step::interact` meets its contract. Assumes nothing.
-use Rattle.step.specs.Turn.{interactOf, meetsOf}
+use Rattle.step.specs.Turn.{interactOf, meetsWith}
 use borrow.Author.Needs.{needs}
 use Rattle.step.proofs.interact.Statement.{statement}
 use Rattle.step.proofs.interact.Tie as tie
@@ -35,15 +35,15 @@ ends-requires-2 : tie.Need-ends-requires-2
 ends-requires-2 c κs = search needs
 
 returns : tie.Need-returns
-unfolding interactOf meetsOf
+unfolding interactOf meetsWith
 returns c = simp (← c .before .before .before .before .before .before .before .nearest .ensures, ← c .before .before .before .before .before .before .closest-object .ensures, ← c .before .before .before .before .before .first-met .ensures, c .before .before .before .sight .given .1, ← c .before .caught-by .ensures, ← c .ends .ensures)
 
 returns-2 : tie.Need-returns-2
-unfolding interactOf meetsOf
+unfolding interactOf meetsWith
 returns-2 c = simp (← c .before .before .before .before .before .before .nearest .ensures, ← c .before .before .before .before .before .closest-object .ensures, ← c .before .before .before .before .first-met .ensures, c .before .before .hit .given .1, ← c .surface .ensures)
 
 returns-3 : tie.Need-returns-3
-unfolding interactOf meetsOf
+unfolding interactOf meetsWith
 returns-3 c = simp (← c .before .before .before .before .before .nearest .ensures, ← c .before .before .before .before .closest-object .ensures, ← c .before .before .before .first-met .ensures, c .before .enum-told .given .1, ← c .ends2 .ensures)
 
 pub interact-spec : {M : Type 1} → statement M

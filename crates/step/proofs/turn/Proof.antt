@@ -1,6 +1,6 @@
 -- `step::turn` meets its contract. Assumes nothing.
 use borrow.Author.Tests.{le-leb, lt-leb}
-use Rattle.step.specs.Turn.{turnOf}
+use Rattle.step.specs.Turn.{takeStepOf}
 use borrow.Author.Needs.{needs}
 use Rattle.step.proofs.turn.Statement.{statement}
 use Rattle.step.proofs.turn.Tie as tie
@@ -9,21 +9,21 @@ ends-requires : tie.Need-ends-requires
 ends-requires c κs = search needs
 
 returns : tie.Need-returns
-unfolding turnOf
+unfolding takeStepOf
 returns c = simp (c .before .if1 .taken, ← c .ends .ensures)
 
 ends-requires-2 : tie.Need-ends-requires-2
 ends-requires-2 c κs = search needs
 
 returns-2 : tie.Need-returns-2
-unfolding turnOf
+unfolding takeStepOf
 returns-2 c = simp (c .before .before .before .before .if1 .left, le-leb _ _ (c .before .if2 .taken), ← c .ends2 .ensures)
 
 interact-requires : tie.Need-interact-requires
 interact-requires c κs = search needs
 
 returns-3 : tie.Need-returns-3
-unfolding turnOf
+unfolding takeStepOf
 returns-3 c = simp (c .before .before .before .before .if1 .left, lt-leb _ _ (c .before .if2 .left), ← c .interact .ensures)
 
 pub turn-spec : {M : Type 1} → statement M

@@ -1,5 +1,5 @@
 -- `surface::compute_snell_fresnel_interaction` meets its contract. Assumes nothing.
-use Rattle.surface.specs.Fresnel.{snellFresnelOf}
+use Rattle.surface.specs.Fresnel.{computeSnellFresnelInteractionOf}
 use borrow.Author.Needs.{needs}
 use Rattle.surface.proofs.compute_snell_fresnel_interaction.Statement.{statement}
 use Rattle.surface.proofs.compute_snell_fresnel_interaction.Tie as tie
@@ -20,14 +20,14 @@ total-requires : tie.Need-total-requires
 total-requires c κs = search needs
 
 returns : tie.Need-returns
-unfolding snellFresnelOf
+unfolding computeSnellFresnelInteractionOf
 returns c = simp (← c .before .before .before .before .before .cosine .ensures, ← c .before .before .before .before .radicand .ensures, c .before .before .before .if1 .taken, ← c .before .before .reflected-direction .ensures, ← c .before .leaving .ensures, ← c .total .ensures)
 
 refract-requires : tie.Need-refract-requires
 refract-requires c κs = search needs
 
 returns-2 : tie.Need-returns-2
-unfolding snellFresnelOf
+unfolding computeSnellFresnelInteractionOf
 returns-2 c = simp (← c .before .before .before .cosine .ensures, ← c .before .before .radicand .ensures, c .before .if1 .left, ← c .refract .ensures)
 
 pub compute-snell-fresnel-interaction-spec : {M : Type 1} → statement M

@@ -5,17 +5,17 @@ use Prim.Native.Nat.{_+_, _-_, _≤_}
 use native.Mathlib.Nat.{le-of-lt}
 use native.Mathlib.Omega.{arith}
 use lib.ListN.{length, drop}
-use Rattle.fields.specs.Split.{linesOf}
+use Rattle.fields.specs.Split.{textLines}
 use Rattle.fields.proofs.Parts.{end-in}
-use Rattle.test_vectors.specs.Count.{tallyOf, emptyOf}
+use Rattle.test_vectors.specs.Count.{tallyLinesOf, emptyOf}
 use Rattle.test_vectors.proofs.Turns.{turn, done}
-use Rattle.test_vectors.specs.Count.{emptyOf, tallyOf}
-use Rattle.test_vectors.specs.Lines.{lineAgrees}
+use Rattle.test_vectors.specs.Count.{emptyOf, tallyLinesOf}
+use Rattle.test_vectors.specs.Lines.{lineAgreesOf}
 use Rattle.test_vectors.proofs.tally_lines.Statement.{statement}
 use Rattle.test_vectors.proofs.tally_lines.Tie as tie
 
 abbrev Inv-loop : tie.InvT-loop
-Inv-loop kind text t₀ at₀ t at = (at ≤ length text + 1) × (tallyOf (lineAgrees kind) t (linesOf (drop at text)) ≡ tallyOf (lineAgrees kind) emptyOf (linesOf text))
+Inv-loop kind text t₀ at₀ t at = (at ≤ length text + 1) × (tallyLinesOf (lineAgreesOf kind) t (textLines (drop at text)) ≡ tallyLinesOf (lineAgreesOf kind) emptyOf (textLines text))
 
 abbrev μ-loop : tie.MeasureT-loop
 μ-loop kind text t₀ at₀ t at = length text - at

@@ -1,15 +1,15 @@
 -- `answer_text::detectors_text::count_of` meets its contract. Assumes nothing.
 use borrow.Author.Tests.{le-leb, lt-leb}
-use Rattle.answer_text.specs.Answer.{countOf}
+use Rattle.answer_text.specs.Answer.{detectorCountOf}
 use Rattle.answer_text.proofs.detectors_text.count_of.Statement.{statement}
 use Rattle.answer_text.proofs.detectors_text.count_of.Tie as tie
 
 returns : tie.Need-returns
-unfolding countOf
+unfolding detectorCountOf
 returns c = simp (le-leb _ _ (c .if1 .taken))
 
 returns-2 : tie.Need-returns-2
-unfolding countOf
+unfolding detectorCountOf
 returns-2 c = simp (lt-leb _ _ (c .if1 .left))
 
 pub count-of-spec : {M : Type 1} → statement M

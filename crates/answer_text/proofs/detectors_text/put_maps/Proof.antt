@@ -4,14 +4,14 @@ use mathlib.Core.Path.{_≡_, refl, _∙_}
 use lib.ListN.{length}
 use borrow.Author.Needs.{needs}
 use Rattle.printing.specs.Printing.{putAll}
-use Rattle.answer_text.specs.Answer.{heldOf, mapText, eachFrom, countOf}
+use Rattle.answer_text.specs.Answer.{held, mapText, eachFrom, detectorCountOf}
 use Rattle.answer_text.proofs.Texts.{each-start, each-turn, each-end}
 use Rattle.answer_text.proofs.detectors_text.put_maps.Statement.{statement}
 use Rattle.answer_text.proofs.detectors_text.put_maps.Tie as tie
 
 abbrev Inv-loop : tie.InvT-loop
 Inv-loop buf₀ at detectors filter flux values tags used n p₀ d₀ buf p d =
-    (d ≤ n) × (length buf ≡ length buf₀) × (putAll buf p (eachFrom (mapText (heldOf detectors flux values tags used) filter) (n - d) d) ≡ putAll buf₀ at (eachFrom (mapText (heldOf detectors flux values tags used) filter) (countOf (detectors .count)) 0))
+    (d ≤ n) × (length buf ≡ length buf₀) × (putAll buf p (eachFrom (mapText (held detectors flux values tags used) filter) (n - d) d) ≡ putAll buf₀ at (eachFrom (mapText (held detectors flux values tags used) filter) (detectorCountOf (detectors .count)) 0))
 
 abbrev μ-loop : tie.MeasureT-loop
 μ-loop buf₀ at detectors filter flux values tags used n p₀ d₀ buf p d = n - d

@@ -1,6 +1,6 @@
 -- `answer_text::maps::grid_at` meets its contract. Assumes nothing.
 use native.Mathlib.Omega.{arith}
-use Rattle.answer_text.specs.Answer.{gridFrom, gridOf}
+use Rattle.answer_text.specs.Answer.{gridFrom, gridAtOf}
 use borrow.Author.Needs.{needs}
 use Rattle.answer_text.proofs.maps.grid_at.Statement.{statement}
 use Rattle.answer_text.proofs.maps.grid_at.Tie as tie
@@ -24,11 +24,11 @@ enum-told : tie.Need-enum-told
 enum-told c = search needs
 
 returns : tie.Need-returns
-unfolding gridFrom gridOf
+unfolding gridFrom gridAtOf
 returns c = (simp (← c .before .before .before .before .before .before .before .at .ensures, c .before .before .before .before .before .p .given .1, ← c .before .before .pixels .ensures, ← c .before .few .ensures .0), c .before .few .ensures .1)
 
 returns-2 : tie.Need-returns-2
-unfolding gridFrom gridOf
+unfolding gridFrom gridAtOf
 returns-2 c = (simp (← c .before .before .at .ensures, c .enum-told .given .1), omega arith)
 
 pub grid-at-spec : {M : Type 1} → statement M

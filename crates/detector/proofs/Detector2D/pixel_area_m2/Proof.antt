@@ -1,5 +1,5 @@
 -- `detector::Detector2D::pixel_area_m2` meets its contract. Assumes nothing.
-use Rattle.detector.specs.Pixels.{pixelAreaOf}
+use Rattle.detector.specs.Pixels.{pixelAreaM2Of}
 use borrow.Author.Needs.{needs}
 use Rattle.detector.proofs.Detector2D.pixel_area_m2.Statement.{statement}
 use Rattle.detector.proofs.Detector2D.pixel_area_m2.Tie as tie
@@ -17,11 +17,11 @@ area-requires : tie.Need-area-requires
 area-requires c κs = search needs
 
 returns : tie.Need-returns
-unfolding pixelAreaOf
+unfolding pixelAreaM2Of
 returns c = simp (← c .before .before .before .check .ensures, c .before .error .given .1)
 
 returns-2 : tie.Need-returns-2
-unfolding pixelAreaOf
+unfolding pixelAreaM2Of
 returns-2 c = simp (← c .before .before .before .check .ensures, c .before .enum-told .given .1, ← c .area .ensures)
 
 pub pixel-area-m2-spec : {M : Type 1} → statement M

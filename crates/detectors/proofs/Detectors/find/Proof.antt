@@ -1,6 +1,6 @@
 -- `detectors::Detectors::find` meets its contract. Assumes nothing.
 use borrow.Author.Tests.{lt-ltb, le-ltb}
-use Rattle.detectors.specs.Detectors.{checkAskedOf, findOf}
+use Rattle.detectors.specs.Detectors.{checkAsked, findOf}
 use native.Mathlib.Omega.{arith}
 use Rattle.detectors.proofs.Lists.{count-most}
 use borrow.Author.Needs.{needs}
@@ -23,15 +23,15 @@ placed-requires : tie.Need-placed-requires
 placed-requires c κs = omega (arith, count-most _ _ (c .before .before .before .before .before .before .check .ensures) (c .before .before .before .before .enum-told .given .1), c .before .if1 .taken)
 
 returns : tie.Need-returns
-unfolding checkAskedOf findOf
+unfolding checkAsked findOf
 returns c = simp (← c .before .before .before .before .before .before .before .check .ensures, c .before .before .before .before .before .enum-told .given .1, lt-ltb _ _ (c .before .before .if1 .taken), ← c .placed .ensures)
 
 returns-2 : tie.Need-returns-2
-unfolding checkAskedOf findOf
+unfolding checkAsked findOf
 returns-2 c = simp (← c .before .before .before .check .ensures, c .before .error .given .1)
 
 returns-3 : tie.Need-returns-3
-unfolding checkAskedOf findOf
+unfolding checkAsked findOf
 returns-3 c = simp (← c .before .before .before .before .before .check .ensures, c .before .before .before .enum-told .given .1, le-ltb _ _ (c .if1 .left))
 
 pub find-spec : {M : Type 1} → statement M

@@ -2,7 +2,7 @@
 use borrow.Author.Tests.{eq-eqb, ne-eqb}
 use Rattle.detectors.specs.Readings.{irradianceAtOf, irradianceFrom}
 use mathlib.Core.Path.{ap}
-use Rattle.detectors.specs.Detectors.{foundOf}
+use Rattle.detectors.specs.Detectors.{asFound}
 use Rattle.detectors.proofs.Passed.{grid-in}
 use borrow.Author.Needs.{needs}
 use Rattle.detectors.proofs.reading.irradiance_at.Statement.{statement}
@@ -21,7 +21,7 @@ all-pixels-requires : tie.Need-all-pixels-requires
 all-pixels-requires c κs = search needs
 
 irradiance-in-requires : tie.Need-irradiance-in-requires
-irradiance-in-requires c κs = grid-in _ _ _ _ _ _ (c .before .before .before .before .before .find .ensures) (ap foundOf (c .before .before .before .p .given .1)) (c .before .all-pixels .ensures) (c .if1 .taken)
+irradiance-in-requires c κs = grid-in _ _ _ _ _ _ (c .before .before .before .before .before .find .ensures) (ap asFound (c .before .before .before .p .given .1)) (c .before .all-pixels .ensures) (c .if1 .taken)
 
 returns : tie.Need-returns
 unfolding irradianceAtOf irradianceFrom

@@ -1,6 +1,6 @@
 -- `detectors::reading::irradiance_in` meets its contract. Assumes nothing.
 use borrow.Author.Tests.{lt-ltb, le-ltb}
-use Rattle.detectors.specs.Readings.{irradianceIn}
+use Rattle.detectors.specs.Readings.{irradianceInOf}
 use native.Mathlib.Omega.{arith}
 use Rattle.detectors.proofs.Passed.{pixel-at}
 use borrow.Author.Needs.{needs}
@@ -29,15 +29,15 @@ irradiance-requires : tie.Need-irradiance-requires
 irradiance-requires c κs = search needs
 
 returns : tie.Need-returns
-unfolding irradianceIn
+unfolding irradianceInOf
 returns c = simp (lt-ltb _ _ (c .before .before .before .before .before .before .if1 .taken), lt-ltb _ _ (c .before .before .before .before .if2 .taken), ← c .irradiance .ensures)
 
 returns-2 : tie.Need-returns-2
-unfolding irradianceIn
+unfolding irradianceInOf
 returns-2 c = simp (lt-ltb _ _ (c .before .before .if1 .taken), le-ltb _ _ (c .if2 .left))
 
 returns-3 : tie.Need-returns-3
-unfolding irradianceIn
+unfolding irradianceInOf
 returns-3 c = simp (le-ltb _ _ (c .if1 .left))
 
 pub irradiance-in-spec : {M : Type 1} → statement M

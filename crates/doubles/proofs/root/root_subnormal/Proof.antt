@@ -4,7 +4,7 @@ use mathlib.Core.Path.{_≡_, sym, subst, ap}
 use Prim.Native.Nat.{ℕ, _+_, _-_, _*_, _/_, _%_, _^_, _≤_, _<_}
 use native.Mathlib.Omega.{arith}
 use lib.Count.{leadingZeros, leading-le}
-use Rattle.doubles.specs.Root.{nearestRoot}
+use Rattle.doubles.specs.Root.{nearestRootOf}
 use Rattle.doubles.proofs.Floats.{positive-no-nan}
 use Rattle.doubles.proofs.Roots.{Aligned, aligned, sub-even, evened-in, root-most, subnormal-root}
 use Rattle.doubles.proofs.root.root_subnormal.Statement.{statement}
@@ -35,10 +35,10 @@ slow-root-requires c κs =
     subst (λ (x : ℕ). (2 ^ 52 ≤ (x * 2 ^ (s % 2)) % 2 ^ 64) × ((x * 2 ^ (s % 2)) % 2 ^ 64 + 1 < 2 ^ 54)) (sym (a .fits))
     (evened-in (b * 2 ^ s) (s % 2) (a .least) (a .most) e)
 
-near : (c : tie.After-slow-root) → c .slow-root .result ≡ nearestRoot ((c .before .args .b * 2 ^ (leadingZeros 64 (c .before .args .b) - 11) * 2 ^ ((leadingZeros 64 (c .before .args .b) - 11) % 2)) % 2 ^ 64 * 2 ^ 52)
+near : (c : tie.After-slow-root) → c .slow-root .result ≡ nearestRootOf ((c .before .args .b * 2 ^ (leadingZeros 64 (c .before .args .b) - 11) * 2 ^ ((leadingZeros 64 (c .before .args .b) - 11) % 2)) % 2 ^ 64 * 2 ^ 52)
 near c =
     let s = leadingZeros 64 (c .before .args .b) - 11 in
-    subst (λ (x : ℕ). c .slow-root .result ≡ nearestRoot ((x * 2 ^ (s % 2)) % 2 ^ 64 * 2 ^ 52)) (at (c .before) .fits) (c .slow-root .ensures)
+    subst (λ (x : ℕ). c .slow-root .result ≡ nearestRootOf ((x * 2 ^ (s % 2)) % 2 ^ 64 * 2 ^ 52)) (at (c .before) .fits) (c .slow-root .ensures)
 
 most : (c : tie.After-slow-root) → c .slow-root .result < 2 ^ 53
 most c =

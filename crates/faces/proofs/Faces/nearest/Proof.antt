@@ -1,5 +1,5 @@
 -- `faces::Faces::nearest` meets its contract. Assumes nothing.
-use Rattle.faces.specs.Faces.{sightsOf, nearestDetectorOf}
+use Rattle.faces.specs.Faces.{sights, nearestDetectorOf}
 use Rattle.faces.proofs.Written.{written-out}
 use borrow.Author.Needs.{needs}
 use Rattle.faces.proofs.Faces.nearest.Statement.{statement}
@@ -58,7 +58,7 @@ seen-requires-8 c κs = search needs
 
 returns : tie.Need-returns
 unfolding nearestDetectorOf
-returns c = rw (← c .before .before .before .before .before .before .before .before .before .before .before .before .before .before .before .before .shown .ensures .0) (written-out (sightsOf (c .before .before .before .before .before .before .before .before .before .before .before .before .before .before .before .before .before .before .args .self .list) (c .before .before .before .before .before .before .before .before .before .before .before .before .before .before .before .before .before .before .args .ray)) _ _ _ _ _ _ _ _ _ (c .before .before .before .before .before .before .before .before .before .before .before .before .before .before .before .before .shown .ensures .1) (c .before .before .before .before .before .before .before .seen .ensures) (c .before .before .before .before .before .before .seen2 .ensures) (c .before .before .before .before .before .seen3 .ensures) (c .before .before .before .before .seen4 .ensures) (c .before .before .before .seen5 .ensures) (c .before .before .seen6 .ensures) (c .before .seen7 .ensures) (c .seen8 .ensures))
+returns c = rw (← c .before .before .before .before .before .before .before .before .before .before .before .before .before .before .before .before .shown .ensures .0) (written-out (sights (c .before .before .before .before .before .before .before .before .before .before .before .before .before .before .before .before .before .before .args .self .list) (c .before .before .before .before .before .before .before .before .before .before .before .before .before .before .before .before .before .before .args .ray)) _ _ _ _ _ _ _ _ _ (c .before .before .before .before .before .before .before .before .before .before .before .before .before .before .before .before .shown .ensures .1) (c .before .before .before .before .before .before .before .seen .ensures) (c .before .before .before .before .before .before .seen2 .ensures) (c .before .before .before .before .before .seen3 .ensures) (c .before .before .before .before .seen4 .ensures) (c .before .before .before .seen5 .ensures) (c .before .before .seen6 .ensures) (c .before .seen7 .ensures) (c .seen8 .ensures))
 
 pub nearest-spec : {M : Type 1} → statement M
 nearest-spec =

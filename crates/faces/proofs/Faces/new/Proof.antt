@@ -1,5 +1,5 @@
 -- `faces::Faces::new` meets its contract. Assumes nothing.
-use Rattle.faces.specs.Faces.{facesOf}
+use Rattle.faces.specs.Faces.{newFacesOf}
 use borrow.Author.Needs.{needs}
 use Rattle.faces.proofs.Faces.new.Statement.{statement}
 use Rattle.faces.proofs.Faces.new.Tie as tie
@@ -53,7 +53,7 @@ face-requires-8 : tie.Need-face-requires-8
 face-requires-8 c κs = search needs
 
 returns : tie.Need-returns
-unfolding facesOf
+unfolding newFacesOf
 returns c = simp (← c .before .before .before .before .before .before .before .face .ensures, ← c .before .before .before .before .before .before .face2 .ensures, ← c .before .before .before .before .before .face3 .ensures, ← c .before .before .before .before .face4 .ensures, ← c .before .before .before .face5 .ensures, ← c .before .before .face6 .ensures, ← c .before .face7 .ensures, ← c .face8 .ensures)
 
 pub new-spec : {M : Type 1} → statement M

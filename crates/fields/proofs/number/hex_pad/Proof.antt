@@ -5,12 +5,12 @@ use Prim.Native.Nat.{_+_, _-_, _*_, _^_, _≤_, _<_}
 use native.Mathlib.Omega.{arith}
 use lib.ListN.{drop}
 use Rattle.fields.proofs.Digits.{pow-turn, pow-fits, pad-step, pad-done, digit-at-lt}
-use Rattle.fields.specs.Number.{hexPad}
+use Rattle.fields.specs.Number.{hexPadOf}
 use Rattle.fields.proofs.number.hex_pad.Statement.{statement}
 use Rattle.fields.proofs.number.hex_pad.Tie as tie
 
 abbrev Inv-loop : tie.InvT-loop
-Inv-loop t v₀ i₀ v i = (i ≤ 16) × (v < 16 ^ i) × (hexPad v (16 - i) (drop i t) ≡ hexPad 0 16 t)
+Inv-loop t v₀ i₀ v i = (i ≤ 16) × (v < 16 ^ i) × (hexPadOf v (16 - i) (drop i t) ≡ hexPadOf 0 16 t)
 
 abbrev μ-loop : tie.MeasureT-loop
 μ-loop t v₀ i₀ v i = 16 - i

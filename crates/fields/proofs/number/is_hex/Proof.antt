@@ -4,12 +4,12 @@ use mathlib.Core.Path.{_≡_, refl}
 use Prim.Native.Nat.{_-_}
 use lib.ListN.{length, drop}
 use Rattle.fields.proofs.Digits.{hex-turn, hex-stop, hex-end}
-use Rattle.fields.specs.Number.{isHex}
+use Rattle.fields.specs.Number.{isHexOf}
 use Rattle.fields.proofs.number.is_hex.Statement.{statement}
 use Rattle.fields.proofs.number.is_hex.Tie as tie
 
 abbrev Inv-loop : tie.InvT-loop
-Inv-loop t i₀ i = isHex (drop i t) ≡ isHex t
+Inv-loop t i₀ i = isHexOf (drop i t) ≡ isHexOf t
 
 abbrev μ-loop : tie.MeasureT-loop
 μ-loop t i₀ i = length t - i

@@ -5,7 +5,7 @@ use Prim.Native.Nat.{_+_, _-_}
 use lib.ListN.{length, drop}
 use Rattle.fields.specs.Split.{before}
 use Rattle.fields.proofs.Parts.{end-here, end-turn, end-end}
-use Rattle.fields.specs.Split.{endOf}
+use Rattle.fields.specs.Split.{endAtOf}
 use Rattle.fields.proofs.split.end_of.Statement.{statement}
 use Rattle.fields.proofs.split.end_of.Tie as tie
 
@@ -22,7 +22,7 @@ shared-slice-read-if1 : tie.Need-shared-slice-read-if1 Inv-loop μ-loop
 shared-slice-read-if1 c = search needs
 
 returns : tie.Need-returns Inv-loop μ-loop
-unfolding endOf
+unfolding endAtOf
 returns c = end-here _ _ _ _ (c .before .before .loop-test .taken) (c .if1 .taken) (c .before .before .before .loop .inv)
 
 add-i : tie.Need-add-i Inv-loop μ-loop
@@ -35,7 +35,7 @@ loop-again : tie.Need-loop-again Inv-loop μ-loop
 loop-again c = end-turn _ _ _ _ (c .before .before .loop-test .taken) (c .if1 .left) (c .before .before .before .loop .inv)
 
 returns-2 : tie.Need-returns-2 Inv-loop μ-loop
-unfolding endOf
+unfolding endAtOf
 returns-2 c = end-end _ _ _ _ (c .loop-test .left) (c .before .loop .inv)
 
 pub end-of-spec : {M : Type 1} → statement M

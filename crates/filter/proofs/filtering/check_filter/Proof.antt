@@ -1,6 +1,6 @@
 -- `filter::filtering::check_filter` meets its contract. Assumes nothing.
 use borrow.Author.Tests.{eq-eqb, ne-eqb}
-use Rattle.filter.specs.Handed.{checkFilterOf, checkPlacedOf}
+use Rattle.filter.specs.Handed.{checkFilterOf, checkPlaced}
 use borrow.Author.Needs.{needs}
 use Rattle.filter.proofs.filtering.check_filter.Statement.{statement}
 use Rattle.filter.proofs.filtering.check_filter.Tie as tie
@@ -24,23 +24,23 @@ is-hit-list-requires : tie.Need-is-hit-list-requires
 is-hit-list-requires c κs = search needs
 
 returns : tie.Need-returns
-unfolding checkFilterOf checkPlacedOf
+unfolding checkFilterOf checkPlaced
 returns c = simp (← c .before .before .before .before .before .before .before .before .before .before .find .ensures, c .before .before .before .before .before .before .before .before .p .given .1, ← c .before .before .before .before .before .all-pixels .ensures, eq-eqb _ _ (c .before .before .before .before .if1 .taken), ← c .before .before .before .pixels .ensures, eq-eqb _ _ (c .before .before .if2 .taken), ← c .before .is-hit-list .ensures, c .if3 .taken)
 
 returns-2 : tie.Need-returns-2
-unfolding checkFilterOf checkPlacedOf
+unfolding checkFilterOf checkPlaced
 returns-2 c = simp (← c .before .before .before .find .ensures, c .before .error .given .1)
 
 returns-3 : tie.Need-returns-3
-unfolding checkFilterOf checkPlacedOf
+unfolding checkFilterOf checkPlaced
 returns-3 c = simp (← c .before .before .before .before .before .before .before .before .before .before .find .ensures, c .before .before .before .before .before .before .before .before .p .given .1, ← c .before .before .before .before .before .all-pixels .ensures, eq-eqb _ _ (c .before .before .before .before .if1 .taken), ← c .before .before .before .pixels .ensures, eq-eqb _ _ (c .before .before .if2 .taken), ← c .before .is-hit-list .ensures, c .if3 .left)
 
 returns-4 : tie.Need-returns-4
-unfolding checkFilterOf checkPlacedOf
+unfolding checkFilterOf checkPlaced
 returns-4 c = simp (← c .before .before .before .before .before .before .before .before .find .ensures, c .before .before .before .before .before .before .p .given .1, ← c .before .before .before .all-pixels .ensures, eq-eqb _ _ (c .before .before .if1 .taken), ← c .before .pixels .ensures, ne-eqb _ _ (c .if2 .left))
 
 returns-5 : tie.Need-returns-5
-unfolding checkFilterOf checkPlacedOf
+unfolding checkFilterOf checkPlaced
 returns-5 c = simp (← c .before .before .before .before .before .before .find .ensures, c .before .before .before .before .p .given .1, ← c .before .all-pixels .ensures, ne-eqb _ _ (c .if1 .left))
 
 pub check-filter-spec : {M : Type 1} → statement M

@@ -1,6 +1,6 @@
 -- `filter::filtering::filtered_pixel_flux` meets its contract. Assumes nothing.
 use mathlib.Core.Path.{refl, ap}
-use Rattle.filter.specs.Handed.{inNumbersOf}
+use Rattle.filter.specs.Handed.{inNumbers}
 use Rattle.filter.proofs.Hands.{part-fits, flux-refused, flux-all, flux-sifted, not-passed, not-other, not-all}
 use borrow.Author.Needs.{needs}
 use Rattle.filter.proofs.filtering.filtered_pixel_flux.Statement.{statement}
@@ -42,7 +42,7 @@ returns c =
     let k = c .before .before .before .before .before .before .p .given .1 in
     let b = c .before .before .before .is-all .ensures in
     let t = c .before .before .if1 .taken in
-    (ap inNumbersOf (flux-all _ _ _ _ _ _ _ _ _ e _ k _ b t _ (c .stored-part .ensures .0)), (λ q. c .stored-part .ensures .1, λ p q g. not-other _ _ b t q))
+    (ap inNumbers (flux-all _ _ _ _ _ _ _ _ _ e _ k _ b t _ (c .stored-part .ensures .0)), (λ q. c .stored-part .ensures .1, λ p q g. not-other _ _ b t q))
 
 refill-requires : tie.Need-refill-requires
 refill-requires c κs = search needs
@@ -59,7 +59,7 @@ returns-3 c =
     let k = c .before .before .before .before .before .before .before .before .before .p .given .1 in
     let b = c .before .before .before .before .before .before .is-all .ensures in
     let t = c .before .before .before .before .before .if1 .left in
-    (ap inNumbersOf (flux-sifted _ _ _ _ _ _ _ _ _ e _ k _ b t _ (c .before .before .before .refill .ensures)), (λ q. not-all _ _ b t q, λ p q g. refl))
+    (ap inNumbers (flux-sifted _ _ _ _ _ _ _ _ _ e _ k _ b t _ (c .before .before .before .refill .ensures)), (λ q. not-all _ _ b t q, λ p q g. refl))
 
 pub filtered-pixel-flux-spec : {M : Type 1} → statement M
 filtered-pixel-flux-spec =

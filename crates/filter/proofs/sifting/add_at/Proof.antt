@@ -1,7 +1,7 @@
 -- `filter::sifting::add_at` meets its contract. Assumes nothing.
 use mathlib.Core.Path.{refl}
 use Rattle.filter.proofs.Sift.{added-beyond}
-use Rattle.filter.specs.Filters.{addedAtOf}
+use Rattle.filter.specs.Filters.{addAtOf}
 use borrow.Author.Needs.{needs}
 use Rattle.filter.proofs.sifting.add_at.Statement.{statement}
 use Rattle.filter.proofs.sifting.add_at.Tie as tie
@@ -22,7 +22,7 @@ same-length : tie.Need-same-length
 same-length c = search needs
 
 returns : tie.Need-returns
-unfolding addedAtOf
+unfolding addAtOf
 returns c = refl
 
 returns-2 : tie.Need-returns-2

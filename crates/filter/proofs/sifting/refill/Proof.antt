@@ -6,7 +6,7 @@ use mathlib.Core.Path.{_≡_, refl, ap, _∙_}
 use native.Mathlib.Omega.{arith}
 use lib.ListN.{length, length-replicate}
 use Rattle.memory.specs.Memory.{hitsFrom}
-use Rattle.filter.specs.Filters.{mapOf, plusEach, passing, refilledOf}
+use Rattle.filter.specs.Filters.{asMap, plusEach, passing, refillOf}
 use Rattle.filter.proofs.Sift.{sift-start, sift-turn, sift-end, turn-count, same-room}
 use Rattle.filter.proofs.sifting.refill.Statement.{statement}
 use Rattle.filter.proofs.sifting.refill.Tie as tie
@@ -16,7 +16,7 @@ Inv-loop filter asked d work₀ values tags used t₀ i₀ work t i =
     (i ≤ used)
     × (length work ≡ length work₀)
     × (t .count ≤ i)
-    × (plusEach d (mapOf t work) (passing filter asked (hitsFrom values tags (used - i) i)) ≡ refilledOf filter asked d (length work₀) (hitsFrom values tags used 0))
+    × (plusEach d (asMap t work) (passing filter asked (hitsFrom values tags (used - i) i)) ≡ refillOf filter asked d (length work₀) (hitsFrom values tags used 0))
 
 abbrev μ-loop : tie.MeasureT-loop
 μ-loop filter asked d work₀ values tags used t₀ i₀ work t i = used - i

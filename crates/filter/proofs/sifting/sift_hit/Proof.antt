@@ -1,5 +1,5 @@
 -- `filter::sifting::sift_hit` meets its contract. Assumes nothing.
-use Rattle.filter.specs.Filters.{turnOf}
+use Rattle.filter.specs.Filters.{siftHitOf}
 use borrow.Author.Needs.{needs}
 use Rattle.filter.proofs.sifting.sift_hit.Statement.{statement}
 use Rattle.filter.proofs.sifting.sift_hit.Tie as tie
@@ -14,11 +14,11 @@ same-length : tie.Need-same-length
 same-length c = search needs
 
 returns : tie.Need-returns
-unfolding turnOf
+unfolding siftHitOf
 returns c = simp (← c .before .before .before .before .before .passes .ensures, c .before .before .before .before .if1 .taken, ← c .before .before .add-hit .ensures)
 
 returns-2 : tie.Need-returns-2
-unfolding turnOf
+unfolding siftHitOf
 returns-2 c = simp (← c .before .passes .ensures, c .if1 .left)
 
 pub sift-hit-spec : {M : Type 1} → statement M

@@ -1,5 +1,5 @@
 -- `geometry::PrimitiveGeometry::is_behind` meets its contract. Assumes nothing.
-use Rattle.geometry.specs.Behind.{behindOf}
+use Rattle.geometry.specs.Behind.{isBehindOf}
 use borrow.Author.Needs.{needs}
 use Rattle.geometry.proofs.PrimitiveGeometry.is_behind.Statement.{statement}
 use Rattle.geometry.proofs.PrimitiveGeometry.is_behind.Tie as tie
@@ -29,23 +29,23 @@ leaves-box-requires : tie.Need-leaves-box-requires
 leaves-box-requires c κs = search needs
 
 returns : tie.Need-returns
-unfolding behindOf
+unfolding isBehindOf
 returns c = simp (c .before .enum-told .given .1, ← c .recedes .ensures)
 
 returns-2 : tie.Need-returns-2
-unfolding behindOf
+unfolding isBehindOf
 returns-2 c = simp (c .before .enum-told2 .given .1, ← c .recedes2 .ensures)
 
 returns-3 : tie.Need-returns-3
-unfolding behindOf
+unfolding isBehindOf
 returns-3 c = simp (c .enum-told3 .given .1)
 
 returns-4 : tie.Need-returns-4
-unfolding behindOf
+unfolding isBehindOf
 returns-4 c = simp (c .enum-told4 .given .1)
 
 returns-5 : tie.Need-returns-5
-unfolding behindOf
+unfolding isBehindOf
 returns-5 c = simp (c .before .before .self .given .1, ← c .leaves-box .ensures)
 
 pub is-behind-spec : {M : Type 1} → statement M

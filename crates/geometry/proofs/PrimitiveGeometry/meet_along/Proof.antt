@@ -1,5 +1,5 @@
 -- `geometry::PrimitiveGeometry::meet_along` meets its contract. Assumes nothing.
-use Rattle.geometry.specs.Meetings.{meetAlongOf, meetByOf}
+use Rattle.geometry.specs.Meetings.{meetAlongOf, meetBy}
 use borrow.Author.Needs.{needs}
 use Rattle.geometry.proofs.PrimitiveGeometry.meet_along.Statement.{statement}
 use Rattle.geometry.proofs.PrimitiveGeometry.meet_along.Tie as tie
@@ -23,15 +23,15 @@ enum-told-2 : tie.Need-enum-told-2
 enum-told-2 c = search needs
 
 returns : tie.Need-returns
-unfolding meetAlongOf meetByOf
+unfolding meetAlongOf meetBy
 returns c = simp (c .before .before .before .before .before .before .along .given .1, ← c .before .before .before .before .intersect-local .ensures, c .before .before .hit .given .1, ← c .at .ensures)
 
 returns-2 : tie.Need-returns-2
-unfolding meetAlongOf meetByOf
+unfolding meetAlongOf meetBy
 returns-2 c = simp (c .before .before .before .before .along .given .1, ← c .before .before .intersect-local .ensures, c .enum-told .given .1)
 
 returns-3 : tie.Need-returns-3
-unfolding meetAlongOf meetByOf
+unfolding meetAlongOf meetBy
 returns-3 c = simp (c .enum-told2 .given .1)
 
 pub meet-along-spec : {M : Type 1} → statement M

@@ -1,27 +1,27 @@
 -- `geometry::PrimitiveGeometry::numbered` meets its contract. Assumes nothing.
 use borrow.Author.Tests.{eq-eqb, ne-eqb}
-use Rattle.geometry.specs.Shapes.{shapeOf}
+use Rattle.geometry.specs.Shapes.{numberedGeometryOf}
 use Rattle.geometry.proofs.PrimitiveGeometry.numbered.Statement.{statement}
 use Rattle.geometry.proofs.PrimitiveGeometry.numbered.Tie as tie
 
 returns : tie.Need-returns
-unfolding shapeOf
+unfolding numberedGeometryOf
 returns c = simp (eq-eqb _ _ (c .if1 .taken))
 
 returns-2 : tie.Need-returns-2
-unfolding shapeOf
+unfolding numberedGeometryOf
 returns-2 c = simp (ne-eqb _ _ (c .before .if1 .left), eq-eqb _ _ (c .if2 .taken))
 
 returns-3 : tie.Need-returns-3
-unfolding shapeOf
+unfolding numberedGeometryOf
 returns-3 c = simp (ne-eqb _ _ (c .before .before .if1 .left), ne-eqb _ _ (c .before .if2 .left), eq-eqb _ _ (c .if3 .taken))
 
 returns-4 : tie.Need-returns-4
-unfolding shapeOf
+unfolding numberedGeometryOf
 returns-4 c = simp (ne-eqb _ _ (c .before .before .before .if1 .left), ne-eqb _ _ (c .before .before .if2 .left), ne-eqb _ _ (c .before .if3 .left), eq-eqb _ _ (c .if4 .taken))
 
 returns-5 : tie.Need-returns-5
-unfolding shapeOf
+unfolding numberedGeometryOf
 returns-5 c = simp (ne-eqb _ _ (c .before .before .before .if1 .left), ne-eqb _ _ (c .before .before .if2 .left), ne-eqb _ _ (c .before .if3 .left), ne-eqb _ _ (c .if4 .left))
 
 pub numbered-spec : {M : Type 1} → statement M

@@ -1,5 +1,5 @@
 -- `geometry::flat::intersect_disk` meets its contract. Assumes nothing.
-use Rattle.geometry.specs.Flat.{diskFromOf, intersectDiskOf}
+use Rattle.geometry.specs.Flat.{diskFrom, intersectDiskOf}
 use borrow.Author.Needs.{needs}
 use Rattle.geometry.proofs.flat.intersect_disk.Statement.{statement}
 use Rattle.geometry.proofs.flat.intersect_disk.Tie as tie
@@ -17,11 +17,11 @@ enum-told : tie.Need-enum-told
 enum-told c = search needs
 
 returns : tie.Need-returns
-unfolding intersectDiskOf diskFromOf
+unfolding intersectDiskOf diskFrom
 returns c = simp (← c .before .before .before .before .flat-distance .ensures, c .before .before .t .given .1, ← c .disk-at .ensures)
 
 returns-2 : tie.Need-returns-2
-unfolding intersectDiskOf diskFromOf
+unfolding intersectDiskOf diskFrom
 returns-2 c = simp (← c .before .before .flat-distance .ensures, c .enum-told .given .1)
 
 pub intersect-disk-spec : {M : Type 1} → statement M

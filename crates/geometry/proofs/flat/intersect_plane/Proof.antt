@@ -1,5 +1,5 @@
 -- `geometry::flat::intersect_plane` meets its contract. Assumes nothing.
-use Rattle.geometry.specs.Flat.{planeFromOf, intersectPlaneOf}
+use Rattle.geometry.specs.Flat.{planeFrom, intersectPlaneOf}
 use borrow.Author.Needs.{needs}
 use Rattle.geometry.proofs.flat.intersect_plane.Statement.{statement}
 use Rattle.geometry.proofs.flat.intersect_plane.Tie as tie
@@ -17,11 +17,11 @@ enum-told : tie.Need-enum-told
 enum-told c = search needs
 
 returns : tie.Need-returns
-unfolding intersectPlaneOf planeFromOf
+unfolding intersectPlaneOf planeFrom
 returns c = simp (← c .before .before .before .before .flat-distance .ensures, c .before .before .t .given .1, ← c .plane-at .ensures)
 
 returns-2 : tie.Need-returns-2
-unfolding intersectPlaneOf planeFromOf
+unfolding intersectPlaneOf planeFrom
 returns-2 c = simp (← c .before .before .flat-distance .ensures, c .enum-told .given .1)
 
 pub intersect-plane-spec : {M : Type 1} → statement M

@@ -1,5 +1,5 @@
 -- `geometry::meeting::leaves_box` meets its contract. Assumes nothing.
-use Rattle.geometry.specs.Behind.{behindOf}
+use Rattle.geometry.specs.Behind.{isBehindOf}
 use borrow.Author.Needs.{needs}
 use Rattle.geometry.proofs.meeting.leaves_box.Statement.{statement}
 use Rattle.geometry.proofs.meeting.leaves_box.Tie as tie
@@ -14,7 +14,7 @@ leaves-requires-3 : tie.Need-leaves-requires-3
 leaves-requires-3 c κs = search needs
 
 returns : tie.Need-returns
-unfolding behindOf
+unfolding isBehindOf
 returns c = simp (← c .before .before .leaves .ensures, ← c .before .leaves2 .ensures, ← c .leaves3 .ensures)
 
 pub leaves-box-spec : {M : Type 1} → statement M

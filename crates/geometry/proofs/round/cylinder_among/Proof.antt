@@ -1,6 +1,6 @@
 -- `geometry::round::cylinder_among` meets its contract. Assumes nothing.
 use Rattle.geometry.specs.Round.{cylinderAmongOf}
-use Rattle.geometry.specs.Hits.{firstOf}
+use Rattle.geometry.specs.Hits.{firstThere}
 use borrow.Author.Needs.{needs}
 use Rattle.geometry.proofs.round.cylinder_among.Statement.{statement}
 use Rattle.geometry.proofs.round.cylinder_among.Tie as tie
@@ -24,15 +24,15 @@ enum-told-2 : tie.Need-enum-told-2
 enum-told-2 c = search needs
 
 returns : tie.Need-returns
-unfolding cylinderAmongOf firstOf
+unfolding cylinderAmongOf firstThere
 returns c = simp (c .before .before .before .before .before .candidates .given .1, ← c .before .before .before .cylinder-at .ensures, c .before .h .given .1)
 
 returns-2 : tie.Need-returns-2
-unfolding cylinderAmongOf firstOf
+unfolding cylinderAmongOf firstThere
 returns-2 c = simp (c .before .before .before .before .before .candidates .given .1, ← c .before .before .before .cylinder-at .ensures, c .before .enum-told .given .1, ← c .cylinder-at2 .ensures)
 
 returns-3 : tie.Need-returns-3
-unfolding cylinderAmongOf firstOf
+unfolding cylinderAmongOf firstThere
 returns-3 c = simp (c .enum-told2 .given .1)
 
 pub cylinder-among-spec : {M : Type 1} → statement M

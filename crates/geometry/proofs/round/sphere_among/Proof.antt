@@ -1,6 +1,6 @@
 -- `geometry::round::sphere_among` meets its contract. Assumes nothing.
 use Rattle.geometry.specs.Round.{sphereAmongOf}
-use Rattle.geometry.specs.Hits.{firstOf}
+use Rattle.geometry.specs.Hits.{firstThere}
 use borrow.Author.Needs.{needs}
 use Rattle.geometry.proofs.round.sphere_among.Statement.{statement}
 use Rattle.geometry.proofs.round.sphere_among.Tie as tie
@@ -24,15 +24,15 @@ enum-told-2 : tie.Need-enum-told-2
 enum-told-2 c = search needs
 
 returns : tie.Need-returns
-unfolding sphereAmongOf firstOf
+unfolding sphereAmongOf firstThere
 returns c = simp (c .before .before .before .before .before .candidates .given .1, ← c .before .before .before .sphere-at .ensures, c .before .h .given .1)
 
 returns-2 : tie.Need-returns-2
-unfolding sphereAmongOf firstOf
+unfolding sphereAmongOf firstThere
 returns-2 c = simp (c .before .before .before .before .before .candidates .given .1, ← c .before .before .before .sphere-at .ensures, c .before .enum-told .given .1, ← c .sphere-at2 .ensures)
 
 returns-3 : tie.Need-returns-3
-unfolding sphereAmongOf firstOf
+unfolding sphereAmongOf firstThere
 returns-3 c = simp (c .enum-told2 .given .1)
 
 pub sphere-among-spec : {M : Type 1} → statement M

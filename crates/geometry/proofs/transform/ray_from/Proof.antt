@@ -1,6 +1,6 @@
 -- `geometry::transform::ray_from` meets its contract. Assumes nothing.
-use Rattle.geometry.specs.Meetings.{rayByOf, rayFromOf}
-use Rattle.geometry.specs.Transforms.{madeOf}
+use Rattle.geometry.specs.Meetings.{rayBy, rayFromOf}
+use Rattle.geometry.specs.Transforms.{madeRay}
 use Rattle.geometry.proofs.Unit.{ray-made, no-ray}
 use borrow.Author.Needs.{needs}
 use Rattle.geometry.proofs.transform.ray_from.Statement.{statement}
@@ -25,7 +25,7 @@ returns-2 : tie.Need-returns-2
 returns-2 c = no-ray _ _ _ _ _ _ (c .before .before .before .before .before .unit .ensures) (c .before .before .before .u .given .1) (c .before .is-finite-with .ensures) (c .if1 .left)
 
 returns-3 : tie.Need-returns-3
-unfolding madeOf rayByOf rayFromOf
+unfolding madeRay rayBy rayFromOf
 returns-3 c = simp (← c .before .before .unit .ensures, c .enum-told .given .1)
 
 pub ray-from-spec : {M : Type 1} → statement M

@@ -49,7 +49,7 @@ use denote.Triple.Table.{entered, cited}
 use denote.Triple.Walked.{says, Stays, stay-none-slice, stay-slice, walkOf, goes-none-slice, goes-slice, Walks, ends-at, walked, walk-meets}
 use denote.Exit.{yes}
 use Rattle.host_tracing.specs.declared.slices.GivenRay.{GivenRay}
-use Rattle.host_tracing.specs.Flat.{Laid, laid, putRay, putRays}
+use Rattle.host_tracing.specs.Flat.{Laid, laid, putRayOf, flattenOf}
 use Rattle.host_tracing.proofs.Laying.{no-ray, put-turn, put-end}
 use Rattle.host_tracing.proofs.Again.{LentAgain, lends-again, comes-back}
 use Rattle.host_tracing.proofs.slices.GivenRay as T
@@ -81,7 +81,7 @@ record Turn (ys : List GivenRay) (s₀ : Laid) (n₀ n₁ : ℕ) : Type 0 where
   marks : List ℕ
   within : at ≤ length ys
   small : count < 2 ^ 32
-  so : putRays (dropped at ys) (laid count values marks) ≡ putRays ys s₀
+  so : flattenOf (dropped at ys) (laid count values marks) ≡ flattenOf ys s₀
   same₀ : length values ≡ n₀
   same₁ : length marks ≡ n₁
 
@@ -142,7 +142,7 @@ module _ {M : Type 1} (𝓤 : URA M) (H : Heap 𝓤) (A : Atoms 𝓤) (W : Given
   exits z over =
       qed W (Has (z .values) (z .marks) []) ∵
       suffices ! _ (ends-at 𝓤 H A each.ended stayed (each.clauses 𝓤 H A mem run) W bound (vint w32 (z .count)) (z .count) (tt, (z .values, (z .marks, tt))) (tt, (z .same₀, (z .same₁, tt)))) $
-      says ! (put-end ys (laid (z .count) (z .values) (z .marks)) (putRays ys s₀) (z .at) over (z .so)) $
+      says ! (put-end ys (laid (z .count) (z .values) (z .marks)) (flattenOf ys s₀) (z .at) over (z .so)) $
       nothing ! $ move ! (4 ∷ 0 ∷ []) $ join ! $ move ! (2 ∷ 0 ∷ []) $ join ! $ move ! (4 ∷ 0 ∷ []) $ join ! $ frame ! $
       rewrite ! 0 (λ (m : ℕ). ‵ (MutSlice (named 1) κ₁ f64 .own (x₁ γ₁ (z .values)) (v₁ (m) ∷ []))) (z .same₀) refl $ rewrite ! 1 (λ (m : ℕ). ‵ (MutSlice (named 2) κ₂ u32 .own (x₂ γ₂ (z .marks)) (v₂ (m) ∷ []))) (z .same₁) refl $
       nothing ! $ move ! (2 ∷ 0 ∷ []) $ fjoin ! $ move ! (1 ∷ 0 ∷ []) $ fjoin ! $ move ! (1 ∷ 0 ∷ []) $ fjoin ! $ frame ! $ owned ! u32 (Is u32) (uint-makes 𝓤 H A W w32) (z .count) _ (refl, z .small) $ done !
@@ -257,7 +257,7 @@ module _ {M : Type 1} (𝓤 : URA M) (H : Heap 𝓤) (A : Atoms 𝓤) (W : Given
           move ! (5 ∷ 2 ∷ 3 ∷ 0 ∷ []) $ group ! 4 $ use1 W (raw (Step 𝓤 H A mem run .pre (to-step i t f₀ f₁ α₀ α₁ δ₀ δ₁))) (goes-step i t f₀ f₁ α₀ α₁ δ₀ δ₁ (z .small) g) $
           calls-at ! fm (Step 𝓤 H A mem run) known (to-step i t f₀ f₁ α₀ α₁ δ₀ δ₁) (and-then ! (load ! (from ! (stop !)) (look ! 21 refl)) (and-then ! (load ! (from ! (stop !)) (look ! 25 refl)) (and-then ! (load ! (from ! (stop !)) (look ! 9 refl)) (and-then ! (load ! (from ! (stop !)) (look ! 5 refl)) (no-more !))))) (λ w.
           use1 W (later (some (λ (r : ℕ). ((‵ (flft (α₀ ∷ []) fullShare) ⊛ (‵ (flft (α₁ ∷ []) fullShare) ⊛ ‵ ftrue)) ⊛ ‵ (u32 .own r (w ∷ []))) ⊛ raw (ensured 𝓤 H A step.ended (step.clauses 𝓤 H A mem run) (α₀ ∷ [], (α₁ ∷ [], tt)) (to-a i t f₀ f₁ α₀ α₁ δ₀ δ₁) tt r)))) (id⊢ 𝓤 _) $ await ! tt $ pick ! (λ r. split ! $ move ! (1 ∷ []) $
-          use1 W (some (λ (zs : Lasts step.ended (α₀ ∷ [], (α₁ ∷ [], tt)) (to-a i t f₀ f₁ α₀ α₁ δ₀ δ₁)). ‵ (lasts step.ended (α₀ ∷ [], (α₁ ∷ [], tt)) (to-a i t f₀ f₁ α₀ α₁ δ₀ δ₁) zs) ⊛ raw (fact 𝓤 (laid r (zs .1 .1 .0) (zs .1 .1 .1 .0) ≡ putRay ray (laid t f₀ f₁))))) (id⊢ 𝓤 _) $ pick ! (λ zs. split ! $ move ! (1 ∷ []) $ heard ! (laid r (zs .1 .1 .0) (zs .1 .1 .1 .0) ≡ putRay ray (laid t f₀ f₁)) (λ e.
+          use1 W (some (λ (zs : Lasts step.ended (α₀ ∷ [], (α₁ ∷ [], tt)) (to-a i t f₀ f₁ α₀ α₁ δ₀ δ₁)). ‵ (lasts step.ended (α₀ ∷ [], (α₁ ∷ [], tt)) (to-a i t f₀ f₁ α₀ α₁ δ₀ δ₁) zs) ⊛ raw (fact 𝓤 (laid r (zs .1 .1 .0) (zs .1 .1 .1 .0) ≡ putRayOf ray (laid t f₀ f₁))))) (id⊢ 𝓤 _) $ pick ! (λ zs. split ! $ move ! (1 ∷ []) $ heard ! (laid r (zs .1 .1 .0) (zs .1 .1 .1 .0) ≡ putRayOf ray (laid t f₀ f₁)) (λ e.
           fsplit ! $ drop ! $ fsplit ! $ drop ! $ fsplit ! $ fsplit ! $ move ! (1 ∷ []) $ feqL ! (λ m₀. move ! (1 ∷ []) $ fsplit ! $ fsplit ! $ move ! (1 ∷ []) $ feqL ! (λ m₁. move ! (1 ∷ []) $ drop ! $
           move ! (2 ∷ []) $ split ! $ move ! (1 ∷ []) $ peeks ! u32 (Is u32) (shows 𝓤 H A u32) r (w ∷ []) (λ is′.
           land ! (from ! (stop !)) (store ! 28 refl (uint-lawful 𝓤 H A W w32 .typed r _ is′ .0)) $ rewrite ! 28 (λ (u : Val). ‵ (fat fullShare (tyInt w32) l₄ 0 u)) (ap only (uint-tells w32 r _ is′)) refl $ drop ! $
@@ -270,7 +270,7 @@ module _ {M : Type 1} (𝓤 : URA M) (H : Heap 𝓤) (A : Atoms 𝓤) (W : Given
           assigns-last ! (bin ! (load ! (from ! (stop !)) (look ! 24 refl)) (lit ! tt) (record { fits = next-fits })) (from ! (stop !)) (store ! 24 refl (tt, record { fits = next-fits })) $
           forget ! 22 refl $ forget ! 20 refl $ forget ! 18 refl $ forget ! 16 refl $ forget ! 14 refl $ forget ! 12 refl $ forget ! 8 refl $ forget ! 10 refl $ forget ! 6 refl $
           move ! (2 ∷ 3 ∷ 0 ∷ 1 ∷ 4 ∷ 5 ∷ []) $
-          again ! Less I z (record { at = i + 1; count = r; values = zs .1 .1 .0; marks = zs .1 .1 .1 .0; within = omega (arith, inside); small = is′ .1; so = put-turn ys (laid t f₀ f₁) (laid r (zs .1 .1 .0) (zs .1 .1 .1 .0)) (putRays ys s₀) i inside (z .so) e; same₀ = m₀ ∙ z .same₀; same₁ = m₁ ∙ z .same₁ }) (omega (arith, inside)))))))))))))))
+          again ! Less I z (record { at = i + 1; count = r; values = zs .1 .1 .0; marks = zs .1 .1 .1 .0; within = omega (arith, inside); small = is′ .1; so = put-turn ys (laid t f₀ f₁) (laid r (zs .1 .1 .0) (zs .1 .1 .1 .0)) (flattenOf ys s₀) i inside (z .so) e; same₀ = m₀ ∙ z .same₀; same₁ = m₁ ∙ z .same₁ }) (omega (arith, inside)))))))))))))))
         where
           i : ℕ
           i = z .at

@@ -50,9 +50,9 @@ use Rattle.detectors.specs.declared.Detectors.{Detectors}
 use Rattle.host_tracing.specs.declared.answers.HostConfig.{HostConfig}
 use Rattle.host_tracing.specs.declared.answers.HostTraced.{HostTraced}
 use Rattle.host_tracing.specs.declared.slices.GivenRay.{GivenRay}
-use Rattle.memory.specs.Memory.{memoryOf}
-use Rattle.host_tracing.specs.Tracing.{left, hostTraceOf}
-use Rattle.host_tracing.specs.Flat.{laid, putRays, flatValues, flatMarks, frontOf}
+use Rattle.memory.specs.Memory.{lentMemory}
+use Rattle.host_tracing.specs.Tracing.{left, hostTraceRaysOf}
+use Rattle.host_tracing.specs.Flat.{laid, flattenOf, flatValues, flatTags, frontOf}
 use Rattle.host_tracing.proofs.Laying.{zero-f, zeros, nones, long-f, long-h}
 use Rattle.host_tracing.proofs.Given.{given-is}
 use Rattle.host_tracing.proofs.Arrays.{big-lit, Elems, apart, whole, lend-mut, back-mut, lend-shr, back-shr}
@@ -165,7 +165,7 @@ module _ {M : Type 1} (𝓤 : URA M) (H : Heap 𝓤) (A : Atoms 𝓤) (W : Given
   abbrev Had : List Float → List ℕ → List Float → List ℕ → List (Item 𝓤)
   Had z₃ z₄ z₅ z₆ = (‵ (flft κ₀ q₀) ⊛ (‵ (flft κ₁ q₁) ⊛ (‵ (flft κ₂ q₂) ⊛ (‵ (flft κ₃ q₃) ⊛ (‵ (flft κ₄ q₄) ⊛ (‵ (flft κ₅ q₅) ⊛ (‵ (flft κ₆ q₆) ⊛ ‵ ftrue))))))) ∷ ‵ (ShrSlice (named 0) κ₀ f64 .own x₀ (v₀ ∷ [])) ∷ ‵ (ShrSlice (named 1) κ₁ u32 .own x₁ (v₁ ∷ [])) ∷ ‵ (ShrSlice (named 2) κ₂ T.the-row .own x₂ (v₂ ∷ [])) ∷ ‵ (finally f64 γ₃ z₃) ∷ ‵ (finally u32 γ₄ z₄) ∷ ‵ (finally f64 γ₅ z₅) ∷ ‵ (finally u32 γ₆ z₆) ∷ []
 
-  exits : (r : HostTraced) (z₃ : List Float) (z₄ : List ℕ) (z₅ : List Float) (z₆ : List ℕ) → Is Z.the-row r (traced-val r ∷ []) → (length z₃ ≡ length y₃) × ((length z₄ ≡ length y₄) × ((length z₅ ≡ length y₅) × ((length z₆ ≡ length y₆)))) → (left r z₃ z₄ z₅ z₆ ≡ hostTraceOf g y₀ y₁ n (flatValues y₂) (flatMarks y₂) (length y₂) (memoryOf ds y₃ y₄ y₅ y₆ used)) → ent 𝓤 (⋆ 𝓤 H A (Had z₃ z₄ z₅ z₆)) (Post (traced-val r))
+  exits : (r : HostTraced) (z₃ : List Float) (z₄ : List ℕ) (z₅ : List Float) (z₆ : List ℕ) → Is Z.the-row r (traced-val r ∷ []) → (length z₃ ≡ length y₃) × ((length z₄ ≡ length y₄) × ((length z₅ ≡ length y₅) × ((length z₆ ≡ length y₆)))) → (left r z₃ z₄ z₅ z₆ ≡ hostTraceRaysOf g y₀ y₁ n (flatValues y₂) (flatTags y₂) (length y₂) (lentMemory ds y₃ y₄ y₅ y₆ used)) → ent 𝓤 (⋆ 𝓤 H A (Had z₃ z₄ z₅ z₆)) (Post (traced-val r))
   exits r z₃ z₄ z₅ z₆ is e so =
       qed W (Had z₃ z₄ z₅ z₆) ∵
       suffices ! _ (ends-at 𝓤 H A entry.ended stayed (entry.clauses 𝓤 H A mem run) W bound (traced-val r) r (tt, (tt, (tt, (tt, (tt, (tt, (z₃, (z₄, (z₅, (z₆, (tt, tt))))))))))) (tt, (tt, (tt, (tt, (tt, (tt, (e .0, (e .1 .0, (e .1 .1 .0, (e .1 .1 .1, (tt, tt)))))))))))) $ says ! so $
@@ -257,7 +257,7 @@ module _ {M : Type 1} (𝓤 : URA M) (H : Heap 𝓤) (A : Atoms 𝓤) (W : Given
         move ! (4 ∷ 22 ∷ 19 ∷ 12 ∷ 20 ∷ 17 ∷ []) $ group ! 6 $ use1 W (raw (First 𝓤 H A mem run .pre (to-first l₁₂ l₁₃ α β δ ε))) (goes-first l₁₂ l₁₃ α β δ ε) $
         calls-at ! fm (First 𝓤 H A mem run) known-first (to-first l₁₂ l₁₃ α β δ ε) (and-then ! (load ! (from ! (stop !)) (look ! 66 refl)) (and-then ! (load ! (from ! (stop !)) (look ! 46 refl)) (and-then ! (load ! (from ! (stop !)) (look ! 42 refl)) (no-more !)))) (λ u.
         use1 W (later (some (λ (r : ℕ). ((‵ (flft κ₂ q₂) ⊛ (‵ (flft (α ∷ []) fullShare) ⊛ (‵ (flft (β ∷ []) fullShare) ⊛ ‵ ftrue))) ⊛ ‵ (u32 .own r (u ∷ []))) ⊛ raw (ensured 𝓤 H A first.ended (first.clauses 𝓤 H A mem run) (κ₂, (α ∷ [], (β ∷ [], tt))) (first-a l₁₂ l₁₃ α β δ ε) tt r)))) (id⊢ 𝓤 _) $ await ! tt $ pick ! (λ t. split ! $ move ! (1 ∷ []) $
-        use1 W (some (λ (zs : Lasts first.ended (κ₂, (α ∷ [], (β ∷ [], tt))) (first-a l₁₂ l₁₃ α β δ ε)). ‵ (lasts first.ended (κ₂, (α ∷ [], (β ∷ [], tt))) (first-a l₁₂ l₁₃ α β δ ε) zs) ⊛ raw (fact 𝓤 (laid t (zs .1 .0) (zs .1 .1 .0) ≡ putRays y₂ (laid 0 zeros nones))))) (id⊢ 𝓤 _) $ pick ! (λ zs. split ! $ move ! (1 ∷ []) $ heard ! (laid t (zs .1 .0) (zs .1 .1 .0) ≡ putRays y₂ (laid 0 zeros nones)) (λ e.
+        use1 W (some (λ (zs : Lasts first.ended (κ₂, (α ∷ [], (β ∷ [], tt))) (first-a l₁₂ l₁₃ α β δ ε)). ‵ (lasts first.ended (κ₂, (α ∷ [], (β ∷ [], tt))) (first-a l₁₂ l₁₃ α β δ ε) zs) ⊛ raw (fact 𝓤 (laid t (zs .1 .0) (zs .1 .1 .0) ≡ flattenOf y₂ (laid 0 zeros nones))))) (id⊢ 𝓤 _) $ pick ! (λ zs. split ! $ move ! (1 ∷ []) $ heard ! (laid t (zs .1 .0) (zs .1 .1 .0) ≡ flattenOf y₂ (laid 0 zeros nones)) (λ e.
         fsplit ! $ drop ! $ fsplit ! $ fsplit ! $ move ! (1 ∷ []) $ feqL ! (λ m₀. move ! (1 ∷ []) $ fsplit ! $ fsplit ! $ move ! (1 ∷ []) $ feqL ! (λ m₁. move ! (1 ∷ []) $ drop ! $
         move ! (2 ∷ []) $ split ! $ move ! (1 ∷ []) $ peeks ! u32 (Is u32) (shows 𝓤 H A u32) t (u ∷ []) (λ is-t. drop ! $ land ! (from ! (stop !)) (init ! 52 refl (uint-lawful 𝓤 H A W w32 .typed t _ is-t .0)) $ rewrite ! 52 (λ (y : Val). ‵ (fat fullShare (tyInt w32) l₁₄ 0 y)) (ap only (uint-tells w32 t _ is-t)) refl $
         -- the arrays are back
@@ -284,7 +284,7 @@ module _ {M : Type 1} (𝓤 : URA M) (H : Heap 𝓤) (A : Atoms 𝓤) (W : Given
         move ! (12 ∷ 11 ∷ 5 ∷ 2 ∷ 10 ∷ 9 ∷ 8 ∷ 7 ∷ 21 ∷ 19 ∷ 3 ∷ 0 ∷ 16 ∷ 15 ∷ 14 ∷ 13 ∷ []) $ group ! 16 $ use1 W (raw (Then 𝓤 H A mem run .pre (to-then l₁₂ l₁₃ ζ η θ ι t (zs .1 .0) (zs .1 .1 .0)))) (goes-then l₁₂ l₁₃ ζ η θ ι t (zs .1 .0) (zs .1 .1 .0) (is-t .1)) $
         calls-at ! fm (Then 𝓤 H A mem run) known-then (to-then l₁₂ l₁₃ ζ η θ ι t (zs .1 .0) (zs .1 .1 .0)) (and-then ! (load ! (from ! (stop !)) (look ! 63 refl)) (and-then ! (load ! (from ! (stop !)) (look ! 61 refl)) (and-then ! (load ! (from ! (stop !)) (look ! 59 refl)) (and-then ! (load ! (from ! (stop !)) (look ! 57 refl)) (and-then ! (load ! (from ! (stop !)) (look ! 27 refl)) (and-then ! (load ! (from ! (stop !)) (look ! 23 refl)) (and-then ! (load ! (from ! (stop !)) (look ! 39 refl)) (and-then ! (load ! (from ! (stop !)) (look ! 53 refl)) (and-then ! (load ! (from ! (stop !)) (look ! 19 refl)) (and-then ! (load ! (from ! (stop !)) (look ! 15 refl)) (and-then ! (load ! (from ! (stop !)) (look ! 11 refl)) (and-then ! (load ! (from ! (stop !)) (look ! 7 refl)) (and-then ! (load ! (from ! (stop !)) (look ! 43 refl)) (no-more !)))))))))))))) (λ k.
         use1 W (later (some (λ (r : HostTraced). ((‵ (flft κ₀ q₀) ⊛ (‵ (flft κ₁ q₁) ⊛ (‵ (flft (ζ ∷ []) fullShare) ⊛ (‵ (flft (η ∷ []) fullShare) ⊛ (‵ (flft κ₃ q₃) ⊛ (‵ (flft κ₄ q₄) ⊛ (‵ (flft κ₅ q₅) ⊛ (‵ (flft κ₆ q₆) ⊛ ‵ ftrue)))))))) ⊛ ‵ (Z.the-row .own r (k ∷ []))) ⊛ raw (ensured 𝓤 H A then.ended (then.clauses 𝓤 H A mem run) (then-κs l₁₂ l₁₃ ζ η θ ι t (zs .1 .0) (zs .1 .1 .0)) (then-a l₁₂ l₁₃ ζ η θ ι t (zs .1 .0) (zs .1 .1 .0)) tt r)))) (id⊢ 𝓤 _) $ await ! tt $ pick ! (λ r. split ! $ move ! (1 ∷ []) $
-        use1 W (some (λ (ws : Lasts then.ended (then-κs l₁₂ l₁₃ ζ η θ ι t (zs .1 .0) (zs .1 .1 .0)) (then-a l₁₂ l₁₃ ζ η θ ι t (zs .1 .0) (zs .1 .1 .0))). ‵ (lasts then.ended (then-κs l₁₂ l₁₃ ζ η θ ι t (zs .1 .0) (zs .1 .1 .0)) (then-a l₁₂ l₁₃ ζ η θ ι t (zs .1 .0) (zs .1 .1 .0)) ws) ⊛ raw (fact 𝓤 (left r (ws .1 .1 .1 .1 .1 .1 .1 .1 .0) (ws .1 .1 .1 .1 .1 .1 .1 .1 .1 .0) (ws .1 .1 .1 .1 .1 .1 .1 .1 .1 .1 .0) (ws .1 .1 .1 .1 .1 .1 .1 .1 .1 .1 .1 .0) ≡ hostTraceOf g y₀ y₁ n (frontOf (t * 8) (zs .1 .0)) (frontOf (t * 10) (zs .1 .1 .0)) t (memoryOf ds y₃ y₄ y₅ y₆ used))))) (id⊢ 𝓤 _) $ pick ! (λ ws. split ! $ move ! (1 ∷ []) $ heard ! (left r (ws .1 .1 .1 .1 .1 .1 .1 .1 .0) (ws .1 .1 .1 .1 .1 .1 .1 .1 .1 .0) (ws .1 .1 .1 .1 .1 .1 .1 .1 .1 .1 .0) (ws .1 .1 .1 .1 .1 .1 .1 .1 .1 .1 .1 .0) ≡ hostTraceOf g y₀ y₁ n (frontOf (t * 8) (zs .1 .0)) (frontOf (t * 10) (zs .1 .1 .0)) t (memoryOf ds y₃ y₄ y₅ y₆ used)) (λ e′.
+        use1 W (some (λ (ws : Lasts then.ended (then-κs l₁₂ l₁₃ ζ η θ ι t (zs .1 .0) (zs .1 .1 .0)) (then-a l₁₂ l₁₃ ζ η θ ι t (zs .1 .0) (zs .1 .1 .0))). ‵ (lasts then.ended (then-κs l₁₂ l₁₃ ζ η θ ι t (zs .1 .0) (zs .1 .1 .0)) (then-a l₁₂ l₁₃ ζ η θ ι t (zs .1 .0) (zs .1 .1 .0)) ws) ⊛ raw (fact 𝓤 (left r (ws .1 .1 .1 .1 .1 .1 .1 .1 .0) (ws .1 .1 .1 .1 .1 .1 .1 .1 .1 .0) (ws .1 .1 .1 .1 .1 .1 .1 .1 .1 .1 .0) (ws .1 .1 .1 .1 .1 .1 .1 .1 .1 .1 .1 .0) ≡ hostTraceRaysOf g y₀ y₁ n (frontOf (t * 8) (zs .1 .0)) (frontOf (t * 10) (zs .1 .1 .0)) t (lentMemory ds y₃ y₄ y₅ y₆ used))))) (id⊢ 𝓤 _) $ pick ! (λ ws. split ! $ move ! (1 ∷ []) $ heard ! (left r (ws .1 .1 .1 .1 .1 .1 .1 .1 .0) (ws .1 .1 .1 .1 .1 .1 .1 .1 .1 .0) (ws .1 .1 .1 .1 .1 .1 .1 .1 .1 .1 .0) (ws .1 .1 .1 .1 .1 .1 .1 .1 .1 .1 .1 .0) ≡ hostTraceRaysOf g y₀ y₁ n (frontOf (t * 8) (zs .1 .0)) (frontOf (t * 10) (zs .1 .1 .0)) t (lentMemory ds y₃ y₄ y₅ y₆ used)) (λ e′.
         fsplit ! $ drop ! $ fsplit ! $ drop ! $ fsplit ! $ drop ! $ fsplit ! $ drop ! $ fsplit ! $ drop ! $ fsplit ! $ drop ! $ fsplit ! $ drop ! $ fsplit ! $ drop ! $ fsplit ! $ fsplit ! $ move ! (1 ∷ []) $ feqL ! (λ p₃. move ! (1 ∷ []) $ fsplit ! $ fsplit ! $ move ! (1 ∷ []) $ feqL ! (λ p₄. move ! (1 ∷ []) $ fsplit ! $ fsplit ! $ move ! (1 ∷ []) $ feqL ! (λ p₅. move ! (1 ∷ []) $ fsplit ! $ fsplit ! $ move ! (1 ∷ []) $ feqL ! (λ p₆. move ! (1 ∷ []) $ drop ! $
         move ! (4 ∷ []) $ split ! $ move ! (1 ∷ []) $ peeks ! Z.the-row (Is Z.the-row) (shows 𝓤 H A Z.the-row) r (k ∷ []) (λ is-r. drop ! $ land ! (from ! (stop !)) (init ! 69 refl (LL.lawful Z.the-type Z′.the-laws 𝓤 H A W .typed r _ is-r .0)) $ rewrite ! 69 (λ (y : Val). ‵ (fat fullShare Z′.mir l₀ 0 y)) (ap only (LL.tells Z.the-type Z′.the-laws r _ is-r)) refl $
         -- the arrays are back, and are freed
@@ -292,7 +292,7 @@ module _ {M : Type 1} (𝓤 : URA M) (H : Heap 𝓤) (A : Atoms 𝓤) (W : Given
         move ! (5 ∷ []) $ lft-end ! tt $ move ! (0 ∷ 12 ∷ []) $ use2 W (later (‵ (Elems u32 40970 (zs .1 .1 .0) l₁₃))) (back-shr 𝓤 H A W u32 40970 l₁₃ (zs .1 .1 .0) (η ∷ []) (m₁ ∙ long-h)) $ await ! tt $ use1 W (‵ (cellAt fullShare (Array u32 40970 .mir) (array-vals (uint-vals w32) (zs .1 .1 .0)) l₁₃ 0)) (whole 𝓤 H A W u32 40970 l₁₃ (zs .1 .1 .0) (uint-vals w32) (uint-tells w32)) $
         returns ! (look ! 74 refl) $ forget ! 74 refl $ forget ! 72 refl $ forget ! 70 refl $ forget ! 68 refl $ forget ! 66 refl $ forget ! 64 refl $ forget ! 62 refl $ forget ! 60 refl $ forget ! 58 refl $ forget ! 56 refl $ forget ! 54 refl $ forget ! 52 refl $ forget ! 1 refl $ forget ! 0 refl $ forget ! 48 refl $ forget ! 46 refl $ forget ! 44 refl $ forget ! 42 refl $ forget ! 40 refl $ forget ! 38 refl $ forget ! 36 refl $ forget ! 34 refl $ forget ! 32 refl $ forget ! 30 refl $ forget ! 28 refl $ forget ! 26 refl $ forget ! 24 refl $ forget ! 22 refl $ forget ! 20 refl $ forget ! 18 refl $ forget ! 16 refl $
         move ! (74 ∷ 75 ∷ []) $ free1 ! $ move ! (72 ∷ 73 ∷ []) $ free1 ! $ move ! (70 ∷ 71 ∷ []) $ free1 ! $ move ! (68 ∷ 69 ∷ []) $ free1 ! $ move ! (66 ∷ 67 ∷ []) $ free1 ! $ move ! (64 ∷ 65 ∷ []) $ free1 ! $ move ! (62 ∷ 63 ∷ []) $ free1 ! $ move ! (60 ∷ 61 ∷ []) $ free1 ! $ move ! (58 ∷ 59 ∷ []) $ free1 ! $ move ! (56 ∷ 57 ∷ []) $ free1 ! $ move ! (54 ∷ 55 ∷ []) $ free1 ! $ move ! (52 ∷ 53 ∷ []) $ free1 ! $ move ! (1 ∷ 51 ∷ []) $ free1 ! $ move ! (0 ∷ 49 ∷ []) $ free1 ! $ move ! (46 ∷ 47 ∷ []) $ free1 ! $ move ! (44 ∷ 45 ∷ []) $ free1 ! $ move ! (42 ∷ 43 ∷ []) $ free1 ! $ move ! (40 ∷ 41 ∷ []) $ free1 ! $ move ! (38 ∷ 39 ∷ []) $ free1 ! $ move ! (36 ∷ 37 ∷ []) $ free1 ! $ move ! (34 ∷ 35 ∷ []) $ free1 ! $ move ! (32 ∷ 33 ∷ []) $ free1 ! $ move ! (30 ∷ 31 ∷ []) $ free1 ! $ move ! (28 ∷ 29 ∷ []) $ free1 ! $ move ! (26 ∷ 27 ∷ []) $ free1 ! $ move ! (24 ∷ 25 ∷ []) $ free1 ! $ move ! (22 ∷ 23 ∷ []) $ free1 ! $ move ! (20 ∷ 21 ∷ []) $ free1 ! $ move ! (18 ∷ 19 ∷ []) $ free1 ! $ move ! (16 ∷ 17 ∷ []) $ free1 ! $ move ! (14 ∷ 15 ∷ []) $ free1 ! $ free0 ! $
-        nothing ! $ move ! (1 ∷ 0 ∷ []) $ join ! $ move ! (1 ∷ 0 ∷ []) $ join ! $ move ! (1 ∷ 0 ∷ []) $ join ! $ move ! (1 ∷ 0 ∷ []) $ join ! $ move ! (7 ∷ 0 ∷ []) $ join ! $ move ! (1 ∷ 0 ∷ []) $ join ! $ move ! (1 ∷ 0 ∷ []) $ join ! $ move ! (0 ∷ 7 ∷ 6 ∷ 5 ∷ 4 ∷ 3 ∷ 2 ∷ 1 ∷ []) $ by ! (exits r (ws .1 .1 .1 .1 .1 .1 .1 .1 .0) (ws .1 .1 .1 .1 .1 .1 .1 .1 .1 .0) (ws .1 .1 .1 .1 .1 .1 .1 .1 .1 .1 .0) (ws .1 .1 .1 .1 .1 .1 .1 .1 .1 .1 .1 .0) (subst (Is Z.the-row r) (LL.tells Z.the-type Z′.the-laws r _ is-r) is-r) (p₃, (p₄, (p₅, (p₆)))) (given-is g y₀ y₁ n y₂ (memoryOf ds y₃ y₄ y₅ y₆ used) t (zs .1 .0) (zs .1 .1 .0) (left r (ws .1 .1 .1 .1 .1 .1 .1 .1 .0) (ws .1 .1 .1 .1 .1 .1 .1 .1 .1 .0) (ws .1 .1 .1 .1 .1 .1 .1 .1 .1 .1 .0) (ws .1 .1 .1 .1 .1 .1 .1 .1 .1 .1 .1 .0)) e e′)))))))))))))))))))))))))))))))))))))))))))))))))))))))))))
+        nothing ! $ move ! (1 ∷ 0 ∷ []) $ join ! $ move ! (1 ∷ 0 ∷ []) $ join ! $ move ! (1 ∷ 0 ∷ []) $ join ! $ move ! (1 ∷ 0 ∷ []) $ join ! $ move ! (7 ∷ 0 ∷ []) $ join ! $ move ! (1 ∷ 0 ∷ []) $ join ! $ move ! (1 ∷ 0 ∷ []) $ join ! $ move ! (0 ∷ 7 ∷ 6 ∷ 5 ∷ 4 ∷ 3 ∷ 2 ∷ 1 ∷ []) $ by ! (exits r (ws .1 .1 .1 .1 .1 .1 .1 .1 .0) (ws .1 .1 .1 .1 .1 .1 .1 .1 .1 .0) (ws .1 .1 .1 .1 .1 .1 .1 .1 .1 .1 .0) (ws .1 .1 .1 .1 .1 .1 .1 .1 .1 .1 .1 .0) (subst (Is Z.the-row r) (LL.tells Z.the-type Z′.the-laws r _ is-r) is-r) (p₃, (p₄, (p₅, (p₆)))) (given-is g y₀ y₁ n y₂ (lentMemory ds y₃ y₄ y₅ y₆ used) t (zs .1 .0) (zs .1 .1 .0) (left r (ws .1 .1 .1 .1 .1 .1 .1 .1 .0) (ws .1 .1 .1 .1 .1 .1 .1 .1 .1 .0) (ws .1 .1 .1 .1 .1 .1 .1 .1 .1 .1 .0) (ws .1 .1 .1 .1 .1 .1 .1 .1 .1 .1 .1 .0)) e e′)))))))))))))))))))))))))))))))))))))))))))))))))))))))))))
 
 module _ {M : Type 1} (𝓤 : URA M) (H : Heap 𝓤) (A : Atoms 𝓤) (W : Given 𝓤 H A) (mem : Memory → SProp 𝓤) (run : Routine → Fun 𝓤) (𝓣 : Tables 𝓤 H) (known-first : Triple 𝓤 (𝓣 .C #first) (First 𝓤 H A mem run)) (known-then : Triple 𝓤 (𝓣 .C #then) (Then 𝓤 H A mem run)) where
   entry-walks : Walks 𝓤 H A entry.ended stayed (WpFn 𝓤 H (𝓣 .C) (𝓣 .Λ) code.function) (entry.clauses 𝓤 H A mem run)

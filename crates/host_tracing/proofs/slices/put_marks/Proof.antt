@@ -3,7 +3,7 @@ use native.Mathlib.Omega.{arith}
 use lib.ListN.{length-set}
 use native.Mathlib.Numerals.{add-one, add-two, add-three, add-four, add-five, add-six, add-seven, add-eight}
 use Rattle.host_tracing.proofs.Laying.{add-nine}
-use Rattle.host_tracing.specs.Flat.{marksOf}
+use Rattle.host_tracing.specs.Flat.{tagsRow}
 use borrow.Author.Needs.{needs}
 use Rattle.host_tracing.proofs.slices.put_marks.Statement.{statement}
 use Rattle.host_tracing.proofs.slices.put_marks.Tie as tie
@@ -123,7 +123,7 @@ same-length : tie.Need-same-length
 same-length c = simp length-set
 
 returns : tie.Need-returns
-unfolding marksOf
+unfolding tagsRow
 returns c = simp (add-one, add-two, add-three, add-four, add-five, add-six, add-seven, add-eight, add-nine)
 
 pub put-marks-spec : {M : Type 1} → statement M

@@ -1,7 +1,7 @@
 -- `host_tracing::slices::put_ray` meets its contract. Assumes nothing.
 use native.Mathlib.Omega.{arith}
 use Rattle.host_tracing.proofs.Laying.{room-in}
-use Rattle.host_tracing.specs.Flat.{putRay}
+use Rattle.host_tracing.specs.Flat.{putRayOf}
 use borrow.Author.Needs.{needs}
 use Rattle.host_tracing.proofs.slices.put_ray.Statement.{statement}
 use Rattle.host_tracing.proofs.slices.put_ray.Tie as tie
@@ -31,11 +31,11 @@ same-length-2 : tie.Need-same-length-2
 same-length-2 c = search needs
 
 returns : tie.Need-returns
-unfolding putRay
+unfolding putRayOf
 returns c = simp (← c .before .before .before .before .before .before .before .before .before .has-room .ensures, c .before .before .before .before .before .before .before .before .if1 .taken, ← c .before .before .before .before .before .before .put-values .ensures, ← c .before .before .put-marks .ensures)
 
 returns-2 : tie.Need-returns-2
-unfolding putRay
+unfolding putRayOf
 returns-2 c = simp (← c .before .has-room .ensures, c .if1 .left)
 
 pub put-ray-spec : {M : Type 1} → statement M

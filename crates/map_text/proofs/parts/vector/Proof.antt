@@ -1,5 +1,5 @@
 -- `map_text::parts::vector` meets its contract. Assumes nothing.
-use Rattle.map_text.specs.Tables.{valueIn}
+use Rattle.map_text.specs.Tables.{valueOf}
 use borrow.Author.Needs.{needs}
 use Rattle.map_text.proofs.parts.vector.Statement.{statement}
 use Rattle.map_text.proofs.parts.vector.Tie as tie
@@ -14,7 +14,7 @@ value-requires-3 : tie.Need-value-requires-3
 value-requires-3 c κs = search needs
 
 returns : tie.Need-returns
-unfolding valueIn
+unfolding valueOf
 returns c = simp (← c .before .before .value .ensures, ← c .before .value2 .ensures, ← c .value3 .ensures)
 
 pub vector-spec : {M : Type 1} → statement M

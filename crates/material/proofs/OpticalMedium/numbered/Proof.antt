@@ -1,23 +1,23 @@
 -- `material::OpticalMedium::numbered` meets its contract. Assumes nothing.
 use borrow.Author.Tests.{eq-eqb, ne-eqb}
-use Rattle.material.specs.Media.{mediumOf}
+use Rattle.material.specs.Media.{numberedMediumOf}
 use Rattle.material.proofs.OpticalMedium.numbered.Statement.{statement}
 use Rattle.material.proofs.OpticalMedium.numbered.Tie as tie
 
 returns : tie.Need-returns
-unfolding mediumOf
+unfolding numberedMediumOf
 returns c = simp (eq-eqb _ _ (c .if1 .taken))
 
 returns-2 : tie.Need-returns-2
-unfolding mediumOf
+unfolding numberedMediumOf
 returns-2 c = simp (ne-eqb _ _ (c .before .if1 .left), eq-eqb _ _ (c .if2 .taken))
 
 returns-3 : tie.Need-returns-3
-unfolding mediumOf
+unfolding numberedMediumOf
 returns-3 c = simp (ne-eqb _ _ (c .before .before .if1 .left), ne-eqb _ _ (c .before .if2 .left), eq-eqb _ _ (c .if3 .taken))
 
 returns-4 : tie.Need-returns-4
-unfolding mediumOf
+unfolding numberedMediumOf
 returns-4 c = simp (ne-eqb _ _ (c .before .before .if1 .left), ne-eqb _ _ (c .before .if2 .left), ne-eqb _ _ (c .if3 .left))
 
 pub numbered-spec : {M : Type 1} → statement M

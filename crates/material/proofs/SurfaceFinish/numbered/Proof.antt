@@ -1,19 +1,19 @@
 -- `material::SurfaceFinish::numbered` meets its contract. Assumes nothing.
 use borrow.Author.Tests.{eq-eqb, ne-eqb}
-use Rattle.material.specs.Media.{finishOf}
+use Rattle.material.specs.Media.{numberedFinishOf}
 use Rattle.material.proofs.SurfaceFinish.numbered.Statement.{statement}
 use Rattle.material.proofs.SurfaceFinish.numbered.Tie as tie
 
 returns : tie.Need-returns
-unfolding finishOf
+unfolding numberedFinishOf
 returns c = simp (eq-eqb _ _ (c .if1 .taken))
 
 returns-2 : tie.Need-returns-2
-unfolding finishOf
+unfolding numberedFinishOf
 returns-2 c = simp (ne-eqb _ _ (c .before .if1 .left), eq-eqb _ _ (c .if2 .taken))
 
 returns-3 : tie.Need-returns-3
-unfolding finishOf
+unfolding numberedFinishOf
 returns-3 c = simp (ne-eqb _ _ (c .before .if1 .left), ne-eqb _ _ (c .if2 .left))
 
 pub numbered-spec : {M : Type 1} → statement M

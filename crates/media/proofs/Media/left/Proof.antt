@@ -2,7 +2,7 @@
 use native.Mathlib.Omega.{arith}
 use Rattle.media.proofs.Places.{found-below}
 use borrow.Author.Tests.{le-leb, lt-leb}
-use Rattle.media.specs.Media.{leftOf, withoutOf}
+use Rattle.media.specs.Media.{leftOf, withoutPlace}
 use borrow.Author.Needs.{needs}
 use Rattle.media.proofs.Media.left.Statement.{statement}
 use Rattle.media.proofs.Media.left.Tie as tie
@@ -29,15 +29,15 @@ enum-told : tie.Need-enum-told
 enum-told c = search needs
 
 returns : tie.Need-returns
-unfolding leftOf withoutOf
+unfolding leftOf withoutPlace
 returns c = simp (le-leb _ _ (c .before .before .before .before .before .before .before .before .if1 .taken), ← c .before .before .before .before .before .last-of .ensures, c .before .before .before .i .given .1, ← c .before .move-down .ensures)
 
 returns-2 : tie.Need-returns-2
-unfolding leftOf withoutOf
+unfolding leftOf withoutPlace
 returns-2 c = simp (le-leb _ _ (c .before .before .before .before .before .if1 .taken), ← c .before .before .last-of .ensures, c .enum-told .given .1)
 
 returns-3 : tie.Need-returns-3
-unfolding leftOf withoutOf
+unfolding leftOf withoutPlace
 returns-3 c = simp (lt-leb _ _ (c .if1 .left))
 
 pub left-spec : {M : Type 1} → statement M

@@ -1,5 +1,5 @@
 -- `memory::recording::cell` meets its contract. Assumes nothing.
-use Rattle.memory.specs.Memory.{cellInOf}
+use Rattle.memory.specs.Memory.{cellOf}
 use borrow.Author.Needs.{needs}
 use Rattle.memory.proofs.recording.cell.Statement.{statement}
 use Rattle.memory.proofs.recording.cell.Tie as tie
@@ -11,7 +11,7 @@ add-result : tie.Need-add-result
 add-result c = search needs
 
 returns : tie.Need-returns
-unfolding cellInOf
+unfolding cellOf
 returns c = simp (← c .before .pixel-at .ensures .0)
 
 pub cell-spec : {M : Type 1} → statement M

@@ -1,11 +1,11 @@
 -- `rays::Ray::is_finite` meets its contract. Assumes nothing.
-use Rattle.rays.specs.Rays.{finiteRayOf}
+use Rattle.rays.specs.Rays.{isFiniteRayOf}
 use Rattle.rays.proofs.Finite.{eight-finite}
 use Rattle.rays.proofs.Ray.is_finite.Statement.{statement}
 use Rattle.rays.proofs.Ray.is_finite.Tie as tie
 
 returns : tie.Need-returns
-unfolding finiteRayOf
+unfolding isFiniteRayOf
 returns c = eight-finite (c .before .before .before .before .before .before .before .before .args .self .origin) (c .before .before .before .before .before .before .before .before .args .self .direction) _ _
 
 pub is-finite-spec : {M : Type 1} → statement M

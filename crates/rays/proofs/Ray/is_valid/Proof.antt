@@ -1,5 +1,5 @@
 -- `rays::Ray::is_valid` meets its contract. Assumes nothing.
-use Rattle.rays.specs.Rays.{validRayOf}
+use Rattle.rays.specs.Rays.{isValidRayOf}
 use borrow.Author.Needs.{needs}
 use Rattle.rays.proofs.Ray.is_valid.Statement.{statement}
 use Rattle.rays.proofs.Ray.is_valid.Tie as tie
@@ -14,15 +14,15 @@ abs-requires : tie.Need-abs-requires
 abs-requires c κs = search needs
 
 returns : tie.Need-returns
-unfolding validRayOf
+unfolding isValidRayOf
 returns c = simp (← c .before .before .before .before .before .is-finite .ensures, c .before .before .before .before .if1 .taken, c .before .before .if2 .taken, ← c .before .dot .ensures, ← c .abs .ensures)
 
 returns-2 : tie.Need-returns-2
-unfolding validRayOf
+unfolding isValidRayOf
 returns-2 c = simp (← c .before .before .before .is-finite .ensures, c .before .before .if1 .taken, c .if2 .left)
 
 returns-3 : tie.Need-returns-3
-unfolding validRayOf
+unfolding isValidRayOf
 returns-3 c = simp (← c .before .is-finite .ensures, c .if1 .left)
 
 pub is-valid-spec : {M : Type 1} → statement M

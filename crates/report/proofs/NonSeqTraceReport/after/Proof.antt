@@ -1,5 +1,5 @@
 -- `report::NonSeqTraceReport::after` meets its contract. Assumes nothing.
-use Rattle.report.specs.Report.{reportAfter}
+use Rattle.report.specs.Report.{reportAfterOf}
 use borrow.Author.Needs.{needs}
 use Rattle.report.proofs.NonSeqTraceReport.after.Statement.{statement}
 use Rattle.report.proofs.NonSeqTraceReport.after.Tie as tie
@@ -17,7 +17,7 @@ after-requires-2 : tie.Need-after-requires-2
 after-requires-2 c κs = search needs
 
 returns : tie.Need-returns
-unfolding reportAfter
+unfolding reportAfterOf
 returns c = simp (← c .before .before .before .after .ensures, ← c .before .before .is-interaction .ensures, ← c .before .more-if .ensures, ← c .after2 .ensures)
 
 pub after-spec : {M : Type 1} → statement M

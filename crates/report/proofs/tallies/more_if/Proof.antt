@@ -1,5 +1,5 @@
 -- `report::tallies::more_if` meets its contract. Assumes nothing.
-use Rattle.report.specs.Report.{moreIf}
+use Rattle.report.specs.Report.{moreIfOf}
 use borrow.Author.Needs.{needs}
 use Rattle.report.proofs.tallies.more_if.Statement.{statement}
 use Rattle.report.proofs.tallies.more_if.Tie as tie
@@ -8,11 +8,11 @@ more-requires : tie.Need-more-requires
 more-requires c κs = search needs
 
 returns : tie.Need-returns
-unfolding moreIf
+unfolding moreIfOf
 returns c = simp (c .before .if1 .taken, ← c .more .ensures)
 
 returns-2 : tie.Need-returns-2
-unfolding moreIf
+unfolding moreIfOf
 returns-2 c = simp (c .if1 .left)
 
 pub more-if-spec : {M : Type 1} → statement M

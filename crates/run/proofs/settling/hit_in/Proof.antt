@@ -1,5 +1,5 @@
 -- `run::settling::hit_in` meets its contract. Assumes nothing.
-use Rattle.run.specs.Run.{hitIn}
+use Rattle.run.specs.Run.{hitInOf}
 use borrow.Author.Needs.{needs}
 use Rattle.run.proofs.settling.hit_in.Statement.{statement}
 use Rattle.run.proofs.settling.hit_in.Tie as tie
@@ -26,31 +26,31 @@ enum-told-6 : tie.Need-enum-told-6
 enum-told-6 c = search needs
 
 returns : tie.Need-returns
-unfolding hitIn
+unfolding hitInOf
 returns c = simp (c .enum-told .given .1)
 
 returns-2 : tie.Need-returns-2
-unfolding hitIn
+unfolding hitInOf
 returns-2 c = simp (c .enum-told2 .given .1)
 
 returns-3 : tie.Need-returns-3
-unfolding hitIn
+unfolding hitInOf
 returns-3 c = simp (c .enum-told3 .given .1)
 
 returns-4 : tie.Need-returns-4
-unfolding hitIn
+unfolding hitInOf
 returns-4 c = simp (c .before .fate .given .1)
 
 returns-5 : tie.Need-returns-5
-unfolding hitIn
+unfolding hitInOf
 returns-5 c = simp (c .enum-told4 .given .1)
 
 returns-6 : tie.Need-returns-6
-unfolding hitIn
+unfolding hitInOf
 returns-6 c = simp (c .enum-told5 .given .1)
 
 returns-7 : tie.Need-returns-7
-unfolding hitIn
+unfolding hitInOf
 returns-7 c = simp (c .enum-told6 .given .1)
 
 pub hit-in-spec : {M : Type 1} → statement M

@@ -1,5 +1,5 @@
 -- `scene::NonSeqObject::intersect` meets its contract. Assumes nothing.
-use Rattle.scene.specs.Objects.{arriveFromOf, intersectOf}
+use Rattle.scene.specs.Objects.{arriveFrom, intersectOf}
 use borrow.Author.Needs.{needs}
 use Rattle.scene.proofs.NonSeqObject.intersect.Statement.{statement}
 use Rattle.scene.proofs.NonSeqObject.intersect.Tie as tie
@@ -17,11 +17,11 @@ enum-told : tie.Need-enum-told
 enum-told c = search needs
 
 returns : tie.Need-returns
-unfolding arriveFromOf intersectOf
+unfolding arriveFrom intersectOf
 returns c = simp (← c .before .before .before .before .approach .ensures, c .before .before .a .given .1, ← c .arrive .ensures)
 
 returns-2 : tie.Need-returns-2
-unfolding arriveFromOf intersectOf
+unfolding arriveFrom intersectOf
 returns-2 c = simp (← c .before .before .approach .ensures, c .enum-told .given .1)
 
 pub intersect-spec : {M : Type 1} → statement M

@@ -1,6 +1,6 @@
 -- `scene::closest::intersect_closest_object` meets its contract. Assumes nothing.
 use borrow.Author.Tests.{le-leb, lt-leb}
-use Rattle.scene.specs.Closest.{intersectClosestOf}
+use Rattle.scene.specs.Closest.{intersectClosestObjectOf}
 use borrow.Author.Needs.{needs}
 use Rattle.scene.proofs.closest.intersect_closest_object.Statement.{statement}
 use Rattle.scene.proofs.closest.intersect_closest_object.Tie as tie
@@ -18,15 +18,15 @@ closest-object-requires : tie.Need-closest-object-requires
 closest-object-requires c κs = search needs
 
 returns : tie.Need-returns
-unfolding intersectClosestOf
+unfolding intersectClosestObjectOf
 returns c = simp (← c .before .before .before .before .check-solids .ensures, c .before .before .enum-told .given .1, le-leb _ _ (c .before .if1 .taken), ← c .closest-object .ensures)
 
 returns-2 : tie.Need-returns-2
-unfolding intersectClosestOf
+unfolding intersectClosestObjectOf
 returns-2 c = simp (← c .before .before .before .check-solids .ensures, c .before .error .given .1)
 
 returns-3 : tie.Need-returns-3
-unfolding intersectClosestOf
+unfolding intersectClosestObjectOf
 returns-3 c = simp (← c .before .before .before .check-solids .ensures, c .before .enum-told .given .1, lt-leb _ _ (c .if1 .left))
 
 pub intersect-closest-object-spec : {M : Type 1} → statement M

@@ -1,6 +1,6 @@
 -- `scene::closest::is_kept` meets its contract. Assumes nothing.
-use Rattle.scene.specs.Closest.{arrivedOf, keptOf}
-use Rattle.scene.specs.Solids.{holds, solidAt}
+use Rattle.scene.specs.Closest.{arriveAtOf, isKeptOf}
+use Rattle.scene.specs.Solids.{holds, objectAtOf}
 use borrow.Author.Needs.{needs}
 use Rattle.scene.proofs.closest.is_kept.Statement.{statement}
 use Rattle.scene.proofs.closest.is_kept.Tie as tie
@@ -15,15 +15,15 @@ enum-told-2 : tie.Need-enum-told-2
 enum-told-2 c = search needs
 
 returns : tie.Need-returns
-unfolding arrivedOf holds keptOf solidAt
+unfolding arriveAtOf holds isKeptOf objectAtOf
 returns c = simp (c .before .before .before .if1 .taken, ← c .before .before .arrive-at .ensures, c .enum-told .given .1)
 
 returns-2 : tie.Need-returns-2
-unfolding arrivedOf holds keptOf solidAt
+unfolding arriveAtOf holds isKeptOf objectAtOf
 returns-2 c = simp (c .before .before .before .if1 .taken, ← c .before .before .arrive-at .ensures, c .enum-told2 .given .1)
 
 returns-3 : tie.Need-returns-3
-unfolding arrivedOf holds keptOf solidAt
+unfolding arriveAtOf holds isKeptOf objectAtOf
 returns-3 c = simp (c .if1 .left)
 
 pub is-kept-spec : {M : Type 1} → statement M

@@ -2,18 +2,18 @@
 use Prim.Native.Nat.{_≤_, _-_}
 use mathlib.Core.Path.{_≡_}
 use borrow.Author.Needs.{needs}
-use Rattle.nearest.specs.Nearest.{nearestFrom, nearestOf}
+use Rattle.nearest.specs.Nearest.{nearestFrom, nearestAmong}
 use Rattle.nearest.proofs.Turns.{nearest-start, nearest-turn, nearest-end}
 use Rattle.scene.specs.declared.closest.Candidate.{Candidate}
-use Rattle.scene.specs.Closest.{candidateDistance, candidatesOf, nearestIn}
-use Rattle.scene.specs.Solids.{solidAt}
+use Rattle.scene.specs.Closest.{candidateDistance, candidatesIn, asCandidate}
+use Rattle.scene.specs.Solids.{objectAtOf}
 use Rattle.scene.proofs.closest.nearest_candidate.Statement.{statement}
 use Rattle.scene.proofs.closest.nearest_candidate.Tie as tie
 
 abbrev Inv-loop : tie.InvT-loop
 Inv-loop values tags count ray strict best₀ i₀ best i =
     (i ≤ count)
-    × (nearestFrom Candidate candidateDistance (candidatesOf strict (solidAt values tags) ray) (count - i) i (nearestIn best) ≡ nearestOf Candidate candidateDistance (candidatesOf strict (solidAt values tags) ray) count)
+    × (nearestFrom Candidate candidateDistance (candidatesIn strict (objectAtOf values tags) ray) (count - i) i (asCandidate best) ≡ nearestAmong Candidate candidateDistance (candidatesIn strict (objectAtOf values tags) ray) count)
 
 abbrev μ-loop : tie.MeasureT-loop
 μ-loop values tags count ray strict best₀ i₀ best i = count - i

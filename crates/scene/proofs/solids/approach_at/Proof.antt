@@ -1,7 +1,7 @@
 -- `scene::solids::approach_at` meets its contract. Assumes nothing.
 use borrow.Author.Tests.{le-leb, lt-leb}
-use Rattle.scene.specs.Closest.{approachedOf}
-use Rattle.scene.specs.Solids.{holds, solidAt}
+use Rattle.scene.specs.Closest.{approachAtOf}
+use Rattle.scene.specs.Solids.{holds, objectAtOf}
 use borrow.Author.Needs.{needs}
 use Rattle.scene.proofs.solids.approach_at.Statement.{statement}
 use Rattle.scene.proofs.solids.approach_at.Tie as tie
@@ -28,19 +28,19 @@ approach-in-requires : tie.Need-approach-in-requires
 approach-in-requires c κs = search needs
 
 returns : tie.Need-returns
-unfolding approachedOf holds solidAt
+unfolding approachAtOf holds objectAtOf
 returns c = simp (le-leb _ _ (c .before .before .before .before .if1 .taken), le-leb _ _ (c .before .before .before .if2 .taken), le-leb _ _ (c .before .if3 .taken), ← c .approach-in .ensures)
 
 returns-2 : tie.Need-returns-2
-unfolding approachedOf holds solidAt
+unfolding approachAtOf holds objectAtOf
 returns-2 c = simp (le-leb _ _ (c .before .before .before .if1 .taken), le-leb _ _ (c .before .before .if2 .taken), lt-leb _ _ (c .if3 .left))
 
 returns-3 : tie.Need-returns-3
-unfolding approachedOf holds solidAt
+unfolding approachAtOf holds objectAtOf
 returns-3 c = simp (le-leb _ _ (c .before .if1 .taken), lt-leb _ _ (c .if2 .left))
 
 returns-4 : tie.Need-returns-4
-unfolding approachedOf holds solidAt
+unfolding approachAtOf holds objectAtOf
 returns-4 c = simp (lt-leb _ _ (c .if1 .left))
 
 pub approach-at-spec : {M : Type 1} → statement M

@@ -1,6 +1,6 @@
 -- `scene::solids::finish_at` meets its contract. Assumes nothing.
 use borrow.Author.Tests.{le-leb, lt-leb}
-use Rattle.scene.specs.Solids.{finishAt, holds}
+use Rattle.scene.specs.Solids.{finishAtOf, holds}
 use borrow.Author.Needs.{needs}
 use Rattle.scene.proofs.solids.finish_at.Statement.{statement}
 use Rattle.scene.proofs.solids.finish_at.Tie as tie
@@ -45,15 +45,15 @@ numbered-requires : tie.Need-numbered-requires
 numbered-requires c κs = search needs
 
 returns : tie.Need-returns
-unfolding finishAt holds
+unfolding finishAtOf holds
 returns c = simp (le-leb _ _ (c .before .before .before .before .if1 .taken), le-leb _ _ (c .before .before .before .if2 .taken), ← c .numbered .ensures)
 
 returns-2 : tie.Need-returns-2
-unfolding finishAt holds
+unfolding finishAtOf holds
 returns-2 c = simp (le-leb _ _ (c .before .if1 .taken), lt-leb _ _ (c .if2 .left))
 
 returns-3 : tie.Need-returns-3
-unfolding finishAt holds
+unfolding finishAtOf holds
 returns-3 c = simp (lt-leb _ _ (c .if1 .left))
 
 pub finish-at-spec : {M : Type 1} → statement M

@@ -1,5 +1,5 @@
 -- `scene::solids::mat_at` meets its contract. Assumes nothing.
-use Rattle.scene.specs.Solids.{matAt}
+use Rattle.scene.specs.Solids.{matAtOf}
 use borrow.Author.Needs.{needs}
 use Rattle.scene.proofs.solids.mat_at.Statement.{statement}
 use Rattle.scene.proofs.solids.mat_at.Tie as tie
@@ -26,7 +26,7 @@ row-at-requires-4 : tie.Need-row-at-requires-4
 row-at-requires-4 c κs = search needs
 
 returns : tie.Need-returns
-unfolding matAt
+unfolding matAtOf
 returns c = simp (← c .before .before .before .row-at .ensures, ← c .before .before .row-at2 .ensures, ← c .before .row-at3 .ensures, ← c .row-at4 .ensures)
 
 pub mat-at-spec : {M : Type 1} → statement M

@@ -1,6 +1,6 @@
 -- `scene::solids::medium_at` meets its contract. Assumes nothing.
 use borrow.Author.Tests.{le-leb, lt-leb}
-use Rattle.scene.specs.Solids.{holds, mediumAt}
+use Rattle.scene.specs.Solids.{holds, mediumAtOf}
 use borrow.Author.Needs.{needs}
 use Rattle.scene.proofs.solids.medium_at.Statement.{statement}
 use Rattle.scene.proofs.solids.medium_at.Tie as tie
@@ -90,15 +90,15 @@ numbered-requires : tie.Need-numbered-requires
 numbered-requires c κs = search needs
 
 returns : tie.Need-returns
-unfolding holds mediumAt
+unfolding holds mediumAtOf
 returns c = simp (le-leb _ _ (c .before .before .before .before .before .before .before .before .before .if1 .taken), le-leb _ _ (c .before .before .before .before .before .before .before .before .if2 .taken), ← c .numbered .ensures)
 
 returns-2 : tie.Need-returns-2
-unfolding holds mediumAt
+unfolding holds mediumAtOf
 returns-2 c = simp (le-leb _ _ (c .before .if1 .taken), lt-leb _ _ (c .if2 .left))
 
 returns-3 : tie.Need-returns-3
-unfolding holds mediumAt
+unfolding holds mediumAtOf
 returns-3 c = simp (lt-leb _ _ (c .if1 .left))
 
 pub medium-at-spec : {M : Type 1} → statement M

@@ -1,6 +1,6 @@
 -- `scene::solids::object_at` meets its contract. Assumes nothing.
 use borrow.Author.Tests.{le-leb, lt-leb}
-use Rattle.scene.specs.Solids.{holds, solidAt}
+use Rattle.scene.specs.Solids.{holds, objectAtOf}
 use borrow.Author.Needs.{needs}
 use Rattle.scene.proofs.solids.object_at.Statement.{statement}
 use Rattle.scene.proofs.solids.object_at.Tie as tie
@@ -27,19 +27,19 @@ read-object-requires : tie.Need-read-object-requires
 read-object-requires c κs = search needs
 
 returns : tie.Need-returns
-unfolding holds solidAt
+unfolding holds objectAtOf
 returns c = simp (le-leb _ _ (c .before .before .before .before .if1 .taken), le-leb _ _ (c .before .before .before .if2 .taken), le-leb _ _ (c .before .if3 .taken), ← c .read-object .ensures)
 
 returns-2 : tie.Need-returns-2
-unfolding holds solidAt
+unfolding holds objectAtOf
 returns-2 c = simp (le-leb _ _ (c .before .before .before .if1 .taken), le-leb _ _ (c .before .before .if2 .taken), lt-leb _ _ (c .if3 .left))
 
 returns-3 : tie.Need-returns-3
-unfolding holds solidAt
+unfolding holds objectAtOf
 returns-3 c = simp (le-leb _ _ (c .before .if1 .taken), lt-leb _ _ (c .if2 .left))
 
 returns-4 : tie.Need-returns-4
-unfolding holds solidAt
+unfolding holds objectAtOf
 returns-4 c = simp (lt-leb _ _ (c .if1 .left))
 
 pub object-at-spec : {M : Type 1} → statement M

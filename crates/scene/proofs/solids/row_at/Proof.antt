@@ -1,6 +1,6 @@
 -- `scene::solids::row_at` meets its contract. Assumes nothing.
 use mathlib.Core.Path.{refl}
-use Rattle.scene.specs.Solids.{rowAt}
+use Rattle.scene.specs.Solids.{rowAtOf}
 use borrow.Author.Needs.{needs}
 use Rattle.scene.proofs.solids.row_at.Statement.{statement}
 use Rattle.scene.proofs.solids.row_at.Tie as tie
@@ -39,7 +39,7 @@ shared-slice-read-t17 : tie.Need-shared-slice-read-t17
 shared-slice-read-t17 c = search needs
 
 returns : tie.Need-returns
-unfolding rowAt
+unfolding rowAtOf
 returns c = refl
 
 pub row-at-spec : {M : Type 1} → statement M

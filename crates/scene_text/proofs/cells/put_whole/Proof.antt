@@ -1,6 +1,6 @@
 -- `scene_text::cells::put_whole` meets its contract. Assumes nothing.
 use mathlib.Core.Path.{ap}
-use Rattle.fields.specs.Number.{readWholeOf}
+use Rattle.fields.specs.Number.{asWhole}
 use Rattle.scene_text.proofs.Filling.{put-whole, put-no-whole}
 use borrow.Author.Needs.{needs}
 use Rattle.scene_text.proofs.cells.put_whole.Statement.{statement}
@@ -19,10 +19,10 @@ same-length : tie.Need-same-length
 same-length c = search needs
 
 returns : tie.Need-returns
-returns c = put-whole _ _ _ _ _ _ _ _ (ap readWholeOf (c .before .before .before .before .before .v .given .1)) (c .before .before .put-u32 .ensures)
+returns c = put-whole _ _ _ _ _ _ _ _ (ap asWhole (c .before .before .before .before .before .v .given .1)) (c .before .before .put-u32 .ensures)
 
 returns-2 : tie.Need-returns-2
-returns-2 c = put-no-whole _ _ _ _ _ (ap readWholeOf (c .enum-told .given .1))
+returns-2 c = put-no-whole _ _ _ _ _ (ap asWhole (c .enum-told .given .1))
 
 pub put-whole-spec : {M : Type 1} → statement M
 put-whole-spec =

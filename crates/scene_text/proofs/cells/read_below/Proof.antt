@@ -1,6 +1,6 @@
 -- `scene_text::cells::read_below` meets its contract. Assumes nothing.
 use borrow.Author.Tests.{lt-ltb, le-ltb}
-use Rattle.scene_text.specs.Cells.{below}
+use Rattle.scene_text.specs.Cells.{readBelowOf}
 use borrow.Author.Needs.{needs}
 use Rattle.scene_text.proofs.cells.read_below.Statement.{statement}
 use Rattle.scene_text.proofs.cells.read_below.Tie as tie
@@ -12,18 +12,18 @@ enum-known-v : tie.Need-enum-known-v
 enum-known-v c = search needs
 
 returns : tie.Need-returns
-unfolding below
+unfolding readBelowOf
 returns c = simp (← c .before .before .before .before .read-whole .ensures, c .before .before .v .given .1, lt-ltb _ _ (c .if1 .taken))
 
 enum-told : tie.Need-enum-told
 enum-told c = search needs
 
 returns-2 : tie.Need-returns-2
-unfolding below
+unfolding readBelowOf
 returns-2 c = simp (← c .before .before .before .before .read-whole .ensures, c .before .before .v .given .1, le-ltb _ _ (c .if1 .left))
 
 returns-3 : tie.Need-returns-3
-unfolding below
+unfolding readBelowOf
 returns-3 c = simp (← c .before .before .read-whole .ensures, c .enum-told .given .1)
 
 pub read-below-spec : {M : Type 1} → statement M

@@ -1,5 +1,5 @@
 -- `scene_text::cells::read_cell` meets its contract. Assumes nothing.
-use Rattle.scene_text.specs.Cells.{cellOf}
+use Rattle.scene_text.specs.Cells.{readCellOf}
 use borrow.Author.Tests.{eq-eqb, ne-eqb}
 use borrow.Author.Needs.{needs}
 use Rattle.scene_text.proofs.cells.read_cell.Statement.{statement}
@@ -15,7 +15,7 @@ same-length-2 : tie.Need-same-length-2
 same-length-2 c = search needs
 
 returns : tie.Need-returns
-unfolding cellOf
+unfolding readCellOf
 returns c = rw (eq-eqb _ _ (c .before .before .before .before .before .before .before .if1 .taken)) (c .before .before .before .before .read-double .ensures)
 
 read-media-requires : tie.Need-read-media-requires
@@ -28,7 +28,7 @@ same-length-4 : tie.Need-same-length-4
 same-length-4 c = search needs
 
 returns-2 : tie.Need-returns-2
-unfolding cellOf
+unfolding readCellOf
 returns-2 c = rw (ne-eqb _ _ (c .before .before .before .before .before .before .before .before .if1 .left), eq-eqb _ _ (c .before .before .before .before .before .before .before .if2 .taken)) (c .before .before .before .before .read-media .ensures)
 
 read-number-requires : tie.Need-read-number-requires
@@ -44,7 +44,7 @@ same-length-6 : tie.Need-same-length-6
 same-length-6 c = search needs
 
 returns-3 : tie.Need-returns-3
-unfolding cellOf
+unfolding readCellOf
 returns-3 c = rw (ne-eqb _ _ (c .before .before .before .before .before .before .before .before .before .if1 .left), ne-eqb _ _ (c .before .before .before .before .before .before .before .before .if2 .left), ← c .before .before .before .before .before .before .before .read-number .ensures) (c .before .before .before .before .put-whole .ensures)
 
 pub read-cell-spec : {M : Type 1} → statement M

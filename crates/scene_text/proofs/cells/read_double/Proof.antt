@@ -1,6 +1,6 @@
 -- `scene_text::cells::read_double` meets its contract. Assumes nothing.
 use mathlib.Core.Path.{ap, sym, _∙_}
-use Rattle.fields.specs.Number.{readBitsOf}
+use Rattle.fields.specs.Number.{asBits}
 use Rattle.scene_text.proofs.Filling.{put-double, put-no-double}
 use borrow.Author.Needs.{needs}
 use Rattle.scene_text.proofs.cells.read_double.Statement.{statement}
@@ -25,10 +25,10 @@ same-length : tie.Need-same-length
 same-length c = search needs
 
 returns : tie.Need-returns
-returns c = put-double _ _ _ _ _ _ _ _ _ (sym (c .before .before .before .before .before .before .before .before .read-bits .ensures) ∙ ap readBitsOf (c .before .before .before .before .before .before .b .given .1)) (c .before .before .before .before .from-bits .ensures) (c .before .before .put-f64 .ensures)
+returns c = put-double _ _ _ _ _ _ _ _ _ (sym (c .before .before .before .before .before .before .before .before .read-bits .ensures) ∙ ap asBits (c .before .before .before .before .before .before .b .given .1)) (c .before .before .before .before .from-bits .ensures) (c .before .before .put-f64 .ensures)
 
 returns-2 : tie.Need-returns-2
-returns-2 c = put-no-double _ _ _ _ _ (sym (c .before .before .read-bits .ensures) ∙ ap readBitsOf (c .enum-told .given .1))
+returns-2 c = put-no-double _ _ _ _ _ (sym (c .before .before .read-bits .ensures) ∙ ap asBits (c .enum-told .given .1))
 
 pub read-double-spec : {M : Type 1} → statement M
 read-double-spec =

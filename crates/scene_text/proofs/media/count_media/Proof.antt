@@ -6,13 +6,13 @@ use Prim.Native.Nat.{_+_, _-_, _≤_}
 use lib.ListN.{length}
 use Rattle.fields.specs.Split.{partsAt}
 use Rattle.fields.proofs.Parts.{end-in}
-use Rattle.scene_text.specs.Cells.{countFrom}
+use Rattle.scene_text.specs.Cells.{countMediaOf}
 use Rattle.scene_text.proofs.Joined.{count-turn, count-bad, count-done}
 use Rattle.scene_text.proofs.media.count_media.Statement.{statement}
 use Rattle.scene_text.proofs.media.count_media.Tie as tie
 
 abbrev Inv-loop : tie.InvT-loop
-Inv-loop f from at₀ n₀ at n = (at ≤ length f + 1) × (countFrom (partsAt 44 f at) n ≡ countFrom (partsAt 44 f from) 0)
+Inv-loop f from at₀ n₀ at n = (at ≤ length f + 1) × (countMediaOf (partsAt 44 f at) n ≡ countMediaOf (partsAt 44 f from) 0)
 
 abbrev μ-loop : tie.MeasureT-loop
 μ-loop f from at₀ n₀ at n = length f + 1 - at

@@ -1,5 +1,5 @@
 -- `scene_text::media::number_or_zero` meets its contract. Assumes nothing.
-use Rattle.scene_text.specs.Cells.{numberOr0}
+use Rattle.scene_text.specs.Cells.{numberOrZeroOf}
 use borrow.Author.Needs.{needs}
 use Rattle.scene_text.proofs.media.number_or_zero.Statement.{statement}
 use Rattle.scene_text.proofs.media.number_or_zero.Tie as tie
@@ -14,11 +14,11 @@ enum-told : tie.Need-enum-told
 enum-told c = search needs
 
 returns : tie.Need-returns
-unfolding numberOr0
+unfolding numberOrZeroOf
 returns c = simp (← c .before .before .before .read-whole .ensures, c .before .v .given .1)
 
 returns-2 : tie.Need-returns-2
-unfolding numberOr0
+unfolding numberOrZeroOf
 returns-2 c = simp (← c .before .before .read-whole .ensures, c .enum-told .given .1)
 
 pub number-or-zero-spec : {M : Type 1} → statement M

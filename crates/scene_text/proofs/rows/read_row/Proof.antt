@@ -5,7 +5,7 @@ use mathlib.Core.Path.{_≡_, refl, _∙_}
 use mathlib.Core.Bool.{true}
 use Prim.Native.Nat.{_-_, _≤_}
 use lib.ListN.{length, drop}
-use Rattle.scene_text.specs.Lines.{lineOf}
+use Rattle.scene_text.specs.Lines.{readRowOf}
 use Rattle.scene_text.specs.Steps.{table, put, lineFrom}
 use Rattle.scene_text.proofs.Walking.{line-start, line-turn, line-end}
 use Rattle.scene_text.proofs.rows.read_row.Statement.{statement}
@@ -17,7 +17,7 @@ Inv-loop line form d₀ nd w₀ nw r₀ k₀ d w r k =
     × (r .at ≤ length line)
     × (length d ≡ length d₀)
     × (length w ≡ length w₀)
-    × (lineFrom line (r .at) (drop k form) (table (r .ok) d (r .nd) w (r .nw)) ≡ put (lineOf form line) (table true d₀ nd w₀ nw))
+    × (lineFrom line (r .at) (drop k form) (table (r .ok) d (r .nd) w (r .nw)) ≡ put (readRowOf form line) (table true d₀ nd w₀ nw))
 
 abbrev μ-loop : tie.MeasureT-loop
 μ-loop line form d₀ nd w₀ nw r₀ k₀ d w r k = length form - k

@@ -1,5 +1,5 @@
 -- `source::Rng64::next_f64` meets its contract. Assumes nothing.
-use Rattle.source.specs.Random.{nextF64Of, unitOf}
+use Rattle.source.specs.Random.{nextF64Of, unitInterval}
 use native.Mathlib.Omega.{arith}
 use borrow.Author.Needs.{needs}
 use Rattle.source.proofs.Products.{drawn-fits}
@@ -16,7 +16,7 @@ int-to-float-t6 c =
     in-float _ (omega (arith, drawn-fits (c .before .before .before .args .self) d (c .before .before .next-u64 .ensures)))
 
 returns : tie.Need-returns
-unfolding nextF64Of unitOf
+unfolding nextF64Of unitInterval
 returns c = simp (← c .before .before .next-u64 .ensures)
 
 pub next-f64-spec : {M : Type 1} → statement M

@@ -1,5 +1,5 @@
 -- `step::clear::between` meets its contract. Assumes nothing.
-use Rattle.step.specs.Turn.{clearBetween}
+use Rattle.step.specs.Turn.{betweenOf}
 use borrow.Author.Needs.{needs}
 use Rattle.step.proofs.clear.between.Statement.{statement}
 use Rattle.step.proofs.clear.between.Tie as tie
@@ -29,15 +29,15 @@ ends-requires-2 : tie.Need-ends-requires-2
 ends-requires-2 c κs = search needs
 
 returns : tie.Need-returns
-unfolding clearBetween
+unfolding betweenOf
 returns c = simp (c .before .before .before .before .before .before .here .given .1, c .before .before .before .there .given .1, ← c .before .compute-snell-fresnel-interaction .ensures, ← c .parted .ensures)
 
 returns-2 : tie.Need-returns-2
-unfolding clearBetween
+unfolding betweenOf
 returns-2 c = simp (c .before .before .before .before .before .here .given .1, c .before .before .there2 .given .1, ← c .ends .ensures)
 
 returns-3 : tie.Need-returns-3
-unfolding clearBetween
+unfolding betweenOf
 returns-3 c = simp (c .before .before .here2 .given .1, ← c .ends2 .ensures)
 
 pub between-spec : {M : Type 1} → statement M

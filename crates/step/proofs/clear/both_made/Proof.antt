@@ -1,5 +1,5 @@
 -- `step::clear::both_made` meets its contract. Assumes nothing.
-use Rattle.step.specs.Turn.{partedOf}
+use Rattle.step.specs.Turn.{partedBy}
 use borrow.Author.Needs.{needs}
 use Rattle.step.proofs.clear.both_made.Statement.{statement}
 use Rattle.step.proofs.clear.both_made.Tie as tie
@@ -11,7 +11,7 @@ transmitted-requires : tie.Need-transmitted-requires
 transmitted-requires c κs = search needs
 
 returns : tie.Need-returns
-unfolding partedOf
+unfolding partedBy
 returns c = simp (← c .before .before .reflected .ensures, ← c .transmitted .ensures)
 
 pub both-made-spec : {M : Type 1} → statement M

@@ -1,5 +1,5 @@
 -- `step::clear::index_in` meets its contract. Assumes nothing.
-use Rattle.step.specs.Turn.{indexIn, mediumFrom}
+use Rattle.step.specs.Turn.{indexInOf, mediumFrom}
 use borrow.Author.Needs.{needs}
 use Rattle.step.proofs.clear.index_in.Statement.{statement}
 use Rattle.step.proofs.clear.index_in.Tie as tie
@@ -23,11 +23,11 @@ refractive-index-requires-2 : tie.Need-refractive-index-requires-2
 refractive-index-requires-2 c κs = search needs
 
 returns : tie.Need-returns
-unfolding indexIn mediumFrom
+unfolding indexInOf mediumFrom
 returns c = simp (← c .before .before .before .before .before .newest .ensures, c .before .before .before .solid .given .1, ← c .before .medium-at .ensures, ← c .refractive-index .ensures)
 
 returns-2 : tie.Need-returns-2
-unfolding indexIn mediumFrom
+unfolding indexInOf mediumFrom
 returns-2 c = simp (← c .before .before .before .newest .ensures, c .before .enum-told .given .1, ← c .refractive-index2 .ensures)
 
 pub index-in-spec : {M : Type 1} → statement M

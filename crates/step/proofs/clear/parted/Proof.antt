@@ -1,5 +1,5 @@
 -- `step::clear::parted` meets its contract. Assumes nothing.
-use Rattle.step.specs.Turn.{partedFrom}
+use Rattle.step.specs.Turn.{partedOf}
 use borrow.Author.Needs.{needs}
 use Rattle.step.proofs.clear.parted.Statement.{statement}
 use Rattle.step.proofs.clear.parted.Tie as tie
@@ -23,15 +23,15 @@ ends-requires : tie.Need-ends-requires
 ends-requires c κs = search needs
 
 returns : tie.Need-returns
-unfolding partedFrom
+unfolding partedOf
 returns c = simp (c .before .before .rays .given .1, ← c .all-reflected .ensures)
 
 returns-2 : tie.Need-returns-2
-unfolding partedFrom
+unfolding partedOf
 returns-2 c = simp (c .before .before .rays2 .given .1, ← c .both-made .ensures)
 
 returns-3 : tie.Need-returns-3
-unfolding partedFrom
+unfolding partedOf
 returns-3 c = simp (c .before .before .rays3 .given .1, ← c .ends .ensures)
 
 pub parted-spec : {M : Type 1} → statement M

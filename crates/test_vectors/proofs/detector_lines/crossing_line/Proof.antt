@@ -1,5 +1,5 @@
 -- `test_vectors::detector_lines::crossing_line` meets its contract. Assumes nothing.
-use Rattle.test_vectors.specs.DetectorLines.{crossingLine}
+use Rattle.test_vectors.specs.DetectorLines.{crossingLineOf}
 use borrow.Author.Needs.{needs}
 use Rattle.test_vectors.proofs.detector_lines.crossing_line.Statement.{statement}
 use Rattle.test_vectors.proofs.detector_lines.crossing_line.Tie as tie
@@ -26,7 +26,7 @@ both-requires : tie.Need-both-requires
 both-requires c κs = search needs
 
 returns : tie.Need-returns
-unfolding crossingLine
+unfolding crossingLineOf
 returns c = simp (← c .before .before .before .before .before .before .detector-in .ensures, ← c .before .before .before .before .before .face .ensures, ← c .before .before .before .before .ray-in .ensures, ← c .before .before .before .intersect-ray .ensures, ← c .before .before .is-crossing-given .ensures, ← c .before .is-crossing .ensures, ← c .both .ensures)
 
 pub crossing-line-spec : {M : Type 1} → statement M

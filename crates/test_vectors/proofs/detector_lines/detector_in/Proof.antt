@@ -1,5 +1,5 @@
 -- `test_vectors::detector_lines::detector_in` meets its contract. Assumes nothing.
-use Rattle.test_vectors.specs.DetectorLines.{detectorIn}
+use Rattle.test_vectors.specs.DetectorLines.{detectorInOf}
 use borrow.Author.Needs.{needs}
 use Rattle.test_vectors.proofs.detector_lines.detector_in.Statement.{statement}
 use Rattle.test_vectors.proofs.detector_lines.detector_in.Tie as tie
@@ -26,7 +26,7 @@ whole-at-requires-2 : tie.Need-whole-at-requires-2
 whole-at-requires-2 c κs = search needs
 
 returns : tie.Need-returns
-unfolding detectorIn
+unfolding detectorInOf
 returns c = simp (← c .before .before .before .before .before .before .vec-at .ensures, ← c .before .before .before .before .before .vec-at2 .ensures, ← c .before .before .before .before .vec-at3 .ensures, ← c .before .before .before .double-at .ensures, ← c .before .before .double-at2 .ensures, ← c .before .whole-at .ensures, ← c .whole-at2 .ensures)
 
 pub detector-in-spec : {M : Type 1} → statement M

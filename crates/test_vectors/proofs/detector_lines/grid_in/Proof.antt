@@ -1,5 +1,5 @@
 -- `test_vectors::detector_lines::grid_in` meets its contract. Assumes nothing.
-use Rattle.test_vectors.specs.DetectorLines.{gridIn}
+use Rattle.test_vectors.specs.DetectorLines.{gridInOf}
 use borrow.Author.Needs.{needs}
 use Rattle.test_vectors.proofs.detector_lines.grid_in.Statement.{statement}
 use Rattle.test_vectors.proofs.detector_lines.grid_in.Tie as tie
@@ -20,7 +20,7 @@ grid-requires : tie.Need-grid-requires
 grid-requires c κs = search needs
 
 returns : tie.Need-returns
-unfolding gridIn
+unfolding gridInOf
 returns c = simp (← c .before .before .before .before .double-at .ensures, ← c .before .before .before .double-at2 .ensures, ← c .before .before .whole-at .ensures, ← c .before .whole-at2 .ensures, ← c .grid .ensures)
 
 pub grid-in-spec : {M : Type 1} → statement M

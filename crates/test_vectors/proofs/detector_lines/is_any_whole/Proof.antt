@@ -1,5 +1,5 @@
 -- `test_vectors::detector_lines::is_any_whole` meets its contract. Assumes nothing.
-use Rattle.test_vectors.specs.DetectorLines.{isAnyWhole}
+use Rattle.test_vectors.specs.DetectorLines.{isAnyWholeOf}
 use borrow.Author.Needs.{needs}
 use Rattle.test_vectors.proofs.detector_lines.is_any_whole.Statement.{statement}
 use Rattle.test_vectors.proofs.detector_lines.is_any_whole.Tie as tie
@@ -17,11 +17,11 @@ enum-told-2 : tie.Need-enum-told-2
 enum-told-2 c = search needs
 
 returns : tie.Need-returns
-unfolding isAnyWhole
+unfolding isAnyWholeOf
 returns c = simp (← c .before .before .before .part .ensures, ← c .before .before .read-whole .ensures, c .enum-told .given .1)
 
 returns-2 : tie.Need-returns-2
-unfolding isAnyWhole
+unfolding isAnyWholeOf
 returns-2 c = simp (← c .before .before .before .part .ensures, ← c .before .before .read-whole .ensures, c .enum-told2 .given .1)
 
 pub is-any-whole-spec : {M : Type 1} → statement M

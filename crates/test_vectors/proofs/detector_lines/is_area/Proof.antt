@@ -1,5 +1,5 @@
 -- `test_vectors::detector_lines::is_area` meets its contract. Assumes nothing.
-use Rattle.test_vectors.specs.DetectorLines.{isArea}
+use Rattle.test_vectors.specs.DetectorLines.{isAreaOf}
 use borrow.Author.Needs.{needs}
 use Rattle.test_vectors.proofs.detector_lines.is_area.Statement.{statement}
 use Rattle.test_vectors.proofs.detector_lines.is_area.Tie as tie
@@ -14,11 +14,11 @@ enum-known-a-2 : tie.Need-enum-known-a-2
 enum-known-a-2 c = search needs
 
 returns : tie.Need-returns
-unfolding isArea
+unfolding isAreaOf
 returns c = simp (c .before .before .a .given .1, ← c .is-double .ensures)
 
 returns-2 : tie.Need-returns-2
-unfolding isArea
+unfolding isAreaOf
 returns-2 c = simp (c .before .a2 .given .1)
 
 pub is-area-spec : {M : Type 1} → statement M

@@ -1,5 +1,5 @@
 -- `test_vectors::detector_lines::is_crossing` meets its contract. Assumes nothing.
-use Rattle.test_vectors.specs.DetectorLines.{isCrossing}
+use Rattle.test_vectors.specs.DetectorLines.{isCrossingOf}
 use borrow.Author.Needs.{needs}
 use Rattle.test_vectors.proofs.detector_lines.is_crossing.Statement.{statement}
 use Rattle.test_vectors.proofs.detector_lines.is_crossing.Tie as tie
@@ -29,11 +29,11 @@ both-requires-2 : tie.Need-both-requires-2
 both-requires-2 c κs = search needs
 
 returns : tie.Need-returns
-unfolding isCrossing
+unfolding isCrossingOf
 returns c = simp (c .before .before .before .before .c .given .1, ← c .before .before .has-shape .ensures, ← c .before .is-crossing-at .ensures, ← c .both .ensures)
 
 returns-2 : tie.Need-returns-2
-unfolding isCrossing
+unfolding isCrossingOf
 returns-2 c = simp (c .before .before .before .enum-told .given .1, ← c .before .before .has-shape2 .ensures, ← c .before .is-dash .ensures, ← c .both2 .ensures)
 
 pub is-crossing-spec : {M : Type 1} → statement M

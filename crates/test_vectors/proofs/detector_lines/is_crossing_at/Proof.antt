@@ -1,5 +1,5 @@
 -- `test_vectors::detector_lines::is_crossing_at` meets its contract. Assumes nothing.
-use Rattle.test_vectors.specs.DetectorLines.{isCrossingAt}
+use Rattle.test_vectors.specs.DetectorLines.{isCrossingAtOf}
 use borrow.Author.Needs.{needs}
 use Rattle.test_vectors.proofs.detector_lines.is_crossing_at.Statement.{statement}
 use Rattle.test_vectors.proofs.detector_lines.is_crossing_at.Tie as tie
@@ -32,7 +32,7 @@ both-requires-4 : tie.Need-both-requires-4
 both-requires-4 c κs = search needs
 
 returns : tie.Need-returns
-unfolding isCrossingAt
+unfolding isCrossingAtOf
 returns c = simp (← c .before .before .before .before .before .before .before .before .is-double .ensures, ← c .before .before .before .before .before .before .before .is-double2 .ensures, ← c .before .before .before .before .before .before .is-double3 .ensures, ← c .before .before .before .before .before .is-index .ensures, ← c .before .before .before .before .is-index2 .ensures, ← c .before .before .before .both .ensures, ← c .before .before .both2 .ensures, ← c .before .both3 .ensures, ← c .both4 .ensures)
 
 pub is-crossing-at-spec : {M : Type 1} → statement M

@@ -1,5 +1,5 @@
 -- `test_vectors::detector_lines::is_crossing_given` meets its contract. Assumes nothing.
-use Rattle.test_vectors.specs.DetectorLines.{crossingGiven}
+use Rattle.test_vectors.specs.DetectorLines.{isCrossingGivenOf}
 use borrow.Author.Needs.{needs}
 use Rattle.test_vectors.proofs.detector_lines.is_crossing_given.Statement.{statement}
 use Rattle.test_vectors.proofs.detector_lines.is_crossing_given.Tie as tie
@@ -26,7 +26,7 @@ both-requires-3 : tie.Need-both-requires-3
 both-requires-3 c κs = search needs
 
 returns : tie.Need-returns
-unfolding crossingGiven
+unfolding isCrossingGivenOf
 returns c = simp (← c .before .before .before .before .before .before .are-bits .ensures, ← c .before .before .before .before .before .is-any-whole .ensures, ← c .before .before .before .before .is-any-whole2 .ensures, ← c .before .before .before .are-bits2 .ensures, ← c .before .before .both .ensures, ← c .before .both2 .ensures, ← c .both3 .ensures)
 
 pub is-crossing-given-spec : {M : Type 1} → statement M

@@ -1,5 +1,5 @@
 -- `test_vectors::detector_lines::is_index` meets its contract. Assumes nothing.
-use Rattle.test_vectors.specs.DetectorLines.{isIndex}
+use Rattle.test_vectors.specs.DetectorLines.{isIndexOf}
 use borrow.Author.Needs.{needs}
 use Rattle.test_vectors.proofs.detector_lines.is_index.Statement.{statement}
 use Rattle.test_vectors.proofs.detector_lines.is_index.Tie as tie
@@ -23,11 +23,11 @@ enum-told : tie.Need-enum-told
 enum-told c = search needs
 
 returns : tie.Need-returns
-unfolding isIndex
+unfolding isIndexOf
 returns c = simp (← c .before .before .before .before .before .index-along .ensures, ← c .before .before .before .before .part .ensures, ← c .before .before .before .read-whole .ensures, c .before .a .given .1)
 
 returns-2 : tie.Need-returns-2
-unfolding isIndex
+unfolding isIndexOf
 returns-2 c = simp (← c .before .before .before .before .index-along .ensures, ← c .before .before .before .part .ensures, ← c .before .before .read-whole .ensures, c .enum-told .given .1)
 
 pub is-index-spec : {M : Type 1} → statement M

@@ -1,5 +1,5 @@
 -- `test_vectors::detector_lines::is_pixel` meets its contract. Assumes nothing.
-use Rattle.test_vectors.specs.DetectorLines.{isPixel}
+use Rattle.test_vectors.specs.DetectorLines.{isPixelOf}
 use borrow.Author.Needs.{needs}
 use Rattle.test_vectors.proofs.detector_lines.is_pixel.Statement.{statement}
 use Rattle.test_vectors.proofs.detector_lines.is_pixel.Tie as tie
@@ -20,7 +20,7 @@ both-requires : tie.Need-both-requires
 both-requires c κs = search needs
 
 returns : tie.Need-returns
-unfolding isPixel
+unfolding isPixelOf
 returns c = simp (← c .before .before .before .before .double-at .ensures, ← c .before .before .before .is-index .ensures, ← c .before .before .double-at2 .ensures, ← c .before .is-index2 .ensures, ← c .both .ensures)
 
 pub is-pixel-spec : {M : Type 1} → statement M

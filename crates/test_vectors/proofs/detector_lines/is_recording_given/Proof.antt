@@ -1,5 +1,5 @@
 -- `test_vectors::detector_lines::is_recording_given` meets its contract. Assumes nothing.
-use Rattle.test_vectors.specs.DetectorLines.{recordingGiven}
+use Rattle.test_vectors.specs.DetectorLines.{isRecordingGivenOf}
 use borrow.Author.Needs.{needs}
 use Rattle.test_vectors.proofs.detector_lines.is_recording_given.Statement.{statement}
 use Rattle.test_vectors.proofs.detector_lines.is_recording_given.Tie as tie
@@ -32,7 +32,7 @@ both-requires-4 : tie.Need-both-requires-4
 both-requires-4 c κs = search needs
 
 returns : tie.Need-returns
-unfolding recordingGiven
+unfolding isRecordingGivenOf
 returns c = simp (← c .before .before .before .before .before .before .before .before .has-shape .ensures, ← c .before .before .before .before .before .before .before .are-bits .ensures, ← c .before .before .before .before .before .before .both .ensures, ← c .before .before .before .before .before .is-any-whole .ensures, ← c .before .before .before .before .is-any-whole2 .ensures, ← c .before .before .before .are-bits2 .ensures, ← c .before .before .both2 .ensures, ← c .before .both3 .ensures, ← c .both4 .ensures)
 
 pub is-recording-given-spec : {M : Type 1} → statement M

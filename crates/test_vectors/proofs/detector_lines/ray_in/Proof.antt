@@ -1,5 +1,5 @@
 -- `test_vectors::detector_lines::ray_in` meets its contract. Assumes nothing.
-use Rattle.test_vectors.specs.DetectorLines.{rayIn}
+use Rattle.test_vectors.specs.DetectorLines.{rayInOf}
 use borrow.Author.Needs.{needs}
 use Rattle.test_vectors.proofs.detector_lines.ray_in.Statement.{statement}
 use Rattle.test_vectors.proofs.detector_lines.ray_in.Tie as tie
@@ -11,7 +11,7 @@ vec-at-requires-2 : tie.Need-vec-at-requires-2
 vec-at-requires-2 c κs = search needs
 
 returns : tie.Need-returns
-unfolding rayIn
+unfolding rayInOf
 returns c = simp (← c .before .vec-at .ensures, ← c .vec-at2 .ensures)
 
 pub ray-in-spec : {M : Type 1} → statement M

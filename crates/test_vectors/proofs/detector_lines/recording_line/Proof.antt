@@ -1,5 +1,5 @@
 -- `test_vectors::detector_lines::recording_line` meets its contract. Assumes nothing.
-use Rattle.test_vectors.specs.DetectorLines.{recordingLine}
+use Rattle.test_vectors.specs.DetectorLines.{recordingLineOf}
 use borrow.Author.Needs.{needs}
 use Rattle.test_vectors.proofs.detector_lines.recording_line.Statement.{statement}
 use Rattle.test_vectors.proofs.detector_lines.recording_line.Tie as tie
@@ -38,7 +38,7 @@ both-requires-3 : tie.Need-both-requires-3
 both-requires-3 c κs = search needs
 
 returns : tie.Need-returns
-unfolding recordingLine
+unfolding recordingLineOf
 returns c = simp (← c .before .before .before .before .before .before .before .before .before .before .grid-in .ensures, ← c .before .before .before .before .before .before .before .before .before .is-recording-given .ensures, ← c .before .before .before .before .before .before .before .before .is-pixel .ensures, ← c .before .before .before .before .before .before .before .both .ensures, ← c .before .before .before .before .before .before .pixel-area-m2 .ensures, ← c .before .before .before .before .before .is-area .ensures, ← c .before .before .before .before .double-at .ensures, ← c .before .before .before .irradiance .ensures, ← c .before .before .is-double .ensures, ← c .before .both2 .ensures, ← c .both3 .ensures)
 
 pub recording-line-spec : {M : Type 1} → statement M

@@ -1,5 +1,5 @@
 -- `test_vectors::lines::double_line` meets its contract. Assumes nothing.
-use Rattle.test_vectors.specs.Lines.{doubleLine}
+use Rattle.test_vectors.specs.Lines.{doubleLineOf}
 use borrow.Author.Needs.{needs}
 use Rattle.test_vectors.proofs.lines.double_line.Statement.{statement}
 use Rattle.test_vectors.proofs.lines.double_line.Tie as tie
@@ -62,7 +62,7 @@ both-requires-5 : tie.Need-both-requires-5
 both-requires-5 c κs = search needs
 
 returns : tie.Need-returns
-unfolding doubleLine
+unfolding doubleLineOf
 returns c = simp (← c .before .before .before .before .before .before .before .before .before .before .before .before .before .before .before .before .before .before .bits-at .ensures, ← c .before .before .before .before .before .before .before .before .before .before .before .before .before .before .before .before .before .from-bits .ensures, ← c .before .before .before .before .before .before .before .before .before .before .before .before .before .before .before .before .is-given .ensures, ← c .before .before .before .before .before .before .before .before .before .before .before .before .before .before .before .abs .ensures, ← c .before .before .before .before .before .before .before .before .before .before .before .before .before .before .is-double .ensures, ← c .before .before .before .before .before .before .before .before .before .before .before .before .before .max-zero .ensures, ← c .before .before .before .before .before .before .before .before .before .before .before .before .is-double2 .ensures, ← c .before .before .before .before .before .before .before .before .before .before .before .clamp .ensures, ← c .before .before .before .before .before .before .before .before .before .before .is-double3 .ensures, ← c .before .before .before .before .before .before .before .before .before .is-finite .ensures, ← c .before .before .before .before .before .before .before .before .one-if .ensures, ← c .before .before .before .before .before .before .before .is-whole .ensures, ← c .before .before .before .before .before .before .to-usize .ensures, ← c .before .before .before .before .before .is-bits .ensures, ← c .before .before .before .before .both .ensures, ← c .before .before .before .both2 .ensures, ← c .before .before .both3 .ensures, ← c .before .both4 .ensures, ← c .both5 .ensures)
 
 pub double-line-spec : {M : Type 1} → statement M

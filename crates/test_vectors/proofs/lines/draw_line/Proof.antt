@@ -1,5 +1,5 @@
 -- `test_vectors::lines::draw_line` meets its contract. Assumes nothing.
-use Rattle.test_vectors.specs.Lines.{drawLine}
+use Rattle.test_vectors.specs.Lines.{drawLineOf}
 use borrow.Author.Needs.{needs}
 use Rattle.test_vectors.proofs.lines.draw_line.Statement.{statement}
 use Rattle.test_vectors.proofs.lines.draw_line.Tie as tie
@@ -20,7 +20,7 @@ both-requires : tie.Need-both-requires
 both-requires c κs = search needs
 
 returns : tie.Need-returns
-unfolding drawLine
+unfolding drawLineOf
 returns c = simp (← c .before .before .before .before .is-given .ensures, ← c .before .before .before .bits-at .ensures, ← c .before .before .new .ensures, ← c .before .draws-agree .ensures, ← c .both .ensures)
 
 pub draw-line-spec : {M : Type 1} → statement M

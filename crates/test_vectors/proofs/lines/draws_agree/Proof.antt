@@ -3,12 +3,12 @@ use borrow.Author.Needs.{needs}
 use mathlib.Core.Path.{_≡_, refl}
 use Prim.Native.Nat.{_-_, _≤_}
 use Rattle.test_vectors.proofs.Draws.{draw-turn, draw-stop, draw-end}
-use Rattle.test_vectors.specs.Lines.{drawsAgree}
+use Rattle.test_vectors.specs.Lines.{drawsAgreeOf}
 use Rattle.test_vectors.proofs.lines.draws_agree.Statement.{statement}
 use Rattle.test_vectors.proofs.lines.draws_agree.Tie as tie
 
 abbrev Inv-loop : tie.InvT-loop
-Inv-loop line g₀ k₀ g k = (k ≤ 7) × (drawsAgree line (7 - k) k g ≡ drawsAgree line 5 2 g₀)
+Inv-loop line g₀ k₀ g k = (k ≤ 7) × (drawsAgreeOf line (7 - k) k g ≡ drawsAgreeOf line 5 2 g₀)
 
 abbrev μ-loop : tie.MeasureT-loop
 μ-loop line g₀ k₀ g k = 7 - k

@@ -1,6 +1,6 @@
 -- `test_vectors::lines::index_line` meets its contract. Assumes nothing.
 use borrow.Author.Tests.{lt-ltb, le-ltb}
-use Rattle.test_vectors.specs.Lines.{indexLine, indexOfMedium}
+use Rattle.test_vectors.specs.Lines.{indexLineOf, indexOfMedium}
 use borrow.Author.Needs.{needs}
 use Rattle.test_vectors.proofs.lines.index_line.Statement.{statement}
 use Rattle.test_vectors.proofs.lines.index_line.Tie as tie
@@ -15,7 +15,7 @@ enum-known-number : tie.Need-enum-known-number
 enum-known-number c = search needs
 
 returns : tie.Need-returns
-unfolding indexLine indexOfMedium
+unfolding indexLineOf indexOfMedium
 returns c = simp (← c .before .before .before .before .before .part .ensures, ← c .before .before .before .before .read-whole .ensures, c .before .before .number .given .1, lt-ltb _ _ (c .if1 .taken))
 
 has-shape-requires : tie.Need-has-shape-requires
@@ -46,11 +46,11 @@ enum-told : tie.Need-enum-told
 enum-told c = search needs
 
 returns-2 : tie.Need-returns-2
-unfolding indexLine indexOfMedium
+unfolding indexLineOf indexOfMedium
 returns-2 c = simp (← c .before .before .before .before .before .before .before .before .before .before .before .before .before .part .ensures, ← c .before .before .before .before .before .before .before .before .before .before .before .before .read-whole .ensures, c .before .before .before .before .before .before .before .before .before .before .number .given .1, le-ltb _ _ (c .before .before .before .before .before .before .before .before .if1 .left), ← c .before .before .before .before .before .before .before .has-shape .ensures, ← c .before .before .before .before .before .before .are-bits .ensures, ← c .before .before .before .before .before .both .ensures, ← c .before .before .before .before .medium .ensures, ← c .before .before .before .double-at .ensures, ← c .before .before .refractive-index .ensures, ← c .before .is-answer .ensures, ← c .both2 .ensures)
 
 returns-3 : tie.Need-returns-3
-unfolding indexLine indexOfMedium
+unfolding indexLineOf indexOfMedium
 returns-3 c = simp (← c .before .before .before .part .ensures, ← c .before .before .read-whole .ensures, c .enum-told .given .1)
 
 pub index-line-spec : {M : Type 1} → statement M

@@ -1,5 +1,5 @@
 -- `test_vectors::lines::is_answer` meets its contract. Assumes nothing.
-use Rattle.test_vectors.specs.Lines.{isAnswer}
+use Rattle.test_vectors.specs.Lines.{isAnswerOf}
 use borrow.Author.Needs.{needs}
 use Rattle.test_vectors.proofs.lines.is_answer.Statement.{statement}
 use Rattle.test_vectors.proofs.lines.is_answer.Tie as tie
@@ -20,11 +20,11 @@ is-refusal-requires : tie.Need-is-refusal-requires
 is-refusal-requires c κs = search needs
 
 returns : tie.Need-returns
-unfolding isAnswer
+unfolding isAnswerOf
 returns c = simp (c .before .before .r .given .1, ← c .is-double .ensures)
 
 returns-2 : tie.Need-returns-2
-unfolding isAnswer
+unfolding isAnswerOf
 returns-2 c = simp (c .before .before .before .r2 .given .1, ← c .before .part .ensures, ← c .is-refusal .ensures)
 
 pub is-answer-spec : {M : Type 1} → statement M

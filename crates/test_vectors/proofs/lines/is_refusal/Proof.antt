@@ -1,9 +1,9 @@
 -- `test_vectors::lines::is_refusal` meets its contract. Assumes nothing.
 use mathlib.Core.Path.{ap, _∙_}
-use Rattle.fields.specs.Number.{wholeOf}
+use Rattle.fields.specs.Number.{readWholeOf}
 use Rattle.test_vectors.proofs.Turns.{all-but-first}
 use borrow.Author.Tests.{lt-ltb, le-ltb, eq-eqb, ne-eqb}
-use Rattle.test_vectors.specs.Lines.{isRefusal}
+use Rattle.test_vectors.specs.Lines.{isRefusalOf}
 use borrow.Author.Needs.{needs}
 use Rattle.test_vectors.proofs.lines.is_refusal.Statement.{statement}
 use Rattle.test_vectors.proofs.lines.is_refusal.Tie as tie
@@ -33,19 +33,19 @@ enum-told : tie.Need-enum-told
 enum-told c = search needs
 
 returns : tie.Need-returns
-unfolding isRefusal
-returns c = simp (lt-ltb _ _ (c .before .before .before .before .before .before .before .before .if1 .taken), eq-eqb _ _ (c .before .before .before .before .before .before .if2 .taken), ← (c .before .before .before .before .read-whole .ensures ∙ ap wholeOf (all-but-first (c .before .before .before .before .before .before .before .before .before .before .args .part .now))), c .before .before .n .given .1, ← c .number .ensures)
+unfolding isRefusalOf
+returns c = simp (lt-ltb _ _ (c .before .before .before .before .before .before .before .before .if1 .taken), eq-eqb _ _ (c .before .before .before .before .before .before .if2 .taken), ← (c .before .before .before .before .read-whole .ensures ∙ ap readWholeOf (all-but-first (c .before .before .before .before .before .before .before .before .before .before .args .part .now))), c .before .before .n .given .1, ← c .number .ensures)
 
 returns-2 : tie.Need-returns-2
-unfolding isRefusal
-returns-2 c = simp (lt-ltb _ _ (c .before .before .before .before .before .before .if1 .taken), eq-eqb _ _ (c .before .before .before .before .if2 .taken), ← (c .before .before .read-whole .ensures ∙ ap wholeOf (all-but-first (c .before .before .before .before .before .before .before .before .args .part .now))), c .enum-told .given .1)
+unfolding isRefusalOf
+returns-2 c = simp (lt-ltb _ _ (c .before .before .before .before .before .before .if1 .taken), eq-eqb _ _ (c .before .before .before .before .if2 .taken), ← (c .before .before .read-whole .ensures ∙ ap readWholeOf (all-but-first (c .before .before .before .before .before .before .before .before .args .part .now))), c .enum-told .given .1)
 
 returns-3 : tie.Need-returns-3
-unfolding isRefusal
+unfolding isRefusalOf
 returns-3 c = simp (lt-ltb _ _ (c .before .before .if1 .taken), ne-eqb _ _ (c .if2 .left))
 
 returns-4 : tie.Need-returns-4
-unfolding isRefusal
+unfolding isRefusalOf
 returns-4 c = simp (le-ltb _ _ (c .if1 .left))
 
 pub is-refusal-spec : {M : Type 1} → statement M

@@ -1,5 +1,5 @@
 -- `test_vectors::lines::line_agrees` meets its contract. Assumes nothing.
-use Rattle.test_vectors.specs.Lines.{lineAgrees}
+use Rattle.test_vectors.specs.Lines.{lineAgreesOf}
 use borrow.Author.Needs.{needs}
 use Rattle.test_vectors.proofs.lines.line_agrees.Statement.{statement}
 use Rattle.test_vectors.proofs.lines.line_agrees.Tie as tie
@@ -71,47 +71,47 @@ recording-line-requires : tie.Need-recording-line-requires
 recording-line-requires c κs = search needs
 
 returns : tie.Need-returns
-unfolding lineAgrees
+unfolding lineAgreesOf
 returns c = simp (c .before .enum-told .given .1, ← c .root-line .ensures)
 
 returns-2 : tie.Need-returns-2
-unfolding lineAgrees
+unfolding lineAgreesOf
 returns-2 c = simp (c .before .enum-told2 .given .1, ← c .double-line .ensures)
 
 returns-3 : tie.Need-returns-3
-unfolding lineAgrees
+unfolding lineAgreesOf
 returns-3 c = simp (c .before .enum-told3 .given .1, ← c .draw-line .ensures)
 
 returns-4 : tie.Need-returns-4
-unfolding lineAgrees
+unfolding lineAgreesOf
 returns-4 c = simp (c .before .enum-told4 .given .1, ← c .state-line .ensures)
 
 returns-5 : tie.Need-returns-5
-unfolding lineAgrees
+unfolding lineAgreesOf
 returns-5 c = simp (c .before .enum-told5 .given .1, ← c .vector-line .ensures)
 
 returns-6 : tie.Need-returns-6
-unfolding lineAgrees
+unfolding lineAgreesOf
 returns-6 c = simp (c .before .enum-told6 .given .1, ← c .matrix-line .ensures)
 
 returns-7 : tie.Need-returns-7
-unfolding lineAgrees
+unfolding lineAgreesOf
 returns-7 c = simp (c .before .enum-told7 .given .1, ← c .index-line .ensures)
 
 returns-8 : tie.Need-returns-8
-unfolding lineAgrees
+unfolding lineAgreesOf
 returns-8 c = simp (c .before .enum-told8 .given .1, ← c .shape-line .ensures)
 
 returns-9 : tie.Need-returns-9
-unfolding lineAgrees
+unfolding lineAgreesOf
 returns-9 c = simp (c .before .enum-told9 .given .1, ← c .solid-line .ensures)
 
 returns-10 : tie.Need-returns-10
-unfolding lineAgrees
+unfolding lineAgreesOf
 returns-10 c = simp (c .before .enum-told10 .given .1, ← c .crossing-line .ensures)
 
 returns-11 : tie.Need-returns-11
-unfolding lineAgrees
+unfolding lineAgreesOf
 returns-11 c = simp (c .before .enum-told11 .given .1, ← c .recording-line .ensures)
 
 pub line-agrees-spec : {M : Type 1} → statement M

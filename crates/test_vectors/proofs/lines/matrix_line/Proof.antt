@@ -1,5 +1,5 @@
 -- `test_vectors::lines::matrix_line` meets its contract. Assumes nothing.
-use Rattle.test_vectors.specs.Lines.{matrixLine}
+use Rattle.test_vectors.specs.Lines.{matrixLineOf}
 use borrow.Author.Needs.{needs}
 use Rattle.test_vectors.proofs.lines.matrix_line.Statement.{statement}
 use Rattle.test_vectors.proofs.lines.matrix_line.Tie as tie
@@ -41,7 +41,7 @@ both-requires-3 : tie.Need-both-requires-3
 both-requires-3 c κs = search needs
 
 returns : tie.Need-returns
-unfolding matrixLine
+unfolding matrixLineOf
 returns c = simp (← c .before .before .before .before .before .before .before .before .before .before .before .mat-at .ensures, ← c .before .before .before .before .before .before .before .before .before .before .vec-at .ensures, ← c .before .before .before .before .before .before .before .before .before .transform-point .ensures, ← c .before .before .before .before .before .before .before .before .is-vec .ensures, ← c .before .before .before .before .before .before .before .transform-direction .ensures, ← c .before .before .before .before .before .before .is-vec2 .ensures, ← c .before .before .before .before .before .transform-normal .ensures, ← c .before .before .before .before .is-vec3 .ensures, ← c .before .before .before .is-given .ensures, ← c .before .before .both .ensures, ← c .before .both2 .ensures, ← c .both3 .ensures)
 
 pub matrix-line-spec : {M : Type 1} → statement M

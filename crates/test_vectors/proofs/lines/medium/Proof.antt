@@ -1,5 +1,5 @@
 -- `test_vectors::lines::medium` meets its contract. Assumes nothing.
-use Rattle.test_vectors.specs.Lines.{mediumIn}
+use Rattle.test_vectors.specs.Lines.{mediumOf}
 use borrow.Author.Needs.{needs}
 use Rattle.test_vectors.proofs.lines.medium.Statement.{statement}
 use Rattle.test_vectors.proofs.lines.medium.Tie as tie
@@ -26,7 +26,7 @@ numbered-requires : tie.Need-numbered-requires
 numbered-requires c κs = search needs
 
 returns : tie.Need-returns
-unfolding mediumIn
+unfolding mediumOf
 returns c = simp (← c .before .before .before .before .before .before .double-at .ensures, ← c .before .before .before .before .before .double-at2 .ensures, ← c .before .before .before .before .double-at3 .ensures, ← c .before .before .before .double-at4 .ensures, ← c .before .before .double-at5 .ensures, ← c .before .double-at6 .ensures, ← c .numbered .ensures)
 
 pub medium-spec : {M : Type 1} → statement M

@@ -1,5 +1,5 @@
 -- `test_vectors::lines::one_agrees` meets its contract. Assumes nothing.
-use Rattle.test_vectors.specs.Lines.{oneAgrees}
+use Rattle.test_vectors.specs.Lines.{oneAgreesOf}
 use borrow.Author.Needs.{needs}
 use Rattle.test_vectors.proofs.lines.one_agrees.Statement.{statement}
 use Rattle.test_vectors.proofs.lines.one_agrees.Tie as tie
@@ -47,7 +47,7 @@ both-requires-4 : tie.Need-both-requires-4
 both-requires-4 c κs = search needs
 
 returns : tie.Need-returns
-unfolding oneAgrees
+unfolding oneAgreesOf
 returns c = simp (← c .before .before .before .before .before .before .before .before .before .before .before .before .before .scale .ensures, ← c .before .before .before .before .before .before .before .before .before .before .before .before .is-vec .ensures, ← c .before .before .before .before .before .before .before .before .before .before .before .divide .ensures, ← c .before .before .before .before .before .before .before .before .before .before .is-vec2 .ensures, ← c .before .before .before .before .before .before .before .before .before .negate .ensures, ← c .before .before .before .before .before .before .before .before .is-vec3 .ensures, ← c .before .before .before .before .before .before .before .norm .ensures, ← c .before .before .before .before .before .before .is-double .ensures, ← c .before .before .before .before .before .normalize .ensures, ← c .before .before .before .before .is-vec4 .ensures, ← c .before .before .before .both .ensures, ← c .before .before .both2 .ensures, ← c .before .both3 .ensures, ← c .both4 .ensures)
 
 pub one-agrees-spec : {M : Type 1} → statement M

@@ -1,5 +1,5 @@
 -- `test_vectors::lines::pair_agrees` meets its contract. Assumes nothing.
-use Rattle.test_vectors.specs.Lines.{pairAgrees}
+use Rattle.test_vectors.specs.Lines.{pairAgreesOf}
 use borrow.Author.Needs.{needs}
 use Rattle.test_vectors.proofs.lines.pair_agrees.Statement.{statement}
 use Rattle.test_vectors.proofs.lines.pair_agrees.Tie as tie
@@ -38,7 +38,7 @@ both-requires-3 : tie.Need-both-requires-3
 both-requires-3 c κs = search needs
 
 returns : tie.Need-returns
-unfolding pairAgrees
+unfolding pairAgreesOf
 returns c = simp (← c .before .before .before .before .before .before .before .before .before .before .dot .ensures, ← c .before .before .before .before .before .before .before .before .before .is-double .ensures, ← c .before .before .before .before .before .before .before .before .cross .ensures, ← c .before .before .before .before .before .before .before .is-vec .ensures, ← c .before .before .before .before .before .before .plus .ensures, ← c .before .before .before .before .before .is-vec2 .ensures, ← c .before .before .before .before .minus .ensures, ← c .before .before .before .is-vec3 .ensures, ← c .before .before .both .ensures, ← c .before .both2 .ensures, ← c .both3 .ensures)
 
 pub pair-agrees-spec : {M : Type 1} → statement M

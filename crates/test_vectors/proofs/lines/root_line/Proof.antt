@@ -1,5 +1,5 @@
 -- `test_vectors::lines::root_line` meets its contract. Assumes nothing.
-use Rattle.test_vectors.specs.Lines.{rootLine}
+use Rattle.test_vectors.specs.Lines.{rootLineOf}
 use borrow.Author.Needs.{needs}
 use Rattle.test_vectors.proofs.lines.root_line.Statement.{statement}
 use Rattle.test_vectors.proofs.lines.root_line.Tie as tie
@@ -23,7 +23,7 @@ both-requires : tie.Need-both-requires
 both-requires c κs = search needs
 
 returns : tie.Need-returns
-unfolding rootLine
+unfolding rootLineOf
 returns c = simp (← c .before .before .before .before .before .bits-at .ensures, ← c .before .before .before .before .from-bits .ensures, ← c .before .before .before .is-given .ensures, ← c .before .before .sqrt .ensures, ← c .before .is-double .ensures, ← c .both .ensures)
 
 pub root-line-spec : {M : Type 1} → statement M

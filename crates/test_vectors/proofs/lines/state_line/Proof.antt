@@ -1,5 +1,5 @@
 -- `test_vectors::lines::state_line` meets its contract. Assumes nothing.
-use Rattle.test_vectors.specs.Lines.{stateLine}
+use Rattle.test_vectors.specs.Lines.{stateLineOf}
 use borrow.Author.Needs.{needs}
 use Rattle.test_vectors.proofs.lines.state_line.Statement.{statement}
 use Rattle.test_vectors.proofs.lines.state_line.Tie as tie
@@ -26,7 +26,7 @@ both-requires-2 : tie.Need-both-requires-2
 both-requires-2 c κs = search needs
 
 returns : tie.Need-returns
-unfolding stateLine
+unfolding stateLineOf
 returns c = simp (← c .before .before .before .before .before .before .before .is-given .ensures, ← c .before .before .before .before .before .before .bits-at .ensures, ← c .before .before .before .before .before .next-u64 .ensures, ← c .before .before .before .is-bits .ensures, ← c .before .before .is-bits2 .ensures, ← c .before .both .ensures, ← c .both2 .ensures)
 
 pub state-line-spec : {M : Type 1} → statement M

@@ -1,5 +1,5 @@
 -- `test_vectors::lines::vector_line` meets its contract. Assumes nothing.
-use Rattle.test_vectors.specs.Lines.{vectorLine}
+use Rattle.test_vectors.specs.Lines.{vectorLineOf}
 use borrow.Author.Needs.{needs}
 use Rattle.test_vectors.proofs.lines.vector_line.Statement.{statement}
 use Rattle.test_vectors.proofs.lines.vector_line.Tie as tie
@@ -38,7 +38,7 @@ both-requires-3 : tie.Need-both-requires-3
 both-requires-3 c κs = search needs
 
 returns : tie.Need-returns
-unfolding vectorLine
+unfolding vectorLineOf
 returns c = simp (← c .before .before .before .before .before .before .before .before .before .before .vec-at .ensures, ← c .before .before .before .before .before .before .before .before .before .vec-at2 .ensures, ← c .before .before .before .before .before .before .before .before .double-at .ensures, ← c .before .before .before .before .before .before .before .pair-agrees .ensures, ← c .before .before .before .before .before .before .one-agrees .ensures, ← c .before .before .before .before .before .both .ensures, ← c .before .before .before .before .is-given .ensures, ← c .before .before .before .at .ensures, ← c .before .before .is-vec .ensures, ← c .before .both2 .ensures, ← c .both3 .ensures)
 
 pub vector-line-spec : {M : Type 1} → statement M

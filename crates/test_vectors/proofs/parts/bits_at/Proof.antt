@@ -1,5 +1,5 @@
 -- `test_vectors::parts::bits_at` meets its contract. Assumes nothing.
-use Rattle.test_vectors.specs.Parts.{bitsAt}
+use Rattle.test_vectors.specs.Parts.{bitsAtOf}
 use borrow.Author.Needs.{needs}
 use Rattle.test_vectors.proofs.parts.bits_at.Statement.{statement}
 use Rattle.test_vectors.proofs.parts.bits_at.Tie as tie
@@ -17,11 +17,11 @@ enum-told : tie.Need-enum-told
 enum-told c = search needs
 
 returns : tie.Need-returns
-unfolding bitsAt
+unfolding bitsAtOf
 returns c = simp (← c .before .before .before .before .part .ensures, ← c .before .before .before .read-bits .ensures, c .before .a .given .1)
 
 returns-2 : tie.Need-returns-2
-unfolding bitsAt
+unfolding bitsAtOf
 returns-2 c = simp (← c .before .before .before .part .ensures, ← c .before .before .read-bits .ensures, c .enum-told .given .1)
 
 pub bits-at-spec : {M : Type 1} → statement M

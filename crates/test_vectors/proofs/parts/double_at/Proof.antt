@@ -1,5 +1,5 @@
 -- `test_vectors::parts::double_at` meets its contract. Assumes nothing.
-use Rattle.test_vectors.specs.Parts.{doubleAt}
+use Rattle.test_vectors.specs.Parts.{doubleAtOf}
 use borrow.Author.Needs.{needs}
 use Rattle.test_vectors.proofs.parts.double_at.Statement.{statement}
 use Rattle.test_vectors.proofs.parts.double_at.Tie as tie
@@ -11,7 +11,7 @@ from-bits-requires : tie.Need-from-bits-requires
 from-bits-requires c κs = search needs
 
 returns : tie.Need-returns
-unfolding doubleAt
+unfolding doubleAtOf
 returns c = simp (← c .before .bits-at .ensures, ← c .from-bits .ensures)
 
 pub double-at-spec : {M : Type 1} → statement M

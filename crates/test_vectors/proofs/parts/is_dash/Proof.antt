@@ -1,5 +1,5 @@
 -- `test_vectors::parts::is_dash` meets its contract. Assumes nothing.
-use Rattle.test_vectors.specs.Parts.{isDash}
+use Rattle.test_vectors.specs.Parts.{isDashOf}
 use borrow.Author.Needs.{needs}
 use Rattle.test_vectors.proofs.parts.is_dash.Statement.{statement}
 use Rattle.test_vectors.proofs.parts.is_dash.Tie as tie
@@ -11,7 +11,7 @@ is-byte-requires : tie.Need-is-byte-requires
 is-byte-requires c κs = search needs
 
 returns : tie.Need-returns
-unfolding isDash
+unfolding isDashOf
 returns c = simp (← c .before .part .ensures, ← c .is-byte .ensures)
 
 pub is-dash-spec : {M : Type 1} → statement M

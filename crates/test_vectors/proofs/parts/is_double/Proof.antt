@@ -1,5 +1,5 @@
 -- `test_vectors::parts::is_double` meets its contract. Assumes nothing.
-use Rattle.test_vectors.specs.Parts.{isDouble}
+use Rattle.test_vectors.specs.Parts.{isDoubleOf}
 use borrow.Author.Needs.{needs}
 use Rattle.test_vectors.proofs.parts.is_double.Statement.{statement}
 use Rattle.test_vectors.proofs.parts.is_double.Tie as tie
@@ -11,7 +11,7 @@ is-bits-requires : tie.Need-is-bits-requires
 is-bits-requires c κs = search needs
 
 returns : tie.Need-returns
-unfolding isDouble
+unfolding isDoubleOf
 returns c = simp (← c .before .to-bits .ensures, ← c .is-bits .ensures)
 
 pub is-double-spec : {M : Type 1} → statement M

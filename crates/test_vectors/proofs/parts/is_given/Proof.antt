@@ -1,5 +1,5 @@
 -- `test_vectors::parts::is_given` meets its contract. Assumes nothing.
-use Rattle.test_vectors.specs.Parts.{given}
+use Rattle.test_vectors.specs.Parts.{isGivenOf}
 use borrow.Author.Needs.{needs}
 use Rattle.test_vectors.proofs.parts.is_given.Statement.{statement}
 use Rattle.test_vectors.proofs.parts.is_given.Tie as tie
@@ -14,7 +14,7 @@ both-requires : tie.Need-both-requires
 both-requires c κs = search needs
 
 returns : tie.Need-returns
-unfolding given
+unfolding isGivenOf
 returns c = simp (← c .before .before .has-shape .ensures, ← c .before .are-bits .ensures, ← c .both .ensures)
 
 pub is-given-spec : {M : Type 1} → statement M

@@ -1,5 +1,5 @@
 -- `test_vectors::parts::is_vec` meets its contract. Assumes nothing.
-use Rattle.test_vectors.specs.Parts.{isVec}
+use Rattle.test_vectors.specs.Parts.{isVecOf}
 use borrow.Author.Needs.{needs}
 use Rattle.test_vectors.proofs.parts.is_vec.Statement.{statement}
 use Rattle.test_vectors.proofs.parts.is_vec.Tie as tie
@@ -26,7 +26,7 @@ both-requires-2 : tie.Need-both-requires-2
 both-requires-2 c κs = search needs
 
 returns : tie.Need-returns
-unfolding isVec
+unfolding isVecOf
 returns c = simp (← c .before .before .before .before .before .before .next .ensures, ← c .before .before .before .before .before .is-double .ensures, ← c .before .before .before .before .next2 .ensures, ← c .before .before .before .is-double2 .ensures, ← c .before .before .is-double3 .ensures, ← c .before .both .ensures, ← c .both2 .ensures)
 
 pub is-vec-spec : {M : Type 1} → statement M

@@ -1,5 +1,5 @@
 -- `test_vectors::parts::row_at` meets its contract. Assumes nothing.
-use Rattle.test_vectors.specs.Parts.{rowAt}
+use Rattle.test_vectors.specs.Parts.{rowAtOf}
 use borrow.Author.Needs.{needs}
 use Rattle.test_vectors.proofs.parts.row_at.Statement.{statement}
 use Rattle.test_vectors.proofs.parts.row_at.Tie as tie
@@ -26,7 +26,7 @@ double-at-requires-4 : tie.Need-double-at-requires-4
 double-at-requires-4 c κs = search needs
 
 returns : tie.Need-returns
-unfolding rowAt
+unfolding rowAtOf
 returns c = simp (← c .before .before .before .before .before .before .double-at .ensures, ← c .before .before .before .before .before .next .ensures, ← c .before .before .before .before .double-at2 .ensures, ← c .before .before .before .next2 .ensures, ← c .before .before .double-at3 .ensures, ← c .before .next3 .ensures, ← c .double-at4 .ensures)
 
 pub row-at-spec : {M : Type 1} → statement M

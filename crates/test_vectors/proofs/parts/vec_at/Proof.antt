@@ -1,5 +1,5 @@
 -- `test_vectors::parts::vec_at` meets its contract. Assumes nothing.
-use Rattle.test_vectors.specs.Parts.{vecAt}
+use Rattle.test_vectors.specs.Parts.{vecAtOf}
 use borrow.Author.Needs.{needs}
 use Rattle.test_vectors.proofs.parts.vec_at.Statement.{statement}
 use Rattle.test_vectors.proofs.parts.vec_at.Tie as tie
@@ -20,7 +20,7 @@ double-at-requires-3 : tie.Need-double-at-requires-3
 double-at-requires-3 c κs = search needs
 
 returns : tie.Need-returns
-unfolding vecAt
+unfolding vecAtOf
 returns c = simp (← c .before .before .before .before .double-at .ensures, ← c .before .before .before .next .ensures, ← c .before .before .double-at2 .ensures, ← c .before .next2 .ensures, ← c .double-at3 .ensures)
 
 pub vec-at-spec : {M : Type 1} → statement M

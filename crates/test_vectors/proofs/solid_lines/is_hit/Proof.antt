@@ -1,5 +1,5 @@
 -- `test_vectors::solid_lines::is_hit` meets its contract. Assumes nothing.
-use Rattle.test_vectors.specs.SceneLines.{isHit}
+use Rattle.test_vectors.specs.SceneLines.{isHitOf}
 use borrow.Author.Needs.{needs}
 use Rattle.test_vectors.proofs.solid_lines.is_hit.Statement.{statement}
 use Rattle.test_vectors.proofs.solid_lines.is_hit.Tie as tie
@@ -29,11 +29,11 @@ both-requires-2 : tie.Need-both-requires-2
 both-requires-2 c κs = search needs
 
 returns : tie.Need-returns
-unfolding isHit
+unfolding isHitOf
 returns c = simp (c .before .before .before .before .h .given .1, ← c .before .before .has-shape .ensures, ← c .before .is-hit-at .ensures, ← c .both .ensures)
 
 returns-2 : tie.Need-returns-2
-unfolding isHit
+unfolding isHitOf
 returns-2 c = simp (c .before .before .before .enum-told .given .1, ← c .before .before .has-shape2 .ensures, ← c .before .is-dash .ensures, ← c .both2 .ensures)
 
 pub is-hit-spec : {M : Type 1} → statement M

@@ -1,5 +1,5 @@
 -- `test_vectors::solid_lines::is_hit_at` meets its contract. Assumes nothing.
-use Rattle.test_vectors.specs.SceneLines.{isHitAt}
+use Rattle.test_vectors.specs.SceneLines.{isHitAtOf}
 use borrow.Author.Needs.{needs}
 use Rattle.test_vectors.proofs.solid_lines.is_hit_at.Statement.{statement}
 use Rattle.test_vectors.proofs.solid_lines.is_hit_at.Tie as tie
@@ -35,7 +35,7 @@ both-requires-4 : tie.Need-both-requires-4
 both-requires-4 c κs = search needs
 
 returns : tie.Need-returns
-unfolding isHitAt
+unfolding isHitAtOf
 returns c = simp (← c .before .before .before .before .before .before .before .before .before .is-double .ensures, ← c .before .before .before .before .before .before .before .before .is-vec .ensures, ← c .before .before .before .before .before .before .before .is-vec2 .ensures, ← c .before .before .before .before .before .before .is-vec3 .ensures, ← c .before .before .before .before .before .one-if .ensures, ← c .before .before .before .before .is-whole .ensures, ← c .before .before .before .both .ensures, ← c .before .before .both2 .ensures, ← c .before .both3 .ensures, ← c .both4 .ensures)
 
 pub is-hit-at-spec : {M : Type 1} → statement M

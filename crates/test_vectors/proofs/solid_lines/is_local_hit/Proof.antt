@@ -1,5 +1,5 @@
 -- `test_vectors::solid_lines::is_local_hit` meets its contract. Assumes nothing.
-use Rattle.test_vectors.specs.SceneLines.{isLocalHit}
+use Rattle.test_vectors.specs.SceneLines.{isLocalHitOf}
 use borrow.Author.Needs.{needs}
 use Rattle.test_vectors.proofs.solid_lines.is_local_hit.Statement.{statement}
 use Rattle.test_vectors.proofs.solid_lines.is_local_hit.Tie as tie
@@ -35,11 +35,11 @@ both-requires-3 : tie.Need-both-requires-3
 both-requires-3 c κs = search needs
 
 returns : tie.Need-returns
-unfolding isLocalHit
+unfolding isLocalHitOf
 returns c = simp (c .before .before .before .before .before .before .h .given .1, ← c .before .before .before .before .is-double .ensures, ← c .before .before .before .is-vec .ensures, ← c .before .before .both .ensures, ← c .before .has-shape .ensures, ← c .both2 .ensures)
 
 returns-2 : tie.Need-returns-2
-unfolding isLocalHit
+unfolding isLocalHitOf
 returns-2 c = simp (c .before .before .before .enum-told .given .1, ← c .before .before .has-shape2 .ensures, ← c .before .is-dash .ensures, ← c .both3 .ensures)
 
 pub is-local-hit-spec : {M : Type 1} → statement M

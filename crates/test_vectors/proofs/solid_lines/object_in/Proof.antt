@@ -1,5 +1,5 @@
 -- `test_vectors::solid_lines::object_in` meets its contract. Assumes nothing.
-use Rattle.test_vectors.specs.SceneLines.{objectIn}
+use Rattle.test_vectors.specs.SceneLines.{objectInOf}
 use borrow.Author.Needs.{needs}
 use Rattle.test_vectors.proofs.solid_lines.object_in.Statement.{statement}
 use Rattle.test_vectors.proofs.solid_lines.object_in.Tie as tie
@@ -17,7 +17,7 @@ is-whole-requires : tie.Need-is-whole-requires
 is-whole-requires c κs = search needs
 
 returns : tie.Need-returns
-unfolding objectIn
+unfolding objectInOf
 returns c = simp (← c .before .before .before .mat-at .ensures, ← c .before .before .mat-at2 .ensures, ← c .before .shape-in .ensures, ← c .is-whole .ensures)
 
 pub object-in-spec : {M : Type 1} → statement M

@@ -1,5 +1,5 @@
 -- `test_vectors::solid_lines::ray_in` meets its contract. Assumes nothing.
-use Rattle.test_vectors.specs.SceneLines.{rayIn}
+use Rattle.test_vectors.specs.SceneLines.{rayInOf}
 use borrow.Author.Needs.{needs}
 use Rattle.test_vectors.proofs.solid_lines.ray_in.Statement.{statement}
 use Rattle.test_vectors.proofs.solid_lines.ray_in.Tie as tie
@@ -17,7 +17,7 @@ double-at-requires-2 : tie.Need-double-at-requires-2
 double-at-requires-2 c κs = search needs
 
 returns : tie.Need-returns
-unfolding rayIn
+unfolding rayInOf
 returns c = simp (← c .before .before .before .vec-at .ensures, ← c .before .before .vec-at2 .ensures, ← c .before .double-at .ensures, ← c .double-at2 .ensures)
 
 pub ray-in-spec : {M : Type 1} → statement M

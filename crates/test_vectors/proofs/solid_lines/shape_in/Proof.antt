@@ -1,5 +1,5 @@
 -- `test_vectors::solid_lines::shape_in` meets its contract. Assumes nothing.
-use Rattle.test_vectors.specs.SceneLines.{shapeIn}
+use Rattle.test_vectors.specs.SceneLines.{shapeInOf}
 use borrow.Author.Needs.{needs}
 use Rattle.test_vectors.proofs.solid_lines.shape_in.Statement.{statement}
 use Rattle.test_vectors.proofs.solid_lines.shape_in.Tie as tie
@@ -11,7 +11,7 @@ numbered-requires : tie.Need-numbered-requires
 numbered-requires c κs = search needs
 
 returns : tie.Need-returns
-unfolding shapeIn
+unfolding shapeInOf
 returns c = simp (← c .before .vec-at .ensures, ← c .numbered .ensures)
 
 pub shape-in-spec : {M : Type 1} → statement M

@@ -1,6 +1,6 @@
 -- `test_vectors::solid_lines::shape_line` meets its contract. Assumes nothing.
 use borrow.Author.Tests.{lt-ltb, le-ltb}
-use Rattle.test_vectors.specs.SceneLines.{shapeLine, shapeNumbered}
+use Rattle.test_vectors.specs.SceneLines.{shapeLineOf, shapeNumbered}
 use borrow.Author.Needs.{needs}
 use Rattle.test_vectors.proofs.solid_lines.shape_line.Statement.{statement}
 use Rattle.test_vectors.proofs.solid_lines.shape_line.Tie as tie
@@ -15,7 +15,7 @@ enum-known-number : tie.Need-enum-known-number
 enum-known-number c = search needs
 
 returns : tie.Need-returns
-unfolding shapeLine shapeNumbered
+unfolding shapeLineOf shapeNumbered
 returns c = simp (← c .before .before .before .before .before .part .ensures, ← c .before .before .before .before .read-whole .ensures, c .before .before .number .given .1, lt-ltb _ _ (c .if1 .taken))
 
 vec-at-requires : tie.Need-vec-at-requires
@@ -43,11 +43,11 @@ enum-told : tie.Need-enum-told
 enum-told c = search needs
 
 returns-2 : tie.Need-returns-2
-unfolding shapeLine shapeNumbered
+unfolding shapeLineOf shapeNumbered
 returns-2 c = simp (← c .before .before .before .before .before .before .before .before .before .before .before .before .part .ensures, ← c .before .before .before .before .before .before .before .before .before .before .before .read-whole .ensures, c .before .before .before .before .before .before .before .before .before .number .given .1, le-ltb _ _ (c .before .before .before .before .before .before .before .if1 .left), ← c .before .before .before .before .before .before .vec-at .ensures, ← c .before .before .before .before .before .vec-at2 .ensures, ← c .before .before .before .before .shape-in .ensures, ← c .before .before .before .intersect-local .ensures, ← c .before .before .are-bits .ensures, ← c .before .is-local-hit .ensures, ← c .both .ensures)
 
 returns-3 : tie.Need-returns-3
-unfolding shapeLine shapeNumbered
+unfolding shapeLineOf shapeNumbered
 returns-3 c = simp (← c .before .before .before .part .ensures, ← c .before .before .read-whole .ensures, c .enum-told .given .1)
 
 pub shape-line-spec : {M : Type 1} → statement M

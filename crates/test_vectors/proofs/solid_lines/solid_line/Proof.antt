@@ -1,6 +1,6 @@
 -- `test_vectors::solid_lines::solid_line` meets its contract. Assumes nothing.
 use borrow.Author.Tests.{lt-ltb, le-ltb}
-use Rattle.test_vectors.specs.SceneLines.{solidLine, solidNumbered}
+use Rattle.test_vectors.specs.SceneLines.{solidLineOf, solidNumbered}
 use borrow.Author.Needs.{needs}
 use Rattle.test_vectors.proofs.solid_lines.solid_line.Statement.{statement}
 use Rattle.test_vectors.proofs.solid_lines.solid_line.Tie as tie
@@ -15,7 +15,7 @@ enum-known-number : tie.Need-enum-known-number
 enum-known-number c = search needs
 
 returns : tie.Need-returns
-unfolding solidLine solidNumbered
+unfolding solidLineOf solidNumbered
 returns c = simp (← c .before .before .before .before .before .part .ensures, ← c .before .before .before .before .read-whole .ensures, c .before .before .number .given .1, lt-ltb _ _ (c .if1 .taken))
 
 object-in-requires : tie.Need-object-in-requires
@@ -49,11 +49,11 @@ enum-told : tie.Need-enum-told
 enum-told c = search needs
 
 returns-2 : tie.Need-returns-2
-unfolding solidLine solidNumbered
+unfolding solidLineOf solidNumbered
 returns-2 c = simp (← c .before .before .before .before .before .before .before .before .before .before .before .before .before .before .part .ensures, ← c .before .before .before .before .before .before .before .before .before .before .before .before .before .read-whole .ensures, c .before .before .before .before .before .before .before .before .before .before .before .number .given .1, le-ltb _ _ (c .before .before .before .before .before .before .before .before .before .if1 .left), ← c .before .before .before .before .before .before .before .before .object-in .ensures, ← c .before .before .before .before .before .before .before .one-if .ensures, ← c .before .before .before .before .before .before .is-whole .ensures, ← c .before .before .before .before .before .are-bits .ensures, ← c .before .before .before .before .both .ensures, ← c .before .before .before .ray-in .ensures, ← c .before .before .intersect .ensures, ← c .before .is-hit .ensures, ← c .both2 .ensures)
 
 returns-3 : tie.Need-returns-3
-unfolding solidLine solidNumbered
+unfolding solidLineOf solidNumbered
 returns-3 c = simp (← c .before .before .before .part .ensures, ← c .before .before .read-whole .ensures, c .enum-told .given .1)
 
 pub solid-line-spec : {M : Type 1} → statement M

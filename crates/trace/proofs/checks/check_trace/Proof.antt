@@ -1,5 +1,5 @@
 -- `trace::checks::check_trace` meets its contract. Assumes nothing.
-use Rattle.trace.specs.Trace.{checkAllOf}
+use Rattle.trace.specs.Trace.{checkTraceOf}
 use borrow.Author.Needs.{needs}
 use Rattle.trace.proofs.checks.check_trace.Statement.{statement}
 use Rattle.trace.proofs.checks.check_trace.Tie as tie
@@ -35,19 +35,19 @@ enum-known-error-3 : tie.Need-enum-known-error-3
 enum-known-error-3 c = search needs
 
 returns : tie.Need-returns
-unfolding checkAllOf
+unfolding checkTraceOf
 returns c = simp (← c .before .before .before .before .before .before .before .before .before .check-flat .ensures, c .before .before .before .before .before .before .before .enum-told .given .1, ← c .before .before .before .before .before .before .check-rules .ensures, c .before .before .before .before .enum-told2 .given .1, ← c .before .before .before .check-memory .ensures, c .before .enum-told3 .given .1, ← c .check-rays .ensures)
 
 returns-2 : tie.Need-returns-2
-unfolding checkAllOf
+unfolding checkTraceOf
 returns-2 c = simp (← c .before .before .before .before .before .before .before .before .before .check-flat .ensures, c .before .before .before .before .before .before .before .enum-told .given .1, ← c .before .before .before .before .before .before .check-rules .ensures, c .before .before .before .before .enum-told2 .given .1, ← c .before .before .before .check-memory .ensures, c .before .error .given .1)
 
 returns-3 : tie.Need-returns-3
-unfolding checkAllOf
+unfolding checkTraceOf
 returns-3 c = simp (← c .before .before .before .before .before .before .check-flat .ensures, c .before .before .before .before .enum-told .given .1, ← c .before .before .before .check-rules .ensures, c .before .error2 .given .1)
 
 returns-4 : tie.Need-returns-4
-unfolding checkAllOf
+unfolding checkTraceOf
 returns-4 c = simp (← c .before .before .before .check-flat .ensures, c .before .error3 .given .1)
 
 pub check-trace-spec : {M : Type 1} → statement M

@@ -1,5 +1,5 @@
 -- `detector::face::Face::intersect_ray` meets its contract. Assumes nothing.
-use Rattle.detector.specs.Faces.{crossingOf}
+use Rattle.detector.specs.Faces.{faceIntersectRayOf}
 use borrow.Author.Needs.{needs}
 use Rattle.detector.proofs.face.Face.intersect_ray.Statement.{statement}
 use Rattle.detector.proofs.face.Face.intersect_ray.Tie as tie
@@ -11,7 +11,7 @@ is-under-requires : tie.Need-is-under-requires
 is-under-requires c κs = search needs
 
 returns : tie.Need-returns
-unfolding crossingOf
+unfolding faceIntersectRayOf
 returns c = simp (← c .before .before .dot .ensures, ← c .before .is-under .ensures, c .if1 .taken)
 
 minus-requires : tie.Need-minus-requires
@@ -21,14 +21,14 @@ dot-requires-2 : tie.Need-dot-requires-2
 dot-requires-2 c κs = search needs
 
 returns-2 : tie.Need-returns-2
-unfolding crossingOf
+unfolding faceIntersectRayOf
 returns-2 c = simp (← c .before .before .before .before .before .dot .ensures, ← c .before .before .before .before .is-under .ensures, c .before .before .before .if1 .left, ← c .before .before .minus .ensures, ← c .before .dot2 .ensures, c .if2 .taken)
 
 across-requires : tie.Need-across-requires
 across-requires c κs = search needs
 
 returns-3 : tie.Need-returns-3
-unfolding crossingOf
+unfolding faceIntersectRayOf
 returns-3 c = simp (← c .before .before .before .before .before .before .dot .ensures, ← c .before .before .before .before .before .is-under .ensures, c .before .before .before .before .if1 .left, ← c .before .before .before .minus .ensures, ← c .before .before .dot2 .ensures, c .before .if2 .left, ← c .across .ensures)
 
 pub intersect-ray-spec : {M : Type 1} → statement M

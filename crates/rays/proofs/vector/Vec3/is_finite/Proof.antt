@@ -1,11 +1,11 @@
 -- `rays::vector::Vec3::is_finite` meets its contract. Assumes nothing.
-use Rattle.rays.specs.Vectors.{finiteVecOf}
+use Rattle.rays.specs.Vectors.{isFiniteVecOf}
 use Rattle.rays.proofs.Finite.{all-finite}
 use Rattle.rays.proofs.vector.Vec3.is_finite.Statement.{statement}
 use Rattle.rays.proofs.vector.Vec3.is_finite.Tie as tie
 
 returns : tie.Need-returns
-unfolding finiteVecOf
+unfolding isFiniteVecOf
 returns c = all-finite _ _ _
 
 pub is-finite-spec : {M : Type 1} → statement M

@@ -1,5 +1,5 @@
 -- `report::ledger::Ledger::after` meets its contract. Assumes nothing.
-use Rattle.report.specs.Report.{ledgerAfter}
+use Rattle.report.specs.Report.{ledgerAfterOf}
 use borrow.Author.Needs.{needs}
 use Rattle.report.proofs.ledger.Ledger.after.Statement.{statement}
 use Rattle.report.proofs.ledger.Ledger.after.Tie as tie
@@ -47,31 +47,31 @@ enum-told-5 : tie.Need-enum-told-5
 enum-told-5 c = search needs
 
 returns : tie.Need-returns
-unfolding ledgerAfter
+unfolding ledgerAfterOf
 returns c = simp (c .before .enum-told .given .1, ← c .absorb .ensures)
 
 returns-2 : tie.Need-returns-2
-unfolding ledgerAfter
+unfolding ledgerAfterOf
 returns-2 c = simp (c .before .enum-told2 .given .1, ← c .absorb2 .ensures)
 
 returns-3 : tie.Need-returns-3
-unfolding ledgerAfter
+unfolding ledgerAfterOf
 returns-3 c = simp (c .before .enum-told3 .given .1, ← c .escape .ensures)
 
 returns-4 : tie.Need-returns-4
-unfolding ledgerAfter
+unfolding ledgerAfterOf
 returns-4 c = simp (c .before .enum-told4 .given .1, ← c .detect .ensures)
 
 returns-5 : tie.Need-returns-5
-unfolding ledgerAfter
+unfolding ledgerAfterOf
 returns-5 c = simp (c .before .before .fate .given .1, ← c .absorb3 .ensures)
 
 returns-6 : tie.Need-returns-6
-unfolding ledgerAfter
+unfolding ledgerAfterOf
 returns-6 c = simp (c .before .before .before .fate2 .given .1, ← c .before .unless-made .ensures, ← c .unless-made2 .ensures)
 
 returns-7 : tie.Need-returns-7
-unfolding ledgerAfter
+unfolding ledgerAfterOf
 returns-7 c = simp (c .enum-told5 .given .1)
 
 pub after-spec : {M : Type 1} → statement M

@@ -1,5 +1,5 @@
 -- `report::tallies::Tallies::add_caught` meets its contract. Assumes nothing.
-use Rattle.report.specs.Report.{catching}
+use Rattle.report.specs.Report.{addCaughtOf}
 use borrow.Author.Needs.{needs}
 use Rattle.report.proofs.tallies.Tallies.add_caught.Statement.{statement}
 use Rattle.report.proofs.tallies.Tallies.add_caught.Tie as tie
@@ -8,7 +8,7 @@ more-requires : tie.Need-more-requires
 more-requires c κs = search needs
 
 returns : tie.Need-returns
-unfolding catching
+unfolding addCaughtOf
 returns c = simp (← c .more .ensures)
 
 pub add-caught-spec : {M : Type 1} → statement M

@@ -1,5 +1,5 @@
 -- `report::tallies::Tallies::add_gone` meets its contract. Assumes nothing.
-use Rattle.report.specs.Report.{going}
+use Rattle.report.specs.Report.{addGoneOf}
 use borrow.Author.Needs.{needs}
 use Rattle.report.proofs.tallies.Tallies.add_gone.Statement.{statement}
 use Rattle.report.proofs.tallies.Tallies.add_gone.Tie as tie
@@ -8,7 +8,7 @@ more-requires : tie.Need-more-requires
 more-requires c κs = search needs
 
 returns : tie.Need-returns
-unfolding going
+unfolding addGoneOf
 returns c = simp (← c .more .ensures)
 
 pub add-gone-spec : {M : Type 1} → statement M

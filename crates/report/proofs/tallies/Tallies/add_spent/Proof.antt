@@ -1,5 +1,5 @@
 -- `report::tallies::Tallies::add_spent` meets its contract. Assumes nothing.
-use Rattle.report.specs.Report.{spending}
+use Rattle.report.specs.Report.{addSpentOf}
 use borrow.Author.Needs.{needs}
 use Rattle.report.proofs.tallies.Tallies.add_spent.Statement.{statement}
 use Rattle.report.proofs.tallies.Tallies.add_spent.Tie as tie
@@ -8,7 +8,7 @@ more-requires : tie.Need-more-requires
 more-requires c κs = search needs
 
 returns : tie.Need-returns
-unfolding spending
+unfolding addSpentOf
 returns c = simp (← c .more .ensures)
 
 pub add-spent-spec : {M : Type 1} → statement M

@@ -1,5 +1,5 @@
 -- `report::tallies::Tallies::add_surface` meets its contract. Assumes nothing.
-use Rattle.report.specs.Report.{surfacing}
+use Rattle.report.specs.Report.{addSurfaceOf}
 use borrow.Author.Needs.{needs}
 use Rattle.report.proofs.tallies.Tallies.add_surface.Statement.{statement}
 use Rattle.report.proofs.tallies.Tallies.add_surface.Tie as tie
@@ -20,7 +20,7 @@ more-if-requires-4 : tie.Need-more-if-requires-4
 more-if-requires-4 c κs = search needs
 
 returns : tie.Need-returns
-unfolding surfacing
+unfolding addSurfaceOf
 returns c = simp (← c .before .before .before .before .more-if .ensures, ← c .before .before .before .more-if2 .ensures, ← c .before .before .more .ensures, ← c .before .more-if3 .ensures, ← c .more-if4 .ensures)
 
 pub add-surface-spec : {M : Type 1} → statement M

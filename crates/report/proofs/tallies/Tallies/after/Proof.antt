@@ -1,5 +1,5 @@
 -- `report::tallies::Tallies::after` meets its contract. Assumes nothing.
-use Rattle.report.specs.Report.{talliesAfter}
+use Rattle.report.specs.Report.{talliesAfterOf}
 use borrow.Author.Needs.{needs}
 use Rattle.report.proofs.tallies.Tallies.after.Statement.{statement}
 use Rattle.report.proofs.tallies.Tallies.after.Tie as tie
@@ -50,31 +50,31 @@ enum-told-6 : tie.Need-enum-told-6
 enum-told-6 c = search needs
 
 returns : tie.Need-returns
-unfolding talliesAfter
+unfolding talliesAfterOf
 returns c = simp (c .before .enum-told .given .1, ← c .add-dim .ensures)
 
 returns-2 : tie.Need-returns-2
-unfolding talliesAfter
+unfolding talliesAfterOf
 returns-2 c = simp (c .before .enum-told2 .given .1, ← c .add-spent .ensures)
 
 returns-3 : tie.Need-returns-3
-unfolding talliesAfter
+unfolding talliesAfterOf
 returns-3 c = simp (c .before .enum-told3 .given .1, ← c .add-gone .ensures)
 
 returns-4 : tie.Need-returns-4
-unfolding talliesAfter
+unfolding talliesAfterOf
 returns-4 c = simp (c .before .enum-told4 .given .1, ← c .add-caught .ensures)
 
 returns-5 : tie.Need-returns-5
-unfolding talliesAfter
+unfolding talliesAfterOf
 returns-5 c = simp (c .before .enum-told5 .given .1, ← c .add-surface .ensures)
 
 returns-6 : tie.Need-returns-6
-unfolding talliesAfter
+unfolding talliesAfterOf
 returns-6 c = simp (c .before .before .before .before .fate .given .1, ← c .before .before .opposite .ensures, ← c .before .faint .ensures, ← c .add-surface2 .ensures)
 
 returns-7 : tie.Need-returns-7
-unfolding talliesAfter
+unfolding talliesAfterOf
 returns-7 c = simp (c .enum-told6 .given .1)
 
 pub after-spec : {M : Type 1} → statement M
