@@ -138,7 +138,7 @@ module _ (ds : Detectors) (d : ℕ) (f : RayPathFilter) (stored work : List Floa
 pub held-part : (m : Held) (f : RayPathFilter) (d : ℕ) → PartOrNone (m .detectors) d (length (m .flux)) (length (shownOf m f d .map))
 unfolding shownOf filteredPixelFluxOf checkFilterOf
 held-part m f d =
-    found-part (m .detectors) d f (m .flux) (take (gridAtOf (m .detectors) d .pixels) (replicate maxPixels #0)) (hitsFrom (m .values) (m .tags) (m .used) 0) (length (m .values)) (length (m .tags)) (m .used)
+    found-part (m .detectors) d f (m .flux) (take (gridAtOf (m .detectors) d .pixels) (replicate maxPixels #0)) (hitsFrom (m .hitValues) (m .hitTags) (m .used) 0) (length (m .hitValues)) (length (m .hitTags)) (m .used)
     (findOf (m .detectors) (record { 0 = d })) refl
 
 map-short : (m : Held) (f : RayPathFilter) (d : ℕ) → d < 10 → length (shownOf m f d .map) ≤ 10000 → length (mapText m f d) ≤ length (shownOf m f d .map) * 29

@@ -26,11 +26,11 @@ module _ (m : Held) (f : RayPathFilter) (d : ℕ) (g : Grid) (e : g ≡ gridAtOf
   abbrev work : List Float
   work = take (g .pixels) (replicate maxPixels #0)
 
-  handed-is : filteredPixelFluxOf (m .detectors) (record { 0 = d }) f (m .flux) work (m .values) (m .tags) (m .used) ≡ shownOf m f d
+  handed-is : filteredPixelFluxOf (m .detectors) (record { 0 = d }) f (m .flux) work (m .hitValues) (m .hitTags) (m .used) ≡ shownOf m f d
   unfolding shownOf
-  handed-is = ap (λ (x : Grid). filteredPixelFluxOf (m .detectors) (record { 0 = d }) f (m .flux) (take (x .pixels) (replicate maxPixels #0)) (m .values) (m .tags) (m .used)) e
+  handed-is = ap (λ (x : Grid). filteredPixelFluxOf (m .detectors) (record { 0 = d }) f (m .flux) (take (x .pixels) (replicate maxPixels #0)) (m .hitValues) (m .hitTags) (m .used)) e
 
-  module _ (r : Filtered) (l : List Float) (h : asHanded r l ≡ refilterOf (m .detectors) (record { 0 = d }) f (m .flux) work (m .values) (m .tags) (m .used)) where
+  module _ (r : Filtered) (l : List Float) (h : asHanded r l ≡ refilterOf (m .detectors) (record { 0 = d }) f (m .flux) work (m .hitValues) (m .hitTags) (m .used)) where
     pub total-shown : r .«total_flux_watts» ≡ shownOf m f d .total
     unfolding filteredPixelFluxOf filteredPlaced refilterOf
     total-shown = ap (λ (x : Handed). x .total) h ∙ ap (λ (x : Handed). x .total) handed-is
@@ -43,9 +43,9 @@ module _ (m : Held) (f : RayPathFilter) (d : ℕ) (g : Grid) (e : g ≡ gridAtOf
   unfolding mapText putAll
   map-none b p z = rw (← e, eq-eqb (g .columns) 0 z)
 
-  pub map-some : (b : List ℕ) (p : ℕ) (w : Out) (n : Numbered) → (g .columns ≡ 0 → ⊥) → n ≡ inNumbers (filteredPixelFluxOf (m .detectors) (record { 0 = d }) f (m .flux) work (m .values) (m .tags) (m .used))
+  pub map-some : (b : List ℕ) (p : ℕ) (w : Out) (n : Numbered) → (g .columns ≡ 0 → ⊥) → n ≡ inNumbers (filteredPixelFluxOf (m .detectors) (record { 0 = d }) f (m .flux) work (m .hitValues) (m .hitTags) (m .used))
       → w ≡ putAll b p (pixelsFrom d (g .columns) 0 (n .part)) → w ≡ putAll b p (mapText m f d)
   unfolding mapText
   map-some b p w n z q v =
-      let k : n .part ≡ shownOf m f d .map = ap (λ (x : Numbered). x .part) q ∙ same-part (filteredPixelFluxOf (m .detectors) (record { 0 = d }) f (m .flux) work (m .values) (m .tags) (m .used)) ∙ ap (λ (x : Handed). x .map) handed-is in
+      let k : n .part ≡ shownOf m f d .map = ap (λ (x : Numbered). x .part) q ∙ same-part (filteredPixelFluxOf (m .detectors) (record { 0 = d }) f (m .flux) work (m .hitValues) (m .hitTags) (m .used)) ∙ ap (λ (x : Handed). x .map) handed-is in
       rw (← e, ne-eqb (g .columns) 0 z) (rw k at v)

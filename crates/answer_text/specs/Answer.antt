@@ -47,12 +47,12 @@ talliesText t =
 pub record Held : Type 0 where
   pub detectors : Detectors
   pub flux : List Float
-  pub values : List Float
-  pub tags : List ℕ
+  pub hitValues : List Float
+  pub hitTags : List ℕ
   pub used : ℕ
 
 abbrev pub held : Detectors → List Float → List Float → List ℕ → ℕ → Held
-held ds f v t n = record { detectors = ds; flux = f; values = v; tags = t; used = n }
+held ds f v t n = record { detectors = ds; flux = f; hitValues = v; hitTags = t; used = n }
 
 -- the most pixels for which there is room
 abbrev pub maxPixels : ℕ
@@ -73,7 +73,7 @@ gridAtOf ds d = gridFrom (atOf ds (record { 0 = d }))
 -- what a filter hands back of detector d: map, total and count
 unfoldable pub shownOf : Held → RayPathFilter → ℕ → Handed
 shownOf m f d =
-    filteredPixelFluxOf (m .detectors) (record { 0 = d }) f (m .flux) (take (gridAtOf (m .detectors) d .pixels) (replicate maxPixels #0)) (m .values) (m .tags) (m .used)
+    filteredPixelFluxOf (m .detectors) (record { 0 = d }) f (m .flux) (take (gridAtOf (m .detectors) d .pixels) (replicate maxPixels #0)) (m .hitValues) (m .hitTags) (m .used)
 
 -- hits and flux are under the filter, signal and stray are always the full counts
 unfoldable pub detectorText : Held → RayPathFilter → ℕ → List ℕ

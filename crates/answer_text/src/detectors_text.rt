@@ -7,7 +7,7 @@ ghost use Rattle.printing.specs.Printing.{out, putAll};
 ghost use Rattle.answer_text.specs.Answer.{held, detectorText, mapText, eachFrom, detectorCountOf};
 
 // A count that is refused (3) is no count.
-fn count_of(count: u32) -> u32
+fn detector_count(count: u32) -> u32
     ensures { λ r. ⌜ r ≡ detectorCountOf count ⌝ }
 {
     if count <= Detectors::MAX {
@@ -22,18 +22,28 @@ pub(crate) fn put_detectors(
     detectors: Detectors,
     filter: RayPathFilter,
     flux: &[f64],
-    values: &[f64],
-    tags: &[u32],
+    hit_values: &[f64],
+    hit_tags: &[u32],
     used: usize,
 ) -> usize
     ensures { λ r. ⌜ out (now (buf .exit)) r ≡ putAll (now (buf .entry)) at
-        (eachFrom (detectorText (held detectors (now (flux .entry)) (now (values .entry)) (now (tags .entry)) used) filter) (detectorCountOf (detectors .count)) 0) ⌝ }
+        (eachFrom (detectorText (held detectors (now (flux .entry)) (now («hit_values» .entry)) (now («hit_tags» .entry)) used) filter) (detectorCountOf (detectors .count)) 0) ⌝ }
 {
-    let n = count_of(detectors.count);
+    let n = detector_count(detectors.count);
     let mut p = at;
     let mut d: u32 = 0;
     while d < n {
-        p = maps::put_detector(buf, p, detectors, d, filter, flux, values, tags, used);
+        p = maps::put_detector(
+            buf,
+            p,
+            detectors,
+            d,
+            filter,
+            flux,
+            hit_values,
+            hit_tags,
+            used,
+        );
         d += 1;
     }
     p
@@ -45,18 +55,28 @@ pub(crate) fn put_maps(
     detectors: Detectors,
     filter: RayPathFilter,
     flux: &[f64],
-    values: &[f64],
-    tags: &[u32],
+    hit_values: &[f64],
+    hit_tags: &[u32],
     used: usize,
 ) -> usize
     ensures { λ r. ⌜ out (now (buf .exit)) r ≡ putAll (now (buf .entry)) at
-        (eachFrom (mapText (held detectors (now (flux .entry)) (now (values .entry)) (now (tags .entry)) used) filter) (detectorCountOf (detectors .count)) 0) ⌝ }
+        (eachFrom (mapText (held detectors (now (flux .entry)) (now («hit_values» .entry)) (now («hit_tags» .entry)) used) filter) (detectorCountOf (detectors .count)) 0) ⌝ }
 {
-    let n = count_of(detectors.count);
+    let n = detector_count(detectors.count);
     let mut p = at;
     let mut d: u32 = 0;
     while d < n {
-        p = maps::put_map(buf, p, detectors, d, filter, flux, values, tags, used);
+        p = maps::put_map(
+            buf,
+            p,
+            detectors,
+            d,
+            filter,
+            flux,
+            hit_values,
+            hit_tags,
+            used,
+        );
         d += 1;
     }
     p

@@ -74,15 +74,15 @@ fn put_detectors(
     detectors: Detectors,
     filter: RayPathFilter,
     flux: &[f64],
-    values: &[f64],
-    tags: &[u32],
+    hit_values: &[f64],
+    hit_tags: &[u32],
     used: usize,
 ) -> usize
     ensures { λ r. ⌜ out (now (buf .exit)) r ≡ putAll (now (buf .entry)) at
-        (detectorsText filter (held detectors (now (flux .entry)) (now (values .entry)) (now (tags .entry)) used)) ⌝ }
+        (detectorsText filter (held detectors (now (flux .entry)) (now («hit_values» .entry)) (now («hit_tags» .entry)) used)) ⌝ }
 {
     let p = printing::put_all(buf, at, b"detector hits signal stray flux\n");
-    detectors_text::put_detectors(buf, p, detectors, filter, flux, values, tags, used)
+    detectors_text::put_detectors(buf, p, detectors, filter, flux, hit_values, hit_tags, used)
 }
 
 fn put_maps(
@@ -91,15 +91,15 @@ fn put_maps(
     detectors: Detectors,
     filter: RayPathFilter,
     flux: &[f64],
-    values: &[f64],
-    tags: &[u32],
+    hit_values: &[f64],
+    hit_tags: &[u32],
     used: usize,
 ) -> usize
     ensures { λ r. ⌜ out (now (buf .exit)) r ≡ putAll (now (buf .entry)) at
-        (mapsText filter (held detectors (now (flux .entry)) (now (values .entry)) (now (tags .entry)) used)) ⌝ }
+        (mapsText filter (held detectors (now (flux .entry)) (now («hit_values» .entry)) (now («hit_tags» .entry)) used)) ⌝ }
 {
     let p = printing::put_all(buf, at, b"detector px py flux\n");
-    detectors_text::put_maps(buf, p, detectors, filter, flux, values, tags, used)
+    detectors_text::put_maps(buf, p, detectors, filter, flux, hit_values, hit_tags, used)
 }
 
 // The whole answer. `flux` is the stored map, `values` and `tags` the hit list.
@@ -110,16 +110,16 @@ pub fn put_answer(
     detectors: Detectors,
     filter: RayPathFilter,
     flux: &[f64],
-    values: &[f64],
-    tags: &[u32],
+    hit_values: &[f64],
+    hit_tags: &[u32],
     used: usize,
 ) -> usize
     ensures { λ r. ⌜ out (now (buf .exit)) r ≡ putAll (now (buf .entry)) at
-        (answerText report filter (held detectors (now (flux .entry)) (now (values .entry)) (now (tags .entry)) used)) ⌝ }
+        (answerText report filter (held detectors (now (flux .entry)) (now («hit_values» .entry)) (now («hit_tags» .entry)) used)) ⌝ }
 {
     let tallies = report.tallies;
     let p = put_ledger(buf, at, report);
     let q = put_tallies(buf, p, tallies);
-    let s = put_detectors(buf, q, detectors, filter, flux, values, tags, used);
-    put_maps(buf, s, detectors, filter, flux, values, tags, used)
+    let s = put_detectors(buf, q, detectors, filter, flux, hit_values, hit_tags, used);
+    put_maps(buf, s, detectors, filter, flux, hit_values, hit_tags, used)
 }

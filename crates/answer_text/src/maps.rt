@@ -3,8 +3,8 @@ use crate::pixels;
 use detector::DetectorNo;
 use detectors::Detectors;
 use detectors::Spot;
-use filter::RayPathFilter;
 use filter::Filtered;
+use filter::RayPathFilter;
 ghost use mathlib.Core.Path.{_≡_};
 ghost use Prim.Native.Nat.{_≤_};
 ghost use Rattle.printing.specs.Printing.{out, putAll};
@@ -50,12 +50,12 @@ fn shown(
     d: u32,
     filter: RayPathFilter,
     flux: &[f64],
-    values: &[f64],
-    tags: &[u32],
+    hit_values: &[f64],
+    hit_tags: &[u32],
     used: usize,
 ) -> Filtered
-    ensures { λ r. ⌜ (r .«total_flux_watts» ≡ shownOf (held detectors (now (flux .entry)) (now (values .entry)) (now (tags .entry)) used) filter d .total)
-        × (r .«hit_count» ≡ shownOf (held detectors (now (flux .entry)) (now (values .entry)) (now (tags .entry)) used) filter d .count) ⌝ }
+    ensures { λ r. ⌜ (r .«total_flux_watts» ≡ shownOf (held detectors (now (flux .entry)) (now («hit_values» .entry)) (now («hit_tags» .entry)) used) filter d .total)
+        × (r .«hit_count» ≡ shownOf (held detectors (now (flux .entry)) (now («hit_values» .entry)) (now («hit_tags» .entry)) used) filter d .count) ⌝ }
 {
     let g = grid_at(detectors, d);
     let n = g.pixels;
@@ -66,8 +66,8 @@ fn shown(
         filter,
         flux,
         &mut work[..n],
-        values,
-        tags,
+        hit_values,
+        hit_tags,
         used,
     )
 }
@@ -80,21 +80,21 @@ pub(crate) fn put_detector(
     d: u32,
     filter: RayPathFilter,
     flux: &[f64],
-    values: &[f64],
-    tags: &[u32],
+    hit_values: &[f64],
+    hit_tags: &[u32],
     used: usize,
 ) -> usize
     ensures { λ r. ⌜ out (now (buf .exit)) r ≡ putAll (now (buf .entry)) at
-        (detectorText (held detectors (now (flux .entry)) (now (values .entry)) (now (tags .entry)) used) filter d) ⌝ }
+        (detectorText (held detectors (now (flux .entry)) (now («hit_values» .entry)) (now («hit_tags» .entry)) used) filter d) ⌝ }
 {
-    let a = shown(detectors, d, filter, flux, values, tags, used);
+    let a = shown(detectors, d, filter, flux, hit_values, hit_tags, used);
     let s = shown(
         detectors,
         d,
         RayPathFilter::SignalOnly,
         flux,
-        values,
-        tags,
+        hit_values,
+        hit_tags,
         used,
     );
     let t = shown(
@@ -102,8 +102,8 @@ pub(crate) fn put_detector(
         d,
         RayPathFilter::StrayLight,
         flux,
-        values,
-        tags,
+        hit_values,
+        hit_tags,
         used,
     );
     let wholes = [
@@ -124,12 +124,12 @@ pub(crate) fn put_map(
     d: u32,
     filter: RayPathFilter,
     flux: &[f64],
-    values: &[f64],
-    tags: &[u32],
+    hit_values: &[f64],
+    hit_tags: &[u32],
     used: usize,
 ) -> usize
     ensures { λ r. ⌜ out (now (buf .exit)) r ≡ putAll (now (buf .entry)) at
-        (mapText (held detectors (now (flux .entry)) (now (values .entry)) (now (tags .entry)) used) filter d) ⌝ }
+        (mapText (held detectors (now (flux .entry)) (now («hit_values» .entry)) (now («hit_tags» .entry)) used) filter d) ⌝ }
 {
     let g = grid_at(detectors, d);
     let n = g.pixels;
@@ -145,8 +145,8 @@ pub(crate) fn put_map(
         filter,
         flux,
         &mut work[..n],
-        values,
-        tags,
+        hit_values,
+        hit_tags,
         used,
         &mut refusal,
         &mut place,

@@ -123,8 +123,8 @@ fn bench_hit(h: Intersection) -> BenchHit
 // The nearest solid along the ray from (ox, oy, oz) along (dx, dy, dz).
 #[no_mangle]
 pub extern "C" fn bench_closest(
-    values: &[f64],
-    tags: &[u32],
+    solid_values: &[f64],
+    solid_tags: &[u32],
     count: u32,
     ox: f64,
     oy: f64,
@@ -133,7 +133,7 @@ pub extern "C" fn bench_closest(
     dy: f64,
     dz: f64,
 ) -> BenchHit
-    ensures { λ r. ⌜ r ≡ benchHitOf (closestObjectOf (objectAtOf (now (values .entry)) (now (tags .entry))) count (benchRay ox oy oz dx dy dz)) ⌝ }
+    ensures { λ r. ⌜ r ≡ benchHitOf (closestObjectOf (objectAtOf (now («solid_values» .entry)) (now («solid_tags» .entry))) count (benchRay ox oy oz dx dy dz)) ⌝ }
 {
     let ray = Ray {
         origin: Vec3 {
@@ -149,5 +149,5 @@ pub extern "C" fn bench_closest(
         wavelength_nm: 550.0,
         energy: 1.0,
     };
-    bench_hit(scene::closest_object(values, tags, count, ray))
+    bench_hit(scene::closest_object(solid_values, solid_tags, count, ray))
 }

@@ -56,7 +56,7 @@ fn check_list(list: [Detector2D; 8], count: u32) -> Check
 }
 
 // The pixels of the first n detectors, which is the place of the first pixel of detector n.
-fn pixels_of(list: [Detector2D; 8], n: usize) -> usize
+fn first_pixel(list: [Detector2D; 8], n: usize) -> usize
     requires { ⌜ n ≤ 8 ⌝ }
     ensures { λ r. ⌜ r ≡ firstPixelOf list n ⌝ }
 {
@@ -112,7 +112,7 @@ impl Detectors {
         ensures { λ r. ⌜ r ≡ placedOf (self .list) d ⌝ }
     {
         let list = self.list;
-        let first = pixels_of(list, d);
+        let first = first_pixel(list, d);
         Placed {
             detector: list[d],
             first,
@@ -135,7 +135,7 @@ impl Detectors {
     {
         if self.count <= Detectors::MAX {
             let list = self.list;
-            return pixels_of(list, self.count as usize);
+            return first_pixel(list, self.count as usize);
         }
         0
     }

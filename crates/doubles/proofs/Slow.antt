@@ -1,4 +1,4 @@
--- The root of m * 2 ^ 52 a binary digit at a time: what the loop of `slow_root` keeps. Assumes nothing.
+-- The root of m * 2 ^ 52 a binary digit at a time: what the loop of `nearest_root` keeps. Assumes nothing.
 use mathlib.Core.Path.{_≡_, refl, sym, ap, _∙_, subst}
 use Prim.Native.Nat.{ℕ, zero, suc, _+_, _-_, _*_, _/_, _%_, _^_, _≤_, _<_}
 use native.Mathlib.Nat.{pow-suc}

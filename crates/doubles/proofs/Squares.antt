@@ -1,4 +1,4 @@
--- Facts of whole numbers and their squares, and what the tests of `pins` show. Assumes nothing.
+-- Facts of whole numbers and their squares, and what the tests of `is_nearest_root` show. Assumes nothing.
 use mathlib.Core.Path.{_≡_, refl, sym, ap, _∙_, subst}
 use Prim.Native.Nat.{ℕ, zero, suc, _+_, _-_, _*_, _/_, _%_, _^_, _≤_, _<_}
 use native.Mathlib.Nat.{le-of-lt, lt-of-le-of-lt, mul-le-mul-left, mul-lt-mul-of-pos-right, mul-add, add-mul, mul-assoc, mul-comm, mul-left-comm, add-assoc, add-comm, add-left-comm, div-add-mod'}
@@ -45,7 +45,7 @@ product-lt i j {a} {b} ha hb =
 pub square-of : (p h l : ℕ) → (h * p + l) * (h * p + l) ≡ h * h * (p * p) + h * l * (p + p) + l * l
 square-of p h l = simp (mul-add, add-mul, mul-assoc, mul-comm, mul-left-comm, add-assoc, add-comm, add-left-comm) refl
 
--- q by its halves h and l, which `pins` computes with
+-- q by its halves h and l, which `is_nearest_root` computes with
 pub record Halves (q h l : ℕ) : Type 0 where
   pub square : q * q ≡ h * h * (2 ^ 27 * 2 ^ 27) + h * l * (2 ^ 27 + 2 ^ 27) + l * l
   pub short : q < 2 ^ 53
@@ -69,7 +69,7 @@ halves q k =
     low : (q : ℕ) → q % 2 ^ 27 < 2 ^ 27
     low q = omega arith
 
--- the tests of `pins`, with the products as numbers of their own
+-- the tests of `is_nearest_root`, with the products as numbers of their own
 module _ (m q qq hh hl ll : ℕ) (s : qq ≡ hh * (2 ^ 27 * 2 ^ 27) + hl * (2 ^ 27 + 2 ^ 27) + ll) where
   all-pass : hh * 4 ≤ m + 4 → hl ≤ (m + 4 - hh * 4) * 2 ^ 24 → ll + 2 ^ 54 < ((m + 4 - hh * 4) * 2 ^ 24 - hl) * 2 ^ 28 + q
       → ((m + 4 - hh * 4) * 2 ^ 24 - hl) * 2 ^ 28 + q - (ll + 2 ^ 54) ≤ q + q
@@ -97,7 +97,7 @@ module _ (m q qq hh hl ll : ℕ) (s : qq ≡ hh * (2 ^ 27 * 2 ^ 27) + hl * (2 ^ 
         sixth-fails : q + q < ((m + 4 - hh * 4) * 2 ^ 24 - hl) * 2 ^ 28 + q - (ll + 2 ^ 54) → ⊥
         sixth-fails t = omega arith
 
--- each answer of `pins`
+-- each answer of `is_nearest_root`
 module _ (m q h l : ℕ) (k : Halves q h l) where
   abbrev is : Type 0
   is = false ≡ isNearestRootOf (m * 2 ^ 52) q

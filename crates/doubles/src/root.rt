@@ -9,7 +9,7 @@ ghost use Rattle.doubles.specs.Guess.{guessOf};
 // Whether q is the whole number nearest to the root of m * 2^52.
 // With q = h * 2^27 + l, m * 2^52 - q * q is ((m - 4 * h * h) * 2^24 - h * l) * 2^28 - l * l,
 // and 2^54 is added on the way so that no difference is negative.
-fn pins(m: u64, q: u64) -> bool
+fn is_nearest_root(m: u64, q: u64) -> bool
     requires { ⌜ (m < 2 ^ 54) × (q < 2 ^ 53) ⌝ }
     ensures { λ r. ⌜ r ≡ isNearestRootOf (m * 2 ^ 52) q ⌝ }
 {
@@ -71,7 +71,7 @@ fn guess(b: u64) -> f64
 
 // The same root found a binary digit at a time, with what is left of the number: for a guess that
 // fails.
-fn slow_root(m: u64) -> u64
+fn nearest_root(m: u64) -> u64
     requires { ⌜ (2 ^ 52 ≤ m) × (m + 1 < 2 ^ 54) ⌝ }
     ensures { λ r. ⌜ r ≡ nearestRootOf (m * 2 ^ 52) ⌝ }
 {
@@ -100,7 +100,7 @@ fn root_subnormal(b: u64) -> f64
 {
     let s = u64::leading_zeros(b) as u64 - 11;
     let d = b << s;
-    let r = slow_root(d << (s % 2));
+    let r = nearest_root(d << (s % 2));
     f64::from_bits((1022 - s) / 2 * 0x10_0000_0000_0000 + r)
 }
 
@@ -116,7 +116,7 @@ fn root_slowly(b: u64) -> f64
     }
     let e = b / 0x10_0000_0000_0000;
     let d = b % 0x10_0000_0000_0000 + 0x10_0000_0000_0000;
-    let r = slow_root(d << ((e + 1) % 2));
+    let r = nearest_root(d << ((e + 1) % 2));
     f64::from_bits((e + 1021) / 2 * 0x10_0000_0000_0000 + r)
 }
 
@@ -128,7 +128,7 @@ fn root_by(b: u64, q: u64) -> f64
 {
     let e = b / 0x10_0000_0000_0000;
     let d = b % 0x10_0000_0000_0000 + 0x10_0000_0000_0000;
-    if pins(d << ((e + 1) % 2), q) {
+    if is_nearest_root(d << ((e + 1) % 2), q) {
         return f64::from_bits((e + 1021) / 2 * 0x10_0000_0000_0000 + q);
     }
     root_slowly(b)

@@ -68,7 +68,7 @@ fn seen(face: Face, i: u32, n: u32, ray: Ray, best: Sighting) -> Sighting
 }
 
 // At most the 8 that the list has.
-fn shown(count: u32) -> u32
+fn face_count(count: u32) -> u32
     ensures { λ r. ⌜ (r ≡ faceCountOf count) × (r ≤ 8) ⌝ }
 {
     if count <= Detectors::MAX {
@@ -107,11 +107,11 @@ impl Faces {
 
     // The nearest detector that a ray crosses; the first listed wins ties. Written out eight times, so that
     // each face is read where it stands: an index that is worked out would have the list copied first.
-    pub fn nearest(self, ray: Ray) -> Sighting
+    pub fn nearest_detector(self, ray: Ray) -> Sighting
         ensures { λ r. ⌜ asSight r ≡ nearestDetectorOf self ray ⌝ }
     {
         let list = self.list;
-        let n = shown(self.count);
+        let n = face_count(self.count);
         let f0 = list[0];
         let f1 = list[1];
         let f2 = list[2];

@@ -57,7 +57,7 @@ module _ (s : List ℕ) (i b : ℕ) where
   unfolding later
   later-turn h n = rw (drop-cons s i 0 h) (simp (ne-eqb _ _ n))
 
--- ---- a turn of the loops of `end_of` and `count_parts`
+-- ---- a turn of the loops of `end_at` and `count_parts`
 
 module _ (s : List ℕ) (b i e : ℕ) where
   pub end-here : i < length s → getD s i 0 ≡ b → i + length (before b (drop i s)) ≡ e → i ≡ e

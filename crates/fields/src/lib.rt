@@ -8,6 +8,6 @@ pub use number::ReadWhole;
 pub use number::read_bits;
 pub use number::read_whole;
 pub use split::count_parts;
-pub use split::end_of;
+pub use split::end_at;
 pub use split::is_byte;
 pub use split::part;

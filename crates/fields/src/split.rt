@@ -6,7 +6,7 @@ ghost use lib.ListN.{length, getD, drop};
 ghost use Rattle.fields.specs.Split.{split, endAtOf, afterOf, partsAt, isByteOf};
 
 // The first place from `at` on that holds b, or the text's length where there is none.
-pub fn end_of(s: &[u8], at: usize, b: u8) -> usize
+pub fn end_at(s: &[u8], at: usize, b: u8) -> usize
     ensures { λ r. ⌜ r ≡ endAtOf (now (s .entry)) at b ⌝ }
 {
     let mut i = at;
@@ -26,7 +26,7 @@ fn after(s: &[u8], at: usize, b: u8) -> usize
     if s.len() < at {
         return at;
     }
-    end_of(s, at, b) + 1
+    end_at(s, at, b) + 1
 }
 
 // The part that starts at `at`; empty where none does.
@@ -36,7 +36,7 @@ fn part_at(s: &[u8], at: usize, b: u8) -> &[u8]
     if s.len() < at {
         return &s[0..0];
     }
-    let e = end_of(s, at, b);
+    let e = end_at(s, at, b);
     &s[at..e]
 }
 

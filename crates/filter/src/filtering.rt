@@ -1,13 +1,13 @@
 // A detector's map under a filter, its total and its count (document 01, "Maps and lists"): in two calls,
 // whose contracts say all, and in one.
+use crate::RayPathFilter;
+use crate::sifting::refill;
 use detector::DetectorNo;
 use detectors::Detectors;
 use detectors::Found;
 use detectors::Placed;
 use error::Check;
 use error::NonSeqError;
-use crate::RayPathFilter;
-use crate::sifting::refill;
 use memory::is_hit_list;
 ghost use mathlib.Core.Path.{_≡_};
 ghost use mathlib.Core.Bool.{true, false};
@@ -34,11 +34,11 @@ fn check_filter(
     asked: DetectorNo,
     stored: usize,
     work: usize,
-    values: usize,
-    tags: usize,
+    hit_values: usize,
+    hit_tags: usize,
     used: usize,
 ) -> Found
-    ensures { λ r. ⌜ asFound r ≡ checkFilterOf detectors asked stored work values tags used ⌝ }
+    ensures { λ r. ⌜ asFound r ≡ checkFilterOf detectors asked stored work «hit_values» «hit_tags» used ⌝ }
 {
     match detectors.find(asked) {
         Found::Refused { error, place } => Found::Refused { error, place },
@@ -46,7 +46,7 @@ fn check_filter(
             let d = p.detector;
             if stored == detectors.all_pixels() {
                 if work == d.pixels() {
-                    if is_hit_list(values, tags, used) {
+                    if is_hit_list(hit_values, hit_tags, used) {
                         return Found::There(p);
                     }
                 }
@@ -67,20 +67,20 @@ pub fn refilter(
     filter: RayPathFilter,
     stored: &[f64],
     work: &mut [f64],
-    values: &[f64],
-    tags: &[u32],
+    hit_values: &[f64],
+    hit_tags: &[u32],
     used: usize,
 ) -> Filtered
     ensures { λ r. ⌜ asHanded r (now (work .exit))
-        ≡ refilterOf detectors asked filter (now (stored .entry)) (now (work .entry)) (now (values .entry)) (now (tags .entry)) used ⌝ }
+        ≡ refilterOf detectors asked filter (now (stored .entry)) (now (work .entry)) (now («hit_values» .entry)) (now («hit_tags» .entry)) used ⌝ }
 {
     match check_filter(
         detectors,
         asked,
         stored.len(),
         work.len(),
-        values.len(),
-        tags.len(),
+        hit_values.len(),
+        hit_tags.len(),
         used,
     ) {
         Found::Refused { error, place } => Filtered {
@@ -97,7 +97,7 @@ pub fn refilter(
                     hit_count: d.total_rays_hit as usize,
                 };
             }
-            let t = refill(filter, asked, d, work, values, tags, used);
+            let t = refill(filter, asked, d, work, hit_values, hit_tags, used);
             Filtered {
                 check: Check::Passed,
                 total_flux_watts: t.total,
@@ -127,15 +127,15 @@ pub fn filtered_part<'a>(
     filter: RayPathFilter,
     stored: &'a [f64],
     work: &'a [f64],
-    values: &[f64],
-    tags: &[u32],
+    hit_values: &[f64],
+    hit_tags: &[u32],
     used: usize,
 ) -> &'a [f64]
     ensures { λ r. ⌜ now r
-        ≡ filteredPartOf detectors asked filter (now (stored .entry)) (now (work .entry)) (now (values .entry)) (now (tags .entry)) used ⌝ }
+        ≡ filteredPartOf detectors asked filter (now (stored .entry)) (now (work .entry)) (now («hit_values» .entry)) (now («hit_tags» .entry)) used ⌝ }
     ensures { λ r. ⌜ (isAllOf filter ≡ true → r .ptr .0 ≡ stored .entry .ptr .0) ⌝ }
     ensures { λ r. ⌜ ((p : Placed) → isAllOf filter ≡ false
-        → checkFilterOf detectors asked (length (now (stored .entry))) (length (now (work .entry))) (length (now (values .entry))) (length (now (tags .entry))) used
+        → checkFilterOf detectors asked (length (now (stored .entry))) (length (now (work .entry))) (length (now («hit_values» .entry))) (length (now («hit_tags» .entry))) used
         ≡ passed p → r .ptr ≡ work .entry .ptr) ⌝ }
 {
     match check_filter(
@@ -143,8 +143,8 @@ pub fn filtered_part<'a>(
         asked,
         stored.len(),
         work.len(),
-        values.len(),
-        tags.len(),
+        hit_values.len(),
+        hit_tags.len(),
         used,
     ) {
         Found::Refused { error: _, place: _ } => &stored[0..0],
@@ -165,8 +165,8 @@ pub fn filtered_pixel_flux<'a>(
     filter: RayPathFilter,
     stored: &'a [f64],
     work: &'a mut [f64],
-    values: &[f64],
-    tags: &[u32],
+    hit_values: &[f64],
+    hit_tags: &[u32],
     used: usize,
     refusal: &mut u32,
     at: &mut u32,
@@ -174,10 +174,10 @@ pub fn filtered_pixel_flux<'a>(
     count: &mut usize,
 ) -> &'a [f64]
     ensures { λ r. ⌜ numbered (now (refusal .exit)) (now (at .exit)) (now r) (now (total .exit)) (now (count .exit))
-        ≡ inNumbers (filteredPixelFluxOf detectors asked filter (now (stored .entry)) (now (work .entry)) (now (values .entry)) (now (tags .entry)) used) ⌝ }
+        ≡ inNumbers (filteredPixelFluxOf detectors asked filter (now (stored .entry)) (now (work .entry)) (now («hit_values» .entry)) (now («hit_tags» .entry)) used) ⌝ }
     ensures { λ r. ⌜ (isAllOf filter ≡ true → r .ptr .0 ≡ stored .entry .ptr .0) ⌝ }
     ensures { λ r. ⌜ ((p : Placed) → isAllOf filter ≡ false
-        → checkFilterOf detectors asked (length (now (stored .entry))) (length (now (work .entry))) (length (now (values .entry))) (length (now (tags .entry))) used
+        → checkFilterOf detectors asked (length (now (stored .entry))) (length (now (work .entry))) (length (now («hit_values» .entry))) (length (now («hit_tags» .entry))) used
         ≡ passed p → r .ptr ≡ work .entry .ptr) ⌝ }
 {
     *refusal = 0;
@@ -189,8 +189,8 @@ pub fn filtered_pixel_flux<'a>(
         asked,
         stored.len(),
         work.len(),
-        values.len(),
-        tags.len(),
+        hit_values.len(),
+        hit_tags.len(),
         used,
     ) {
         Found::Refused { error, place } => {
@@ -205,7 +205,7 @@ pub fn filtered_pixel_flux<'a>(
                 *count = d.total_rays_hit as usize;
                 return stored_part(p, stored);
             }
-            let t = refill(filter, asked, d, work, values, tags, used);
+            let t = refill(filter, asked, d, work, hit_values, hit_tags, used);
             *total = t.total;
             *count = t.count;
             &work[..]

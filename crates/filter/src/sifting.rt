@@ -1,8 +1,8 @@
 // The work map zeroed, and refilled from the hits of a detector that a filter lets through.
 use crate::RayPathFilter;
 use detector::Detector2D;
-use detector::DetectorNo;
 use detector::DetectorHit;
+use detector::DetectorNo;
 use memory::hit_at;
 ghost use mathlib.Core.Path.{_≡_};
 ghost use Prim.Native.Nat.{_+_, _^_, _<_};
@@ -82,12 +82,12 @@ pub fn refill(
     asked: DetectorNo,
     d: Detector2D,
     work: &mut [f64],
-    values: &[f64],
-    tags: &[u32],
+    hit_values: &[f64],
+    hit_tags: &[u32],
     used: usize,
 ) -> Tally
     ensures { λ r. ⌜ asMap r (now (work .exit))
-        ≡ refillOf filter asked d (length (now (work .entry))) (hitsFrom (now (values .entry)) (now (tags .entry)) used 0) ⌝ }
+        ≡ refillOf filter asked d (length (now (work .entry))) (hitsFrom (now («hit_values» .entry)) (now («hit_tags» .entry)) used 0) ⌝ }
 {
     clear(work);
     let mut t = Tally {
@@ -96,7 +96,7 @@ pub fn refill(
     };
     let mut i: usize = 0;
     while i < used {
-        let h = hit_at(values, tags, i);
+        let h = hit_at(hit_values, hit_tags, i);
         let n = sift_hit(filter, asked, d, work, t, h);
         t = n;
         i += 1;

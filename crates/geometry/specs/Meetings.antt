@@ -8,13 +8,13 @@ use Rattle.rays.specs.Rays.{newRayOf, atOf}
 use Rattle.geometry.specs.declared.LocalHit.{LocalHit}
 use Rattle.geometry.specs.declared.PrimitiveGeometry.{PrimitiveGeometry}
 use Rattle.geometry.specs.declared.meeting.Meeting.{Meeting}
-use Rattle.geometry.specs.declared.meeting.Met.{Met}
-use Rattle.geometry.specs.declared.meeting.Met.the-variants.{At, Miss}
+use Rattle.geometry.specs.declared.meeting.LocalMeeting.{LocalMeeting}
+use Rattle.geometry.specs.declared.meeting.LocalMeeting.the-variants.{At, Miss}
 use Rattle.geometry.specs.Shapes.{intersectLocalOf}
 use Rattle.geometry.specs.Transforms.{unitOf, madeRay}
 
 -- what the code's answer says
-abbrev pub asMeeting : Met → Option Meeting
+abbrev pub asMeeting : LocalMeeting → Option Meeting
 asMeeting (At m) = some m
 asMeeting Miss = none
 

@@ -6,8 +6,8 @@ mod round;
 mod slab;
 mod transform;
 
+pub use meeting::LocalMeeting;
 pub use meeting::Meeting;
-pub use meeting::Met;
 use rays::Ray;
 use rays::Vec3;
 pub use transform::LocalRay;

@@ -19,7 +19,7 @@ pub struct Meeting {
     pub hit: LocalHit,
 }
 
-pub enum Met {
+pub enum LocalMeeting {
     At(Meeting),
     Miss,
 }
@@ -76,29 +76,29 @@ impl PrimitiveGeometry {
     }
 
     // By the ray in the shape's coordinates.
-    fn meet_along(self, along: LocalRay) -> Met
+    fn meet_along(self, along: LocalRay) -> LocalMeeting
         ensures { λ m. ⌜ asMeeting m ≡ meetAlongOf self (asLocalRay along) ⌝ }
     {
         match along {
             LocalRay::Made(ray) => match self.intersect_local(ray) {
-                LocalIntersection::Hit(hit) => Met::At(Meeting {
+                LocalIntersection::Hit(hit) => LocalMeeting::At(Meeting {
                     point: ray.at(hit.t),
                     hit,
                 }),
-                LocalIntersection::Miss => Met::Miss,
+                LocalIntersection::Miss => LocalMeeting::Miss,
             },
-            LocalRay::Nothing => Met::Miss,
+            LocalRay::Nothing => LocalMeeting::Miss,
         }
     }
 
     // `inverse` is the inverse of the shape's matrix.
-    pub fn meet(self, inverse: Mat4, ray: Ray) -> Met
+    pub fn meet(self, inverse: Mat4, ray: Ray) -> LocalMeeting
         ensures { λ m. ⌜ asMeeting m ≡ meetOf self inverse ray ⌝ }
     {
         let o = inverse.transform_point(ray.origin);
         let d = inverse.transform_direction(ray.direction);
         if self.is_behind(o, d) {
-            return Met::Miss;
+            return LocalMeeting::Miss;
         }
         self.meet_along(transform::ray_from(o, d, ray))
     }

@@ -14,44 +14,44 @@ ghost use lib.ListN.{length};
 ghost use Rattle.error.specs.Refusals.{asChecked};
 ghost use Rattle.given_rays.specs.Given.{readRayOf, readMediaOf, noRayOf, givenAtOf, checkListsOf, allSolidsOf, validMediaOf, checkRayOf, checkRaysOf, launchedOf};
 
-fn read_ray(values: &[f64], i: u32) -> Ray
-    requires { ⌜ i * 8 + 8 ≤ length (now values) ⌝ }
-    ensures { λ r. ⌜ r ≡ readRayOf (now (values .entry)) i ⌝ }
+fn read_ray(ray_values: &[f64], i: u32) -> Ray
+    requires { ⌜ i * 8 + 8 ≤ length (now «ray_values») ⌝ }
+    ensures { λ r. ⌜ r ≡ readRayOf (now («ray_values» .entry)) i ⌝ }
 {
     let a = i as usize * 8;
     Ray {
         origin: Vec3 {
-            x: values[a],
-            y: values[a + 1],
-            z: values[a + 2],
+            x: ray_values[a],
+            y: ray_values[a + 1],
+            z: ray_values[a + 2],
         },
         direction: Vec3 {
-            x: values[a + 3],
-            y: values[a + 4],
-            z: values[a + 5],
+            x: ray_values[a + 3],
+            y: ray_values[a + 4],
+            z: ray_values[a + 5],
         },
-        wavelength_nm: values[a + 6],
-        energy: values[a + 7],
+        wavelength_nm: ray_values[a + 6],
+        energy: ray_values[a + 7],
     }
 }
 
-fn read_media(tags: &[u32], i: u32) -> Media
-    requires { ⌜ i * 10 + 10 ≤ length (now tags) ⌝ }
-    ensures { λ r. ⌜ r ≡ readMediaOf (now (tags .entry)) i ⌝ }
+fn read_media(ray_tags: &[u32], i: u32) -> Media
+    requires { ⌜ i * 10 + 10 ≤ length (now «ray_tags») ⌝ }
+    ensures { λ r. ⌜ r ≡ readMediaOf (now («ray_tags» .entry)) i ⌝ }
 {
     let a = i as usize * 10;
     let mut list = [SolidNo(0); 24];
-    list[0] = SolidNo(tags[a + 2]);
-    list[1] = SolidNo(tags[a + 3]);
-    list[2] = SolidNo(tags[a + 4]);
-    list[3] = SolidNo(tags[a + 5]);
-    list[4] = SolidNo(tags[a + 6]);
-    list[5] = SolidNo(tags[a + 7]);
-    list[6] = SolidNo(tags[a + 8]);
-    list[7] = SolidNo(tags[a + 9]);
+    list[0] = SolidNo(ray_tags[a + 2]);
+    list[1] = SolidNo(ray_tags[a + 3]);
+    list[2] = SolidNo(ray_tags[a + 4]);
+    list[3] = SolidNo(ray_tags[a + 5]);
+    list[4] = SolidNo(ray_tags[a + 6]);
+    list[5] = SolidNo(ray_tags[a + 7]);
+    list[6] = SolidNo(ray_tags[a + 8]);
+    list[7] = SolidNo(ray_tags[a + 9]);
     Media {
         list,
-        depth: tags[a + 1],
+        depth: ray_tags[a + 1],
     }
 }
 
@@ -81,18 +81,18 @@ pub fn no_ray() -> ActiveRay
 }
 
 // Ray i, as it starts.
-pub fn given_at(values: &[f64], tags: &[u32], i: u32) -> ActiveRay
-    ensures { λ r. ⌜ r ≡ givenAtOf (now (values .entry)) (now (tags .entry)) i ⌝ }
+pub fn given_at(ray_values: &[f64], ray_tags: &[u32], i: u32) -> ActiveRay
+    ensures { λ r. ⌜ r ≡ givenAtOf (now («ray_values» .entry)) (now («ray_tags» .entry)) i ⌝ }
 {
     let none = no_ray();
-    if i as usize * 8 + 8 <= values.len() {
-        if i as usize * 10 + 10 <= tags.len() {
+    if i as usize * 8 + 8 <= ray_values.len() {
+        if i as usize * 10 + 10 <= ray_tags.len() {
             return ActiveRay {
-                ray: read_ray(values, i),
-                bounce_count: tags[i as usize * 10],
+                ray: read_ray(ray_values, i),
+                bounce_count: ray_tags[i as usize * 10],
                 reflection_count: 0,
                 tir_count: 0,
-                media: read_media(tags, i),
+                media: read_media(ray_tags, i),
             };
         }
     }
@@ -100,11 +100,11 @@ pub fn given_at(values: &[f64], tags: &[u32], i: u32) -> ActiveRay
 }
 
 // Whether lists of these lengths are those of so many rays (17).
-pub fn check_lists(values: usize, tags: usize, rays: u32) -> Check
-    ensures { λ r. ⌜ asChecked r ≡ checkListsOf values tags rays ⌝ }
+pub fn check_lists(ray_values: usize, ray_tags: usize, rays: u32) -> Check
+    ensures { λ r. ⌜ asChecked r ≡ checkListsOf «ray_values» «ray_tags» rays ⌝ }
 {
-    if values == rays as usize * 8 {
-        if tags == rays as usize * 10 {
+    if ray_values == rays as usize * 8 {
+        if ray_tags == rays as usize * 10 {
             return Check::Passed;
         }
     }
@@ -163,12 +163,12 @@ fn check_ray(a: ActiveRay, solids: u32, place: u32) -> Check
 }
 
 // The first of the rays that is refused, by 10 or 11.
-pub fn check_rays(values: &[f64], tags: &[u32], rays: u32, solids: u32) -> Check
-    ensures { λ r. ⌜ asChecked r ≡ checkRaysOf (givenAtOf (now (values .entry)) (now (tags .entry))) solids rays 0 ⌝ }
+pub fn check_rays(ray_values: &[f64], ray_tags: &[u32], rays: u32, solids: u32) -> Check
+    ensures { λ r. ⌜ asChecked r ≡ checkRaysOf (givenAtOf (now («ray_values» .entry)) (now («ray_tags» .entry))) solids rays 0 ⌝ }
 {
     let mut i: u32 = 0;
     while i < rays {
-        match check_ray(given_at(values, tags, i), solids, i) {
+        match check_ray(given_at(ray_values, ray_tags, i), solids, i) {
             Check::Passed => {
                 i += 1;
             }
@@ -181,13 +181,13 @@ pub fn check_rays(values: &[f64], tags: &[u32], rays: u32, solids: u32) -> Check
 }
 
 // The power launched, summed first to last.
-pub fn launched(values: &[f64], tags: &[u32], rays: u32) -> f64
-    ensures { λ r. ⌜ r ≡ launchedOf (givenAtOf (now (values .entry)) (now (tags .entry))) rays ⌝ }
+pub fn launched(ray_values: &[f64], ray_tags: &[u32], rays: u32) -> f64
+    ensures { λ r. ⌜ r ≡ launchedOf (givenAtOf (now («ray_values» .entry)) (now («ray_tags» .entry))) rays ⌝ }
 {
     let mut sum = 0.0;
     let mut i: u32 = 0;
     while i < rays {
-        let a = given_at(values, tags, i);
+        let a = given_at(ray_values, ray_tags, i);
         sum = sum + a.ray.energy;
         i += 1;
     }

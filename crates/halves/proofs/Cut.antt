@@ -21,7 +21,7 @@ use Rattle.theorems_calls.proofs.Places.{place-few}
 use Rattle.halves.specs.Halves.{furtherOf, laterPart, formerPart}
 
 -- what the code's check says
-pub all-passed : (B : Batch) (s : Memory) (c : Check) → asChecked c ≡ checkTraceOf B (s .detectors) (length (s .flux)) (length (s .hits)) (length (s .values)) (length (s .tags)) (s .used) → c ≡ Passed → checkBatch B s ≡ passed tt
+pub all-passed : (B : Batch) (s : Memory) (c : Check) → asChecked c ≡ checkTraceOf B (s .detectors) (length (s .flux)) (length (s .hits)) (length (s .hitValues)) (length (s .hitTags)) (s .used) → c ≡ Passed → checkBatch B s ≡ passed tt
 unfolding checkBatch
 all-passed B s c e k = sym e ∙ ap asChecked k
 
@@ -42,15 +42,15 @@ module _ (B : Batch) (s : Memory) (n : ℕ) (k : n ≤ B .rays) (c : checkBatch 
   exact-former : Exact p
   exact-former =
       let e = lists-are B s c in
-      record { values = rw length-take (omega (arith, e .0)); tags = rw length-take (omega (arith, e .1)) }
+      record { rayValues = rw length-take (omega (arith, e .0)); rayTags = rw length-take (omega (arith, e .1)) }
 
   exact-later : Exact q
   exact-later =
       let e = lists-are B s c in
-      record { values = rw (length-take, length-drop) (omega (arith, e .0)); tags = rw (length-take, length-drop) (omega (arith, e .1)) }
+      record { rayValues = rw (length-take, length-drop) (omega (arith, e .0)); rayTags = rw (length-take, length-drop) (omega (arith, e .1)) }
 
   abbrev raysAre : List Float → List ℕ → ℕ → Batch
-  raysAre v t m = record { config = B .config; values = B .values; tags = B .tags; solids = B .solids; rayValues = v; rayTags = t; rays = m }
+  raysAre v t m = record { config = B .config; solidValues = B .solidValues; solidTags = B .solidTags; solids = B .solids; rayValues = v; rayTags = t; rays = m }
 
   whole : withRays B (joined p q) ≡ B
   whole =
@@ -59,7 +59,7 @@ module _ (B : Batch) (s : Memory) (n : ℕ) (k : n ≤ B .rays) (c : checkBatch 
       let t : take (n * 10) (B .rayTags) ++ take (length (B .rayTags) - n * 10) (drop (n * 10) (B .rayTags)) ≡ B .rayTags =
       ap (λ x. take (n * 10) (B .rayTags) ++ x) (rest (B .rayTags) (n * 10)) ∙ take-append-drop (n * 10) (B .rayTags) in
       let m : n + (B .rays - n) ≡ B .rays = omega arith in
-      ap (λ x. raysAre x (p .tags ++ q .tags) (n + (B .rays - n))) v ∙ ap (λ x. raysAre (B .rayValues) x (n + (B .rays - n))) t ∙ ap (raysAre (B .rayValues) (B .rayTags)) m
+      ap (λ x. raysAre x (p .rayTags ++ q .rayTags) (n + (B .rays - n))) v ∙ ap (λ x. raysAre (B .rayValues) x (n + (B .rays - n))) t ∙ ap (raysAre (B .rayValues) (B .rayTags)) m
 
   passes-whole : Passes (withRays B (joined p q)) s
   passes-whole = passes (withRays B (joined p q)) s (ap (λ C. checkBatch C s) whole ∙ c)

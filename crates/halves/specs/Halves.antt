@@ -20,10 +20,10 @@ furtherOf place n = cond (leb place (4294967295 - n)) (n + place) place
 
 -- the rays from n on, and those before
 abbrev pub laterPart : List Float → List ℕ → ℕ → ℕ → Part
-laterPart v t given n = record { values = take (length v - n * 8) (drop (n * 8) v); tags = take (length t - n * 10) (drop (n * 10) t); rays = given - n }
+laterPart v t given n = record { rayValues = take (length v - n * 8) (drop (n * 8) v); rayTags = take (length t - n * 10) (drop (n * 10) t); rays = given - n }
 
 abbrev pub formerPart : List Float → List ℕ → ℕ → Part
-formerPart v t n = record { values = take (n * 8) v; tags = take (n * 10) t; rays = n }
+formerPart v t n = record { rayValues = take (n * 8) v; rayTags = take (n * 10) t; rays = n }
 
 -- what the code's answers say
 abbrev pub answerOf : Traced → Halved

@@ -1,8 +1,8 @@
 // A batch traced in two parts (letter, demand 3): what it leaves is what the batch traced whole leaves.
 use detectors::Detectors;
 use error::Check;
-use trace::Traced;
 use step::NonSeqTraceConfig;
+use trace::Traced;
 ghost use mathlib.Core.Path.{_≡_};
 ghost use Prim.Native.Nat.{_≤_, _*_};
 ghost use lib.ListN.{length};
@@ -42,35 +42,35 @@ fn further(place: u32, n: u32) -> u32
 // The rays from n on.
 fn later(
     config: NonSeqTraceConfig,
-    values: &[f64],
-    tags: &[u32],
+    solid_values: &[f64],
+    solid_tags: &[u32],
     count: u32,
-    rays: &[f64],
-    marks: &[u32],
+    ray_values: &[f64],
+    ray_tags: &[u32],
     given: u32,
     n: u32,
     detectors: Detectors,
     flux: &mut [f64],
     hits: &mut [u32],
-    places: &mut [f64],
-    kinds: &mut [u32],
+    hit_values: &mut [f64],
+    hit_tags: &mut [u32],
     used: usize,
 ) -> Traced
-    requires { ⌜ (n ≤ given) × (given * 8 ≤ length (now rays)) × (given * 10 ≤ length (now marks)) ⌝ }
-    ensures { λ r. ⌜ asTraced r (now (flux .exit)) (now (hits .exit)) (now (places .exit)) (now (kinds .exit))
-        ≡ traceRaysOf (withRays (lentBatch config (now (values .entry)) (now (tags .entry)) count (now (rays .entry)) (now (marks .entry)) given)
-        (laterPart (now (rays .entry)) (now (marks .entry)) given n))
-        (lentMemory detectors (now (flux .entry)) (now (hits .entry)) (now (places .entry)) (now (kinds .entry)) used) ⌝ }
+    requires { ⌜ (n ≤ given) × (given * 8 ≤ length (now «ray_values»)) × (given * 10 ≤ length (now «ray_tags»)) ⌝ }
+    ensures { λ r. ⌜ asTraced r (now (flux .exit)) (now (hits .exit)) (now («hit_values» .exit)) (now («hit_tags» .exit))
+        ≡ traceRaysOf (withRays (lentBatch config (now («solid_values» .entry)) (now («solid_tags» .entry)) count (now («ray_values» .entry)) (now («ray_tags» .entry)) given)
+        (laterPart (now («ray_values» .entry)) (now («ray_tags» .entry)) given n))
+        (lentMemory detectors (now (flux .entry)) (now (hits .entry)) (now («hit_values» .entry)) (now («hit_tags» .entry)) used) ⌝ }
 {
     let a = n as usize * 8;
     let b = n as usize * 10;
     let left = given - n;
-    let r = &rays[a..];
-    let m = &marks[b..];
+    let r = &ray_values[a..];
+    let m = &ray_tags[b..];
     trace::trace_rays(
         config,
-        values,
-        tags,
+        solid_values,
+        solid_tags,
         count,
         r,
         m,
@@ -78,8 +78,8 @@ fn later(
         detectors,
         flux,
         hits,
-        places,
-        kinds,
+        hit_values,
+        hit_tags,
         used,
     )
 }
@@ -87,34 +87,34 @@ fn later(
 // The rays before n.
 fn former(
     config: NonSeqTraceConfig,
-    values: &[f64],
-    tags: &[u32],
+    solid_values: &[f64],
+    solid_tags: &[u32],
     count: u32,
-    rays: &[f64],
-    marks: &[u32],
+    ray_values: &[f64],
+    ray_tags: &[u32],
     given: u32,
     n: u32,
     detectors: Detectors,
     flux: &mut [f64],
     hits: &mut [u32],
-    places: &mut [f64],
-    kinds: &mut [u32],
+    hit_values: &mut [f64],
+    hit_tags: &mut [u32],
     used: usize,
 ) -> Traced
-    requires { ⌜ (n ≤ given) × (given * 8 ≤ length (now rays)) × (given * 10 ≤ length (now marks)) ⌝ }
-    ensures { λ r. ⌜ asTraced r (now (flux .exit)) (now (hits .exit)) (now (places .exit)) (now (kinds .exit))
-        ≡ traceRaysOf (withRays (lentBatch config (now (values .entry)) (now (tags .entry)) count (now (rays .entry)) (now (marks .entry)) given)
-        (formerPart (now (rays .entry)) (now (marks .entry)) n))
-        (lentMemory detectors (now (flux .entry)) (now (hits .entry)) (now (places .entry)) (now (kinds .entry)) used) ⌝ }
+    requires { ⌜ (n ≤ given) × (given * 8 ≤ length (now «ray_values»)) × (given * 10 ≤ length (now «ray_tags»)) ⌝ }
+    ensures { λ r. ⌜ asTraced r (now (flux .exit)) (now (hits .exit)) (now («hit_values» .exit)) (now («hit_tags» .exit))
+        ≡ traceRaysOf (withRays (lentBatch config (now («solid_values» .entry)) (now («solid_tags» .entry)) count (now («ray_values» .entry)) (now («ray_tags» .entry)) given)
+        (formerPart (now («ray_values» .entry)) (now («ray_tags» .entry)) n))
+        (lentMemory detectors (now (flux .entry)) (now (hits .entry)) (now («hit_values» .entry)) (now («hit_tags» .entry)) used) ⌝ }
 {
     let a = n as usize * 8;
     let b = n as usize * 10;
-    let r = &rays[..a];
-    let m = &marks[..b];
+    let r = &ray_values[..a];
+    let m = &ray_tags[..b];
     trace::trace_rays(
         config,
-        values,
-        tags,
+        solid_values,
+        solid_tags,
         count,
         r,
         m,
@@ -122,8 +122,8 @@ fn former(
         detectors,
         flux,
         hits,
-        places,
-        kinds,
+        hit_values,
+        hit_tags,
         used,
     )
 }
@@ -144,40 +144,40 @@ fn answer(r: Traced) -> Halved
 // those before.
 fn both(
     config: NonSeqTraceConfig,
-    values: &[f64],
-    tags: &[u32],
+    solid_values: &[f64],
+    solid_tags: &[u32],
     count: u32,
-    rays: &[f64],
-    marks: &[u32],
+    ray_values: &[f64],
+    ray_tags: &[u32],
     given: u32,
     n: u32,
     detectors: Detectors,
     flux: &mut [f64],
     hits: &mut [u32],
-    places: &mut [f64],
-    kinds: &mut [u32],
+    hit_values: &mut [f64],
+    hit_tags: &mut [u32],
     used: usize,
 ) -> Halved
-    requires { ⌜ (n ≤ given) × (checkBatch (lentBatch config (now values) (now tags) count (now rays) (now marks) given)
-        (lentMemory detectors (now flux) (now hits) (now places) (now kinds) used) ≡ passed tt) ⌝ }
-    ensures { λ r. ⌜ asHalved r (now (flux .exit)) (now (hits .exit)) (now (places .exit)) (now (kinds .exit))
-        ≡ traceRaysOf (lentBatch config (now (values .entry)) (now (tags .entry)) count (now (rays .entry)) (now (marks .entry)) given)
-        (lentMemory detectors (now (flux .entry)) (now (hits .entry)) (now (places .entry)) (now (kinds .entry)) used) .outcome ⌝ }
+    requires { ⌜ (n ≤ given) × (checkBatch (lentBatch config (now «solid_values») (now «solid_tags») count (now «ray_values») (now «ray_tags») given)
+        (lentMemory detectors (now flux) (now hits) (now «hit_values») (now «hit_tags») used) ≡ passed tt) ⌝ }
+    ensures { λ r. ⌜ asHalved r (now (flux .exit)) (now (hits .exit)) (now («hit_values» .exit)) (now («hit_tags» .exit))
+        ≡ traceRaysOf (lentBatch config (now («solid_values» .entry)) (now («solid_tags» .entry)) count (now («ray_values» .entry)) (now («ray_tags» .entry)) given)
+        (lentMemory detectors (now (flux .entry)) (now (hits .entry)) (now («hit_values» .entry)) (now («hit_tags» .entry)) used) .outcome ⌝ }
 {
     let a = later(
         config,
-        values,
-        tags,
+        solid_values,
+        solid_tags,
         count,
-        rays,
-        marks,
+        ray_values,
+        ray_tags,
         given,
         n,
         detectors,
         flux,
         hits,
-        places,
-        kinds,
+        hit_values,
+        hit_tags,
         used,
     );
     let ds = a.detectors;
@@ -194,18 +194,18 @@ fn both(
         Check::Passed => {
             let b = former(
                 config,
-                values,
-                tags,
+                solid_values,
+                solid_tags,
                 count,
-                rays,
-                marks,
+                ray_values,
+                ray_tags,
                 given,
                 n,
                 ds,
                 flux,
                 hits,
-                places,
-                kinds,
+                hit_values,
+                hit_tags,
                 a.used,
             );
             answer(b)
@@ -217,37 +217,37 @@ fn both(
 // checks are those of the batch, and so are the refusal, its place, the memory and what is given back.
 pub fn trace_rays_in_two(
     config: NonSeqTraceConfig,
-    values: &[f64],
-    tags: &[u32],
+    solid_values: &[f64],
+    solid_tags: &[u32],
     count: u32,
-    rays: &[f64],
-    marks: &[u32],
+    ray_values: &[f64],
+    ray_tags: &[u32],
     given: u32,
     cut: u32,
     detectors: Detectors,
     flux: &mut [f64],
     hits: &mut [u32],
-    places: &mut [f64],
-    kinds: &mut [u32],
+    hit_values: &mut [f64],
+    hit_tags: &mut [u32],
     used: usize,
 ) -> Halved
-    ensures { λ r. ⌜ asHalved r (now (flux .exit)) (now (hits .exit)) (now (places .exit)) (now (kinds .exit))
-        ≡ traceRaysOf (lentBatch config (now (values .entry)) (now (tags .entry)) count (now (rays .entry)) (now (marks .entry)) given)
-        (lentMemory detectors (now (flux .entry)) (now (hits .entry)) (now (places .entry)) (now (kinds .entry)) used) .outcome ⌝ }
+    ensures { λ r. ⌜ asHalved r (now (flux .exit)) (now (hits .exit)) (now («hit_values» .exit)) (now («hit_tags» .exit))
+        ≡ traceRaysOf (lentBatch config (now («solid_values» .entry)) (now («solid_tags» .entry)) count (now («ray_values» .entry)) (now («ray_tags» .entry)) given)
+        (lentMemory detectors (now (flux .entry)) (now (hits .entry)) (now («hit_values» .entry)) (now («hit_tags» .entry)) used) .outcome ⌝ }
 {
     match trace::check_trace(
         config,
-        values,
-        tags,
+        solid_values,
+        solid_tags,
         count,
-        rays,
-        marks,
+        ray_values,
+        ray_tags,
         given,
         detectors,
         flux.len(),
         hits.len(),
-        places.len(),
-        kinds.len(),
+        hit_values.len(),
+        hit_tags.len(),
         used,
     ) {
         Check::Refused { error, place } => Halved {
@@ -259,18 +259,18 @@ pub fn trace_rays_in_two(
             let n = cut_at(cut, given);
             both(
                 config,
-                values,
-                tags,
+                solid_values,
+                solid_tags,
                 count,
-                rays,
-                marks,
+                ray_values,
+                ray_tags,
                 given,
                 n,
                 detectors,
                 flux,
                 hits,
-                places,
-                kinds,
+                hit_values,
+                hit_tags,
                 used,
             )
         }

@@ -15,7 +15,7 @@ use Rattle.host_numbers.specs.Numbers.{checkedOf}
 use Rattle.host_detectors.specs.Maps.{recorded, recordedFrom, filtered, filteredFrom, filteredWith}
 
 recorded-by : (c : Check) (m : Memory)
-    → recorded (record { refusal = checkedOf (asChecked c) .refusal; place = checkedOf (asChecked c) .place; used = m .used; detectors = m .detectors }) (m .flux) (m .hits) (m .values) (m .tags)
+    → recorded (record { refusal = checkedOf (asChecked c) .refusal; place = checkedOf (asChecked c) .place; used = m .used; detectors = m .detectors }) (m .flux) (m .hits) (m .hitValues) (m .hitTags)
     ≡ recordedFrom (asOutcome c m)
 recorded-by Passed m = refl
 recorded-by (Refused e place) m = refl

@@ -22,14 +22,14 @@ pub record Recording : Type 0 where
   pub answer : HostRecorded
   pub flux : List Float
   pub hits : List ℕ
-  pub places : List Float
-  pub kinds : List ℕ
+  pub hitValues : List Float
+  pub hitTags : List ℕ
 
 abbrev pub recorded : HostRecorded → List Float → List ℕ → List Float → List ℕ → Recording
-recorded r f h v t = record { answer = r; flux = f; hits = h; places = v; kinds = t }
+recorded r f h v t = record { answer = r; flux = f; hits = h; hitValues = v; hitTags = t }
 
 abbrev pub recordedWith : ℕ → ℕ → Memory → Recording
-recordedWith n place m = recorded (record { refusal = n; place = place; used = m .used; detectors = m .detectors }) (m .flux) (m .hits) (m .values) (m .tags)
+recordedWith n place m = recorded (record { refusal = n; place = place; used = m .used; detectors = m .detectors }) (m .flux) (m .hits) (m .hitValues) (m .hitTags)
 
 abbrev pub recordedFrom : Outcome Memory → Recording
 recordedFrom (done m) = recordedWith 0 0 m

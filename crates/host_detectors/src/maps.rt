@@ -1,12 +1,12 @@
 // The lent maps and the hit list: a hit recorded, a detector's map under a filter, where its pixels stand, the
 // irradiance of one.
+use detector::DetectorHit;
 use detector::DetectorNo;
 use detectors::Detectors;
 use detectors::Found;
 use error::NonSeqError;
 use filter::RayPathFilter;
 use host_numbers::HostReading;
-use detector::DetectorHit;
 ghost use mathlib.Core.Path.{_≡_};
 ghost use Rattle.detectors.specs.Detectors.{findOf};
 ghost use Rattle.detectors.specs.Readings.{irradianceAtOf};
@@ -47,15 +47,15 @@ pub extern "C" fn nonseq_record_hit_classified(
     detectors: Detectors,
     flux: &mut [f64],
     hits: &mut [u32],
-    places: &mut [f64],
-    kinds: &mut [u32],
+    hit_values: &mut [f64],
+    hit_tags: &mut [u32],
     used: usize,
     hit: DetectorHit,
 ) -> HostRecorded
-    ensures { λ r. ⌜ recorded r (now (flux .exit)) (now (hits .exit)) (now (places .exit)) (now (kinds .exit))
-        ≡ recordedFrom (recordHitClassifiedOf (lentMemory detectors (now (flux .entry)) (now (hits .entry)) (now (places .entry)) (now (kinds .entry)) used) hit) ⌝ }
+    ensures { λ r. ⌜ recorded r (now (flux .exit)) (now (hits .exit)) (now («hit_values» .exit)) (now («hit_tags» .exit))
+        ≡ recordedFrom (recordHitClassifiedOf (lentMemory detectors (now (flux .entry)) (now (hits .entry)) (now («hit_values» .entry)) (now («hit_tags» .entry)) used) hit) ⌝ }
 {
-    let r = memory::record_hit_classified(detectors, flux, hits, places, kinds, used, hit);
+    let r = memory::record_hit_classified(detectors, flux, hits, hit_values, hit_tags, used, hit);
     let check = r.check;
     let c = host_numbers::checked(check);
     let next = r.detectors;
@@ -77,12 +77,12 @@ pub extern "C" fn nonseq_refilter(
     filter: u32,
     flux: &[f64],
     work: &mut [f64],
-    places: &[f64],
-    kinds: &[u32],
+    hit_values: &[f64],
+    hit_tags: &[u32],
     used: usize,
 ) -> HostFiltered
     ensures { λ r. ⌜ filtered r (now (work .exit))
-        ≡ filteredFrom (hostRefilterOf detectors asked filter (now (flux .entry)) (now (work .entry)) (now (places .entry)) (now (kinds .entry)) used) ⌝ }
+        ≡ filteredFrom (hostRefilterOf detectors asked filter (now (flux .entry)) (now (work .entry)) (now («hit_values» .entry)) (now («hit_tags» .entry)) used) ⌝ }
 {
     if filter <= RayPathFilter::LAST {
         let r = filter::refilter(
@@ -91,8 +91,8 @@ pub extern "C" fn nonseq_refilter(
             RayPathFilter::numbered(filter),
             flux,
             work,
-            places,
-            kinds,
+            hit_values,
+            hit_tags,
             used,
         );
         let check = r.check;

@@ -46,7 +46,7 @@ held-short : (r : NonSeqTraceReport) (f : ℕ) (m : Held) → length (heldText r
 unfolding heldText
 held-short r f m =
     if-short (leb (length (m .flux)) maxPixels) _ _ 131072
-    (λ e. if-short (isHeldOf (m .detectors) (length (m .flux)) (length (m .values)) (length (m .tags)) (m .used)) _ _ 131072 (λ g. omega (arith, answer-short r (numberedFilterOf f) m (leb-true _ _ e))) (short 9 0))
+    (λ e. if-short (isHeldOf (m .detectors) (length (m .flux)) (length (m .hitValues)) (length (m .hitTags)) (m .used)) _ _ 131072 (λ g. omega (arith, answer-short r (numberedFilterOf f) m (leb-true _ _ e))) (short 9 0))
     (short 9 0)
 
 after-short : (c : Checked Unit) (t : List ℕ) → length t ≤ 131072 → length (textAfter c t) ≤ 131072

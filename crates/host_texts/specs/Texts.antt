@@ -50,7 +50,7 @@ isHeldOf ds nf nv nt used = cond (eqb nf (allPixelsOf ds)) (isHitListOf nv nt us
 unfoldable pub heldText : NonSeqTraceReport → ℕ → Held → List ℕ
 heldText r f m =
     cond (leb (length (m .flux)) maxPixels)
-    (cond (isHeldOf (m .detectors) (length (m .flux)) (length (m .values)) (length (m .tags)) (m .used)) (answerText r (numberedFilterOf f) m) (refusalText 9 0))
+    (cond (isHeldOf (m .detectors) (length (m .flux)) (length (m .hitValues)) (length (m .hitTags)) (m .used)) (answerText r (numberedFilterOf f) m) (refusalText 9 0))
     (refusalText 9 0)
 
 abbrev pub textAfter : Checked Unit → List ℕ → List ℕ

@@ -27,20 +27,30 @@ pub struct HostScene {
 #[no_mangle]
 pub extern "C" fn nonseq_read_scene(
     text: &[u8],
-    run: &mut [f64],
-    runs: &mut [u32],
-    values: &mut [f64],
-    tags: &mut [u32],
-    faces: &mut [f64],
-    sizes: &mut [u32],
-    rays: &mut [f64],
-    marks: &mut [u32],
+    run_values: &mut [f64],
+    run_tags: &mut [u32],
+    solid_values: &mut [f64],
+    solid_tags: &mut [u32],
+    detector_values: &mut [f64],
+    detector_tags: &mut [u32],
+    ray_values: &mut [f64],
+    ray_tags: &mut [u32],
 ) -> HostScene
-    ensures { λ r. ⌜ sceneRead r (slices (now (run .exit)) (now (runs .exit)) (now (values .exit)) (now (tags .exit)) (now (faces .exit)) (now (sizes .exit)) (now (rays .exit)) (now (marks .exit)))
+    ensures { λ r. ⌜ sceneRead r (slices (now («run_values» .exit)) (now («run_tags» .exit)) (now («solid_values» .exit)) (now («solid_tags» .exit)) (now («detector_values» .exit)) (now («detector_tags» .exit)) (now («ray_values» .exit)) (now («ray_tags» .exit)))
         ≡ sceneFrom (readSceneOf (now (text .entry))
-        (slices (now (run .entry)) (now (runs .entry)) (now (values .entry)) (now (tags .entry)) (now (faces .entry)) (now (sizes .entry)) (now (rays .entry)) (now (marks .entry)))) ⌝ }
+        (slices (now («run_values» .entry)) (now («run_tags» .entry)) (now («solid_values» .entry)) (now («solid_tags» .entry)) (now («detector_values» .entry)) (now («detector_tags» .entry)) (now («ray_values» .entry)) (now («ray_tags» .entry)))) ⌝ }
 {
-    let r = scene_text::read_scene(text, run, runs, values, tags, faces, sizes, rays, marks);
+    let r = scene_text::read_scene(
+        text,
+        run_values,
+        run_tags,
+        solid_values,
+        solid_tags,
+        detector_values,
+        detector_tags,
+        ray_values,
+        ray_tags,
+    );
     let check = r.check;
     let c = host_numbers::checked(check);
     HostScene {
@@ -73,11 +83,17 @@ fn put_whole(buf: &mut [u8], t: &[u8]) -> usize
 }
 
 // Whether slices of these lengths are the flux map and the hit list of these detectors.
-fn is_held(detectors: Detectors, flux: usize, places: usize, kinds: usize, used: usize) -> bool
-    ensures { λ r. ⌜ r ≡ isHeldOf detectors flux places kinds used ⌝ }
+fn is_held(
+    detectors: Detectors,
+    flux: usize,
+    hit_values: usize,
+    hit_tags: usize,
+    used: usize,
+) -> bool
+    ensures { λ r. ⌜ r ≡ isHeldOf detectors flux «hit_values» «hit_tags» used ⌝ }
 {
     if flux == detectors.all_pixels() {
-        return memory::is_hit_list(places, kinds, used);
+        return memory::is_hit_list(hit_values, hit_tags, used);
     }
     false
 }
@@ -89,17 +105,33 @@ fn put_held(
     detectors: Detectors,
     filter: u32,
     flux: &[f64],
-    places: &[f64],
-    kinds: &[u32],
+    hit_values: &[f64],
+    hit_tags: &[u32],
     used: usize,
 ) -> usize
     ensures { λ r. ⌜ out (now (buf .exit)) r ≡ putAll (now (buf .entry)) 0
-        (heldText report filter (held detectors (now (flux .entry)) (now (places .entry)) (now (kinds .entry)) used)) ⌝ }
+        (heldText report filter (held detectors (now (flux .entry)) (now («hit_values» .entry)) (now («hit_tags» .entry)) used)) ⌝ }
 {
     if flux.len() <= 4096 {
-        if is_held(detectors, flux.len(), places.len(), kinds.len(), used) {
+        if is_held(
+            detectors,
+            flux.len(),
+            hit_values.len(),
+            hit_tags.len(),
+            used,
+        ) {
             let f = RayPathFilter::numbered(filter);
-            return answer_text::put_answer(buf, 0, report, detectors, f, flux, places, kinds, used);
+            return answer_text::put_answer(
+                buf,
+                0,
+                report,
+                detectors,
+                f,
+                flux,
+                hit_values,
+                hit_tags,
+                used,
+            );
         }
         return answer_text::put_refusal(buf, 0, 9, 0);
     }
@@ -112,17 +144,26 @@ fn put_text(
     detectors: Detectors,
     filter: u32,
     flux: &[f64],
-    places: &[f64],
-    kinds: &[u32],
+    hit_values: &[f64],
+    hit_tags: &[u32],
     used: usize,
 ) -> usize
     ensures { λ r. ⌜ out (now (buf .exit)) r ≡ putAll (now (buf .entry)) 0
-        (hostAnswerText report filter (held detectors (now (flux .entry)) (now (places .entry)) (now (kinds .entry)) used)) ⌝ }
+        (hostAnswerText report filter (held detectors (now (flux .entry)) (now («hit_values» .entry)) (now («hit_tags» .entry)) used)) ⌝ }
 {
     if filter <= RayPathFilter::LAST {
         match detectors.check() {
             Check::Passed => {
-                return put_held(buf, report, detectors, filter, flux, places, kinds, used);
+                return put_held(
+                    buf,
+                    report,
+                    detectors,
+                    filter,
+                    flux,
+                    hit_values,
+                    hit_tags,
+                    used,
+                );
             }
             Check::Refused { error, place } => {
                 return answer_text::put_refusal(buf, 0, error.number(), place);
@@ -142,15 +183,24 @@ pub extern "C" fn nonseq_put_answer(
     detectors: Detectors,
     filter: u32,
     flux: &[f64],
-    places: &[f64],
-    kinds: &[u32],
+    hit_values: &[f64],
+    hit_tags: &[u32],
     used: usize,
 ) -> usize
     ensures { λ r. ⌜ out (now (buf .exit)) r ≡ putWholeOf (now (buf .entry))
-        (hostAnswerText report filter (held detectors (now (flux .entry)) (now (places .entry)) (now (kinds .entry)) used)) ⌝ }
+        (hostAnswerText report filter (held detectors (now (flux .entry)) (now («hit_values» .entry)) (now («hit_tags» .entry)) used)) ⌝ }
 {
     let mut t = [0u8; 131072];
-    let n = put_text(&mut t, report, detectors, filter, flux, places, kinds, used);
+    let n = put_text(
+        &mut t,
+        report,
+        detectors,
+        filter,
+        flux,
+        hit_values,
+        hit_tags,
+        used,
+    );
     put_whole(buf, front(&t, n))
 }
 

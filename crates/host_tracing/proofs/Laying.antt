@@ -95,10 +95,10 @@ put-full y n v m h = simp (le-ltb n 4097 h)
 -- the rays zs behind the first n
 pub record LaidOut (n : ℕ) (v : List Float) (m : List ℕ) (zs : List GivenRay) (s : Laid) : Type 0 where
   pub count-is : s .count ≡ n + length zs
-  pub values-are : take (s .count * 8) (s .values) ≡ take (n * 8) v ++ flatValues zs
-  pub marks-are : take (s .count * 10) (s .marks) ≡ take (n * 10) m ++ flatTags zs
-  pub values-long : length (s .values) ≡ 32776
-  pub marks-long : length (s .marks) ≡ 40970
+  pub values-are : take (s .count * 8) (s .rayValues) ≡ take (n * 8) v ++ flatValues zs
+  pub marks-are : take (s .count * 10) (s .rayTags) ≡ take (n * 10) m ++ flatTags zs
+  pub values-long : length (s .rayValues) ≡ 32776
+  pub marks-long : length (s .rayTags) ≡ 40970
 
 none : (n : ℕ) (v : List Float) (m : List ℕ) → length v ≡ 32776 → length m ≡ 40970 → LaidOut n v m [] (laid n v m)
 unfolding flatValues flatTags

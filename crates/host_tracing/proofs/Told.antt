@@ -14,15 +14,15 @@ use Rattle.trace.specs.declared.Traced.{Traced}
 use Rattle.trace.specs.Trace.{asTraced, lentBatch, traceRaysOf}
 use Rattle.host_tracing.specs.declared.answers.HostConfig.{HostConfig}
 use Rattle.host_tracing.specs.declared.answers.HostTraced.{HostTraced}
-use Rattle.host_tracing.specs.Tracing.{configOf, left, leftBy, hostTraceRaysOf, toldOf, noMediumOf}
+use Rattle.host_tracing.specs.Tracing.{traceConfigOf, left, leftBy, hostTraceRaysOf, toldOf, noMediumOf}
 
-left-by : (c : Check) (m : Memory) (p : NonSeqTraceReport) → left (toldOf (record { check = c; report = p; detectors = m .detectors; used = m .used })) (m .flux) (m .hits) (m .values) (m .tags) ≡ leftBy (record { outcome = asOutcome c m; report = p })
+left-by : (c : Check) (m : Memory) (p : NonSeqTraceReport) → left (toldOf (record { check = c; report = p; detectors = m .detectors; used = m .used })) (m .flux) (m .hits) (m .hitValues) (m .hitTags) ≡ leftBy (record { outcome = asOutcome c m; report = p })
 unfolding toldOf leftBy
 left-by Passed m p = refl
 left-by (Refused e place) m p = refl
 
 module _ (g : HostConfig) (x : List Float) (k : List ℕ) (n : ℕ) (v : List Float) (t : List ℕ) (m : ℕ) where
-  pub traced-is : (c : NonSeqTraceConfig) (r : Traced) (h : HostTraced) (f : List Float) (i : List ℕ) (p : List Float) (q : List ℕ) (s : Memory) → g .ambient ≤ 3 → c ≡ configOf g
+  pub traced-is : (c : NonSeqTraceConfig) (r : Traced) (h : HostTraced) (f : List Float) (i : List ℕ) (p : List Float) (q : List ℕ) (s : Memory) → g .ambient ≤ 3 → c ≡ traceConfigOf g
       → asTraced r f i p q ≡ traceRaysOf (lentBatch c x k n v t m) s → h ≡ toldOf r → left h f i p q ≡ hostTraceRaysOf g x k n v t m s
   unfolding hostTraceRaysOf
   traced-is c r h f i p q s small is said e = rw (le-leb _ _ small) (ap (λ (y : HostTraced). left y f i p q) e ∙ left-by (r .check) (lentMemory (r .detectors) f i p q (r .used)) (r .report) ∙ ap leftBy said ∙ ap (λ (y : NonSeqTraceConfig). leftBy (traceRaysOf (lentBatch y x k n v t m) s)) is)

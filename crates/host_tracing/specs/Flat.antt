@@ -32,11 +32,11 @@ flatTags (r ∷ rs) = tagsRow r ++ flatTags rs
 -- how many rays were laid out, and the two lists
 pub record Laid : Type 0 where
   pub count : ℕ
-  pub values : List Float
-  pub marks : List ℕ
+  pub rayValues : List Float
+  pub rayTags : List ℕ
 
 abbrev pub laid : ℕ → List Float → List ℕ → Laid
-laid n v m = record { count = n; values = v; marks = m }
+laid n v m = record { count = n; rayValues = v; rayTags = m }
 
 -- whether there is room for ray n in lists of these lengths
 unfoldable pub hasRoomOf : ℕ → ℕ → ℕ → Bool
@@ -45,8 +45,8 @@ hasRoomOf n nv nm = ltb n 4097 && (leb 32776 nv && leb 40970 nm)
 -- a ray more, while there is room: its numbers stored one after the other, behind those of the rays before it
 unfoldable pub putRayOf : GivenRay → Laid → Laid
 putRayOf r s =
-    cond (hasRoomOf (s .count) (length (s .values)) (length (s .marks)))
-    (laid (s .count + 1) (sets (s .values) (s .count * 8) (valuesRow r)) (sets (s .marks) (s .count * 10) (tagsRow r)))
+    cond (hasRoomOf (s .count) (length (s .rayValues)) (length (s .rayTags)))
+    (laid (s .count + 1) (sets (s .rayValues) (s .count * 8) (valuesRow r)) (sets (s .rayTags) (s .count * 10) (tagsRow r)))
     s
 
 unfoldable pub flattenOf : List GivenRay → Laid → Laid

@@ -17,8 +17,8 @@ use Rattle.host_tracing.specs.declared.answers.HostConfig.{HostConfig}
 use Rattle.host_tracing.specs.declared.answers.HostTraced.{HostTraced}
 
 -- the rules that a host's numbers mean
-unfoldable pub configOf : HostConfig → NonSeqTraceConfig
-configOf g =
+unfoldable pub traceConfigOf : HostConfig → NonSeqTraceConfig
+traceConfigOf g =
     record {
       «max_bounces» = g .«max_bounces»;
       «min_power_threshold» = g .«min_power_threshold»;
@@ -39,22 +39,22 @@ pub record Left : Type 0 where
   pub answer : HostTraced
   pub flux : List Float
   pub hits : List ℕ
-  pub places : List Float
-  pub kinds : List ℕ
+  pub hitValues : List Float
+  pub hitTags : List ℕ
 
 abbrev pub left : HostTraced → List Float → List ℕ → List Float → List ℕ → Left
-left r f h v t = record { answer = r; flux = f; hits = h; places = v; kinds = t }
+left r f h v t = record { answer = r; flux = f; hits = h; hitValues = v; hitTags = t }
 
 unfoldable pub leftBy : Trace Memory → Left
 leftBy t =
     let m = memoryLeft (t .outcome) in
-    left (record { refusal = refusalNumber (t .outcome); place = refusalPlace (t .outcome); used = m .used; report = t .report; detectors = m .detectors }) (m .flux) (m .hits) (m .values) (m .tags)
+    left (record { refusal = refusalNumber (t .outcome); place = refusalPlace (t .outcome); used = m .used; report = t .report; detectors = m .detectors }) (m .flux) (m .hits) (m .hitValues) (m .hitTags)
 
 -- 17 for an ambient medium that is none, first of all
 unfoldable pub hostTraceRaysOf : HostConfig → List Float → List ℕ → ℕ → List Float → List ℕ → ℕ → Memory → Left
 hostTraceRaysOf g x k n v t m s =
     cond (leb (g .ambient) 3)
-    (leftBy (traceRaysOf (lentBatch (configOf g) x k n v t m) s))
+    (leftBy (traceRaysOf (lentBatch (traceConfigOf g) x k n v t m) s))
     (leftBy (record { outcome = refused 17 0 s; report = startReportOf 0 #0 }))
 
 -- of the code's answers

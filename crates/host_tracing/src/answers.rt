@@ -2,10 +2,10 @@
 use detectors::Detectors;
 use material::OpticalMedium;
 use report::NonSeqTraceReport;
-use trace::Traced;
 use step::NonSeqTraceConfig;
+use trace::Traced;
 ghost use mathlib.Core.Path.{_≡_};
-ghost use Rattle.host_tracing.specs.Tracing.{configOf, toldOf, noMediumOf};
+ghost use Rattle.host_tracing.specs.Tracing.{traceConfigOf, toldOf, noMediumOf};
 
 // The rules of a tracing; the ambient medium by document 01's number, with its coefficients from a on.
 #[repr(C)]
@@ -31,8 +31,8 @@ pub struct HostTraced {
     pub detectors: Detectors,
 }
 
-pub fn config_of(g: HostConfig) -> NonSeqTraceConfig
-    ensures { λ r. ⌜ r ≡ configOf g ⌝ }
+pub fn trace_config(g: HostConfig) -> NonSeqTraceConfig
+    ensures { λ r. ⌜ r ≡ traceConfigOf g ⌝ }
 {
     let medium = OpticalMedium::numbered(g.ambient, g.a, g.b, g.c, g.d, g.e, g.f);
     NonSeqTraceConfig {

@@ -27,71 +27,71 @@ pub struct GivenRay {
 }
 
 // Whether ray n is among the first 4,097 and the lists are as long as those need.
-fn has_room(n: u32, values: usize, marks: usize) -> bool
-    ensures { λ r. ⌜ r ≡ hasRoomOf n values marks ⌝ }
+fn has_room(n: u32, ray_values: usize, ray_tags: usize) -> bool
+    ensures { λ r. ⌜ r ≡ hasRoomOf n «ray_values» «ray_tags» ⌝ }
 {
     if n < 4097 {
-        if 32776 <= values {
-            return 40970 <= marks;
+        if 32776 <= ray_values {
+            return 40970 <= ray_tags;
         }
     }
     false
 }
 
-fn put_values(ray: GivenRay, at: usize, values: &mut [f64])
-    requires { ⌜ at + 8 ≤ length (now values) ⌝ }
-    ensures { λ _. ⌜ now (values .exit) ≡ sets (now (values .entry)) at (valuesRow ray) ⌝ }
+fn put_ray_values(ray: GivenRay, at: usize, ray_values: &mut [f64])
+    requires { ⌜ at + 8 ≤ length (now «ray_values») ⌝ }
+    ensures { λ _. ⌜ now («ray_values» .exit) ≡ sets (now («ray_values» .entry)) at (valuesRow ray) ⌝ }
 {
     let origin = ray.origin;
     let direction = ray.direction;
-    values[at] = origin.x;
-    values[at + 1] = origin.y;
-    values[at + 2] = origin.z;
-    values[at + 3] = direction.x;
-    values[at + 4] = direction.y;
-    values[at + 5] = direction.z;
-    values[at + 6] = ray.wavelength_nm;
-    values[at + 7] = ray.energy;
+    ray_values[at] = origin.x;
+    ray_values[at + 1] = origin.y;
+    ray_values[at + 2] = origin.z;
+    ray_values[at + 3] = direction.x;
+    ray_values[at + 4] = direction.y;
+    ray_values[at + 5] = direction.z;
+    ray_values[at + 6] = ray.wavelength_nm;
+    ray_values[at + 7] = ray.energy;
 }
 
-fn put_marks(ray: GivenRay, at: usize, marks: &mut [u32])
-    requires { ⌜ at + 10 ≤ length (now marks) ⌝ }
-    ensures { λ _. ⌜ now (marks .exit) ≡ sets (now (marks .entry)) at (tagsRow ray) ⌝ }
+fn put_ray_tags(ray: GivenRay, at: usize, ray_tags: &mut [u32])
+    requires { ⌜ at + 10 ≤ length (now «ray_tags») ⌝ }
+    ensures { λ _. ⌜ now («ray_tags» .exit) ≡ sets (now («ray_tags» .entry)) at (tagsRow ray) ⌝ }
 {
     let media = ray.media;
-    marks[at] = ray.bounce_count;
-    marks[at + 1] = ray.media_count;
-    marks[at + 2] = media[0].0;
-    marks[at + 3] = media[1].0;
-    marks[at + 4] = media[2].0;
-    marks[at + 5] = media[3].0;
-    marks[at + 6] = media[4].0;
-    marks[at + 7] = media[5].0;
-    marks[at + 8] = media[6].0;
-    marks[at + 9] = media[7].0;
+    ray_tags[at] = ray.bounce_count;
+    ray_tags[at + 1] = ray.media_count;
+    ray_tags[at + 2] = media[0].0;
+    ray_tags[at + 3] = media[1].0;
+    ray_tags[at + 4] = media[2].0;
+    ray_tags[at + 5] = media[3].0;
+    ray_tags[at + 6] = media[4].0;
+    ray_tags[at + 7] = media[5].0;
+    ray_tags[at + 8] = media[6].0;
+    ray_tags[at + 9] = media[7].0;
 }
 
 // A ray more, behind the n that were put.
-fn put_ray(ray: GivenRay, n: u32, values: &mut [f64], marks: &mut [u32]) -> u32
-    ensures { λ r. ⌜ laid r (now (values .exit)) (now (marks .exit)) ≡ putRayOf ray (laid n (now (values .entry)) (now (marks .entry))) ⌝ }
+fn put_ray(ray: GivenRay, n: u32, ray_values: &mut [f64], ray_tags: &mut [u32]) -> u32
+    ensures { λ r. ⌜ laid r (now («ray_values» .exit)) (now («ray_tags» .exit)) ≡ putRayOf ray (laid n (now («ray_values» .entry)) (now («ray_tags» .entry))) ⌝ }
 {
-    if has_room(n, values.len(), marks.len()) {
-        put_values(ray, n as usize * 8, values);
-        put_marks(ray, n as usize * 10, marks);
+    if has_room(n, ray_values.len(), ray_tags.len()) {
+        put_ray_values(ray, n as usize * 8, ray_values);
+        put_ray_tags(ray, n as usize * 10, ray_tags);
         return n + 1;
     }
     n
 }
 
 // The rays one behind the other; the answer is how many were put.
-fn flatten(rays: &[GivenRay], values: &mut [f64], marks: &mut [u32]) -> u32
-    ensures { λ r. ⌜ laid r (now (values .exit)) (now (marks .exit)) ≡ flattenOf (now (rays .entry)) (laid 0 (now (values .entry)) (now (marks .entry))) ⌝ }
+fn flatten(rays: &[GivenRay], ray_values: &mut [f64], ray_tags: &mut [u32]) -> u32
+    ensures { λ r. ⌜ laid r (now («ray_values» .exit)) (now («ray_tags» .exit)) ≡ flattenOf (now (rays .entry)) (laid 0 (now («ray_values» .entry)) (now («ray_tags» .entry))) ⌝ }
 {
     let mut n = 0;
     let mut i = 0;
     while i < rays.len() {
         let ray = rays[i];
-        n = put_ray(ray, n, values, marks);
+        n = put_ray(ray, n, ray_values, ray_tags);
         i += 1;
     }
     n
@@ -119,38 +119,38 @@ fn front_wholes(l: &[u32], n: usize) -> &[u32]
 // The tracing of the first `given` rays of two flat lists.
 fn trace_flat(
     config: HostConfig,
-    values: &[f64],
-    tags: &[u32],
+    solid_values: &[f64],
+    solid_tags: &[u32],
     count: u32,
-    rays: &[f64],
-    marks: &[u32],
+    ray_values: &[f64],
+    ray_tags: &[u32],
     given: u32,
     detectors: Detectors,
     flux: &mut [f64],
     hits: &mut [u32],
-    places: &mut [f64],
-    kinds: &mut [u32],
+    hit_values: &mut [f64],
+    hit_tags: &mut [u32],
     used: usize,
 ) -> HostTraced
-    ensures { λ r. ⌜ left r (now (flux .exit)) (now (hits .exit)) (now (places .exit)) (now (kinds .exit))
-        ≡ hostTraceRaysOf config (now (values .entry)) (now (tags .entry)) count (frontOf (given * 8) (now (rays .entry))) (frontOf (given * 10) (now (marks .entry))) given
-        (lentMemory detectors (now (flux .entry)) (now (hits .entry)) (now (places .entry)) (now (kinds .entry)) used) ⌝ }
+    ensures { λ r. ⌜ left r (now (flux .exit)) (now (hits .exit)) (now («hit_values» .exit)) (now («hit_tags» .exit))
+        ≡ hostTraceRaysOf config (now («solid_values» .entry)) (now («solid_tags» .entry)) count (frontOf (given * 8) (now («ray_values» .entry))) (frontOf (given * 10) (now («ray_tags» .entry))) given
+        (lentMemory detectors (now (flux .entry)) (now (hits .entry)) (now («hit_values» .entry)) (now («hit_tags» .entry)) used) ⌝ }
 {
     let a = given as usize * 8;
     let b = given as usize * 10;
     nonseq_trace_rays(
         config,
-        values,
-        tags,
+        solid_values,
+        solid_tags,
         count,
-        front(rays, a),
-        front_wholes(marks, b),
+        front(ray_values, a),
+        front_wholes(ray_tags, b),
         given,
         detectors,
         flux,
         hits,
-        places,
-        kinds,
+        hit_values,
+        hit_tags,
         used,
     )
 }
@@ -160,37 +160,37 @@ fn trace_flat(
 #[no_mangle]
 pub extern "C" fn nonseq_trace_given_rays(
     config: HostConfig,
-    values: &[f64],
-    tags: &[u32],
+    solid_values: &[f64],
+    solid_tags: &[u32],
     count: u32,
     rays: &[GivenRay],
     detectors: Detectors,
     flux: &mut [f64],
     hits: &mut [u32],
-    places: &mut [f64],
-    kinds: &mut [u32],
+    hit_values: &mut [f64],
+    hit_tags: &mut [u32],
     used: usize,
 ) -> HostTraced
-    ensures { λ r. ⌜ left r (now (flux .exit)) (now (hits .exit)) (now (places .exit)) (now (kinds .exit))
-        ≡ hostTraceRaysOf config (now (values .entry)) (now (tags .entry)) count (flatValues (now (rays .entry))) (flatTags (now (rays .entry))) (length (now (rays .entry)))
-        (lentMemory detectors (now (flux .entry)) (now (hits .entry)) (now (places .entry)) (now (kinds .entry)) used) ⌝ }
+    ensures { λ r. ⌜ left r (now (flux .exit)) (now (hits .exit)) (now («hit_values» .exit)) (now («hit_tags» .exit))
+        ≡ hostTraceRaysOf config (now («solid_values» .entry)) (now («solid_tags» .entry)) count (flatValues (now (rays .entry))) (flatTags (now (rays .entry))) (length (now (rays .entry)))
+        (lentMemory detectors (now (flux .entry)) (now (hits .entry)) (now («hit_values» .entry)) (now («hit_tags» .entry)) used) ⌝ }
 {
-    let mut numbers = [0.0; 32776];
-    let mut marks = [0u32; 40970];
-    let given = flatten(rays, &mut numbers, &mut marks);
+    let mut ray_values = [0.0; 32776];
+    let mut ray_tags = [0u32; 40970];
+    let given = flatten(rays, &mut ray_values, &mut ray_tags);
     trace_flat(
         config,
-        values,
-        tags,
+        solid_values,
+        solid_tags,
         count,
-        &numbers,
-        &marks,
+        &ray_values,
+        &ray_tags,
         given,
         detectors,
         flux,
         hits,
-        places,
-        kinds,
+        hit_values,
+        hit_tags,
         used,
     )
 }

@@ -1,9 +1,9 @@
 // The tracing of rays that come as two flat lists of numbers.
 use crate::HostConfig;
 use crate::HostTraced;
-use crate::answers::config_of;
 use crate::answers::no_medium;
 use crate::answers::told;
+use crate::answers::trace_config;
 use detectors::Detectors;
 ghost use mathlib.Core.Path.{_≡_};
 ghost use Rattle.memory.specs.Memory.{lentMemory};
@@ -13,38 +13,38 @@ ghost use Rattle.host_tracing.specs.Tracing.{left, hostTraceRaysOf};
 #[no_mangle]
 pub extern "C" fn nonseq_trace_rays(
     config: HostConfig,
-    values: &[f64],
-    tags: &[u32],
+    solid_values: &[f64],
+    solid_tags: &[u32],
     count: u32,
-    rays: &[f64],
-    marks: &[u32],
+    ray_values: &[f64],
+    ray_tags: &[u32],
     given: u32,
     detectors: Detectors,
     flux: &mut [f64],
     hits: &mut [u32],
-    places: &mut [f64],
-    kinds: &mut [u32],
+    hit_values: &mut [f64],
+    hit_tags: &mut [u32],
     used: usize,
 ) -> HostTraced
-    ensures { λ r. ⌜ left r (now (flux .exit)) (now (hits .exit)) (now (places .exit)) (now (kinds .exit))
-        ≡ hostTraceRaysOf config (now (values .entry)) (now (tags .entry)) count (now (rays .entry)) (now (marks .entry)) given
-        (lentMemory detectors (now (flux .entry)) (now (hits .entry)) (now (places .entry)) (now (kinds .entry)) used) ⌝ }
+    ensures { λ r. ⌜ left r (now (flux .exit)) (now (hits .exit)) (now («hit_values» .exit)) (now («hit_tags» .exit))
+        ≡ hostTraceRaysOf config (now («solid_values» .entry)) (now («solid_tags» .entry)) count (now («ray_values» .entry)) (now («ray_tags» .entry)) given
+        (lentMemory detectors (now (flux .entry)) (now (hits .entry)) (now («hit_values» .entry)) (now («hit_tags» .entry)) used) ⌝ }
 {
     if config.ambient <= 3 {
-        let g = config_of(config);
+        let g = trace_config(config);
         let r = trace::trace_rays(
             g,
-            values,
-            tags,
+            solid_values,
+            solid_tags,
             count,
-            rays,
-            marks,
+            ray_values,
+            ray_tags,
             given,
             detectors,
             flux,
             hits,
-            places,
-            kinds,
+            hit_values,
+            hit_tags,
             used,
         );
         return told(r);

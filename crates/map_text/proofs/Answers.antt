@@ -21,5 +21,5 @@ module _ (s : List ℕ) (c : Check) (i j k : ℕ) (m : Slices) (q : answer (asCh
   text-refused e place n x y z =
       z ∙ ap (λ r. putAll b p (refusalText r place)) y ∙ ap (λ r. putAll b p (readText (asChecked r) (answer (asChecked c) i j k m))) (sym x) ∙ told
 
-  pub text-mapped : c ≡ Passed → w ≡ putAll b p (tablesText (tables (m .run) (m .runs) (m .solids) (m .tags) i (m .detectors) (m .sizes) j (m .rays) (m .marks) k)) → w ≡ putAll b p (strayMapText s)
+  pub text-mapped : c ≡ Passed → w ≡ putAll b p (tablesText (tables (m .runValues) (m .runTags) (m .solidValues) (m .solidTags) i (m .detectorValues) (m .detectorTags) j (m .rayValues) (m .rayTags) k)) → w ≡ putAll b p (strayMapText s)
   text-mapped x z = z ∙ ap (λ r. putAll b p (readText (asChecked r) (answer (asChecked c) i j k m))) (sym x) ∙ told

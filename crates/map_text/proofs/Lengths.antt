@@ -15,7 +15,7 @@ use Rattle.answer_text.proofs.Lengths.{answer-short, refusal-short}
 use Rattle.map_text.specs.Tables.{memoryIn, outcomeText, traceText}
 
 outcome-short : (f : RayPathFilter) (r : NonSeqTraceReport) (o : Outcome Memory) → length (memoryLeft o .flux) ≤ maxPixels → length (outcomeText f r o) ≤ 119994
-outcome-short f r (done m) h = answer-short r f (held (m .detectors) (m .flux) (m .values) (m .tags) (m .used)) h
+outcome-short f r (done m) h = answer-short r f (held (m .detectors) (m .flux) (m .hitValues) (m .hitTags) (m .used)) h
 outcome-short f r (refused n place m) h = omega (arith, refusal-short n place)
 
 pub trace-short : (f : RayPathFilter) (t : Trace Memory) → length (memoryLeft (t .outcome) .flux) ≤ maxPixels → length (traceText f t) ≤ 119994

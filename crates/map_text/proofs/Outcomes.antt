@@ -36,8 +36,8 @@ module _ (g : RayPathFilter) (r : Traced) (f : List Float) (h : List ℕ) (v : L
 -- ---- the tables, as the code hands them on
 
 module _ (t : Tables) (ds : Detectors) (n k q all wh : ℕ) (g : NonSeqTraceConfig) (xs : List Float) (ks : List ℕ) (rs : List Float) (ms : List ℕ) (f : RayPathFilter) where
-  pub map-is : ds ≡ detectorsOf (t .places) (t .sizes) (t .detectors) → n ≡ atMostOf 33 (t .solids) → k ≡ atMostOf 4097 (t .rays) → all ≡ allPixelsOf ds → q ≡ fewOf all → g ≡ configOf (t .run) (t .runs)
-      → xs ≡ frontOf (n * 42) (t .values) → ks ≡ frontOf (n * 4) (t .tags) → rs ≡ frontOf (k * 8) (t .rayValues) → ms ≡ frontOf (k * 10) (t .rayTags) → wh ≡ wholeOf (t .runs) 1 → f ≡ meantOf wh
+  pub map-is : ds ≡ detectorsOf (t .detectorValues) (t .detectorTags) (t .detectors) → n ≡ atMostOf 33 (t .solids) → k ≡ atMostOf 4097 (t .rays) → all ≡ allPixelsOf ds → q ≡ fewOf all → g ≡ configOf (t .runValues) (t .runTags)
+      → xs ≡ frontOf (n * 42) (t .solidValues) → ks ≡ frontOf (n * 4) (t .solidTags) → rs ≡ frontOf (k * 8) (t .rayValues) → ms ≡ frontOf (k * 10) (t .rayTags) → wh ≡ wholeOf (t .runTags) 1 → f ≡ meantOf wh
       → (b : List ℕ) (p : ℕ) (w : Out)
       → w ≡ putAll b p (traceText f (traceRaysOf (lentBatch g xs ks n rs ms k) (lentMemory ds (take q (replicate maxPixels #0)) (take q (replicate maxPixels 0)) (replicate 4096 #0) (replicate 4096 0) 0)))
       → w ≡ putAll b p (tablesText t)

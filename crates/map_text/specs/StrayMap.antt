@@ -16,7 +16,7 @@ room = slices (replicate 7 #0) (replicate 3 0) (replicate 1386 #0) (replicate 13
 abbrev pub readText : Checked Unit → Answer → List ℕ
 readText (passed u) a =
     let m = a .left in
-    tablesText (tables (m .run) (m .runs) (m .solids) (m .tags) (a .solids) (m .detectors) (m .sizes) (a .detectors) (m .rays) (m .marks) (a .rays))
+    tablesText (tables (m .runValues) (m .runTags) (m .solidValues) (m .solidTags) (a .solids) (m .detectorValues) (m .detectorTags) (a .detectors) (m .rayValues) (m .rayTags) (a .rays))
 readText (refusedAt n place) a = refusalText n place
 
 -- the answer to what was read, or the refusal

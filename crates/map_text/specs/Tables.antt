@@ -20,13 +20,13 @@ use Rattle.answer_text.specs.Answer.{held, answerText, refusalText, fewOf, maxP
 
 -- The numbers of a scene text, block by block: the run's, those of the solids, detectors and rays, and how many lines each of these blocks has
 pub record Tables : Type 0 where
-  pub run : List Float
-  pub runs : List ℕ
-  pub values : List Float
-  pub tags : List ℕ
+  pub runValues : List Float
+  pub runTags : List ℕ
+  pub solidValues : List Float
+  pub solidTags : List ℕ
   pub solids : ℕ
-  pub places : List Float
-  pub sizes : List ℕ
+  pub detectorValues : List Float
+  pub detectorTags : List ℕ
   pub detectors : ℕ
   pub rayValues : List Float
   pub rayTags : List ℕ
@@ -34,7 +34,7 @@ pub record Tables : Type 0 where
 
 abbrev pub tables : List Float → List ℕ → List Float → List ℕ → ℕ → List Float → List ℕ → ℕ → List Float → List ℕ → ℕ → Tables
 tables a b c d i e f j g h k =
-    record { run = a; runs = b; values = c; tags = d; solids = i; places = e; sizes = f; detectors = j; rayValues = g; rayTags = h; rays = k }
+    record { runValues = a; runTags = b; solidValues = c; solidTags = d; solids = i; detectorValues = e; detectorTags = f; detectors = j; rayValues = g; rayTags = h; rays = k }
 
 -- number i of a table; NaN and 0 past the end
 unfoldable pub valueOf : List Float → ℕ → Float
@@ -93,7 +93,7 @@ unfoldable pub batchIn : Tables → Batch
 batchIn t =
     let n = atMostOf 33 (t .solids) in
     let k = atMostOf 4097 (t .rays) in
-    lentBatch (configOf (t .run) (t .runs)) (frontOf (n * 42) (t .values)) (frontOf (n * 4) (t .tags)) n (frontOf (k * 8) (t .rayValues)) (frontOf (k * 10) (t .rayTags)) k
+    lentBatch (configOf (t .runValues) (t .runTags)) (frontOf (n * 42) (t .solidValues)) (frontOf (n * 4) (t .solidTags)) n (frontOf (k * 8) (t .rayValues)) (frontOf (k * 10) (t .rayTags)) k
 
 -- room for 1,024 hits
 unfoldable pub memoryIn : Detectors → Memory
@@ -104,11 +104,11 @@ memoryIn ds =
 -- ---- the answer
 
 abbrev pub outcomeText : RayPathFilter → NonSeqTraceReport → Outcome Memory → List ℕ
-outcomeText f r (done m) = answerText r f (held (m .detectors) (m .flux) (m .values) (m .tags) (m .used))
+outcomeText f r (done m) = answerText r f (held (m .detectors) (m .flux) (m .hitValues) (m .hitTags) (m .used))
 outcomeText f r (refused n place m) = refusalText n place
 
 unfoldable pub traceText : RayPathFilter → Trace Memory → List ℕ
 traceText f t = outcomeText f (t .report) (t .outcome)
 
 unfoldable pub tablesText : Tables → List ℕ
-tablesText t = traceText (meantOf (wholeOf (t .runs) 1)) (traceRaysOf (batchIn t) (memoryIn (detectorsOf (t .places) (t .sizes) (t .detectors))))
+tablesText t = traceText (meantOf (wholeOf (t .runTags) 1)) (traceRaysOf (batchIn t) (memoryIn (detectorsOf (t .detectorValues) (t .detectorTags) (t .detectors))))

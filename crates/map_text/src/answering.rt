@@ -8,24 +8,24 @@ ghost use Rattle.map_text.specs.StrayMap.{strayMapText};
 pub fn put_stray_map(buf: &mut [u8], at: usize, text: &[u8]) -> usize
     ensures { λ r. ⌜ out (now (buf .exit)) r ≡ putAll (now (buf .entry)) at (strayMapText (now (text .entry))) ⌝ }
 {
-    let mut run = [0.0f64; 7];
-    let mut runs = [0u32; 3];
-    let mut values = [0.0f64; 1386];
-    let mut tags = [0u32; 132];
-    let mut places = [0.0f64; 88];
-    let mut sizes = [0u32; 16];
-    let mut rays = [0.0f64; 32776];
-    let mut marks = [0u32; 40970];
+    let mut run_values = [0.0f64; 7];
+    let mut run_tags = [0u32; 3];
+    let mut solid_values = [0.0f64; 1386];
+    let mut solid_tags = [0u32; 132];
+    let mut detector_values = [0.0f64; 88];
+    let mut detector_tags = [0u32; 16];
+    let mut ray_values = [0.0f64; 32776];
+    let mut ray_tags = [0u32; 40970];
     let r = scene_text::read_scene(
         text,
-        &mut run,
-        &mut runs,
-        &mut values,
-        &mut tags,
-        &mut places,
-        &mut sizes,
-        &mut rays,
-        &mut marks,
+        &mut run_values,
+        &mut run_tags,
+        &mut solid_values,
+        &mut solid_tags,
+        &mut detector_values,
+        &mut detector_tags,
+        &mut ray_values,
+        &mut ray_tags,
     );
     let check = r.check;
     match check {
@@ -35,16 +35,16 @@ pub fn put_stray_map(buf: &mut [u8], at: usize, text: &[u8]) -> usize
         Check::Passed => crate::mapping::put_map(
             buf,
             at,
-            &run,
-            &runs,
-            &values,
-            &tags,
+            &run_values,
+            &run_tags,
+            &solid_values,
+            &solid_tags,
             r.solids,
-            &places,
-            &sizes,
+            &detector_values,
+            &detector_tags,
             r.detectors,
-            &rays,
-            &marks,
+            &ray_values,
+            &ray_tags,
             r.rays,
         ),
     }

@@ -34,36 +34,36 @@ fn put_traced(
     buf: &mut [u8],
     at: usize,
     config: NonSeqTraceConfig,
-    values: &[f64],
-    tags: &[u32],
+    solid_values: &[f64],
+    solid_tags: &[u32],
     solids: u32,
-    rays: &[f64],
-    marks: &[u32],
+    ray_values: &[f64],
+    ray_tags: &[u32],
     given: u32,
     ds: Detectors,
     filter: RayPathFilter,
     flux: &mut [f64],
     hits: &mut [u32],
-    list: &mut [f64],
-    kinds: &mut [u32],
+    hit_values: &mut [f64],
+    hit_tags: &mut [u32],
 ) -> usize
     ensures { λ r. ⌜ out (now (buf .exit)) r ≡ putAll (now (buf .entry)) at
-        (traceText filter (traceRaysOf (lentBatch config (now (values .entry)) (now (tags .entry)) solids (now (rays .entry)) (now (marks .entry)) given)
-        (lentMemory ds (now (flux .entry)) (now (hits .entry)) (now (list .entry)) (now (kinds .entry)) 0))) ⌝ }
+        (traceText filter (traceRaysOf (lentBatch config (now («solid_values» .entry)) (now («solid_tags» .entry)) solids (now («ray_values» .entry)) (now («ray_tags» .entry)) given)
+        (lentMemory ds (now (flux .entry)) (now (hits .entry)) (now («hit_values» .entry)) (now («hit_tags» .entry)) 0))) ⌝ }
 {
     let r = trace::trace_rays(
         config,
-        values,
-        tags,
+        solid_values,
+        solid_tags,
         solids,
-        rays,
-        marks,
+        ray_values,
+        ray_tags,
         given,
         ds,
         flux,
         hits,
-        list,
-        kinds,
+        hit_values,
+        hit_tags,
         0,
     );
     let check = r.check;
@@ -74,7 +74,17 @@ fn put_traced(
             answer_text::put_refusal(buf, at, error.number(), place)
         }
         Check::Passed => {
-            answer_text::put_answer(buf, at, report, after, filter, flux, list, kinds, r.used)
+            answer_text::put_answer(
+                buf,
+                at,
+                report,
+                after,
+                filter,
+                flux,
+                hit_values,
+                hit_tags,
+                r.used,
+            )
         }
     }
 }
@@ -84,44 +94,44 @@ fn put_traced(
 pub fn put_map(
     buf: &mut [u8],
     at: usize,
-    run: &[f64],
-    runs: &[u32],
-    values: &[f64],
-    tags: &[u32],
+    run_values: &[f64],
+    run_tags: &[u32],
+    solid_values: &[f64],
+    solid_tags: &[u32],
     solids: u32,
-    places: &[f64],
-    sizes: &[u32],
+    detector_values: &[f64],
+    detector_tags: &[u32],
     detectors: u32,
-    rays: &[f64],
-    marks: &[u32],
+    ray_values: &[f64],
+    ray_tags: &[u32],
     given: u32,
 ) -> usize
     ensures { λ r. ⌜ out (now (buf .exit)) r ≡ putAll (now (buf .entry)) at
-        (tablesText (tables (now (run .entry)) (now (runs .entry)) (now (values .entry)) (now (tags .entry)) solids (now (places .entry)) (now (sizes .entry)) detectors (now (rays .entry)) (now (marks .entry)) given)) ⌝ }
+        (tablesText (tables (now («run_values» .entry)) (now («run_tags» .entry)) (now («solid_values» .entry)) (now («solid_tags» .entry)) solids (now («detector_values» .entry)) (now («detector_tags» .entry)) detectors (now («ray_values» .entry)) (now («ray_tags» .entry)) given)) ⌝ }
 {
-    let ds = parts::detectors(places, sizes, detectors);
+    let ds = parts::detectors(detector_values, detector_tags, detectors);
     let n = parts::at_most(33, solids);
     let k = parts::at_most(4097, given);
     let p = answer_text::few(ds.all_pixels());
     let mut flux = [0.0f64; 4096];
     let mut hits = [0u32; 4096];
-    let mut list = [0.0f64; 4096];
-    let mut kinds = [0u32; 4096];
+    let mut hit_values = [0.0f64; 4096];
+    let mut hit_tags = [0u32; 4096];
     put_traced(
         buf,
         at,
-        parts::config(run, runs),
-        front(values, n as usize * 42),
-        front_wholes(tags, n as usize * 4),
+        parts::config(run_values, run_tags),
+        front(solid_values, n as usize * 42),
+        front_wholes(solid_tags, n as usize * 4),
         n,
-        front(rays, k as usize * 8),
-        front_wholes(marks, k as usize * 10),
+        front(ray_values, k as usize * 8),
+        front_wholes(ray_tags, k as usize * 10),
         k,
         ds,
-        parts::meant(parts::whole(runs, 1)),
+        parts::meant(parts::whole(run_tags, 1)),
         &mut flux[..p],
         &mut hits[..p],
-        &mut list,
-        &mut kinds,
+        &mut hit_values,
+        &mut hit_tags,
     )
 }

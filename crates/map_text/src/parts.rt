@@ -30,21 +30,21 @@ pub(crate) fn whole(l: &[u32], i: usize) -> u32
     0
 }
 
-pub(crate) fn config(values: &[f64], wholes: &[u32]) -> NonSeqTraceConfig
-    ensures { λ r. ⌜ r ≡ configOf (now (values .entry)) (now (wholes .entry)) ⌝ }
+pub(crate) fn config(run_values: &[f64], run_tags: &[u32]) -> NonSeqTraceConfig
+    ensures { λ r. ⌜ r ≡ configOf (now («run_values» .entry)) (now («run_tags» .entry)) ⌝ }
 {
     let ambient_medium = OpticalMedium::numbered(
-        whole(wholes, 2),
-        value(values, 1),
-        value(values, 2),
-        value(values, 3),
-        value(values, 4),
-        value(values, 5),
-        value(values, 6),
+        whole(run_tags, 2),
+        value(run_values, 1),
+        value(run_values, 2),
+        value(run_values, 3),
+        value(run_values, 4),
+        value(run_values, 5),
+        value(run_values, 6),
     );
     NonSeqTraceConfig {
-        max_bounces: whole(wholes, 0),
-        min_power_threshold: value(values, 0),
+        max_bounces: whole(run_tags, 0),
+        min_power_threshold: value(run_values, 0),
         ambient_medium,
     }
 }
@@ -80,37 +80,37 @@ fn vector(l: &[f64], i: usize, j: usize, k: usize) -> Vec3
 }
 
 // Detector i of eight.
-fn detector(values: &[f64], wholes: &[u32], i: u32) -> Detector2D
-    ensures { λ r. ⌜ r ≡ detectorOf (now (values .entry)) (now (wholes .entry)) i ⌝ }
+fn detector(detector_values: &[f64], detector_tags: &[u32], i: u32) -> Detector2D
+    ensures { λ r. ⌜ r ≡ detectorOf (now («detector_values» .entry)) (now («detector_tags» .entry)) i ⌝ }
 {
     let j = i as usize * 11;
     let k = i as usize * 2;
     Detector2D {
-        center: vector(values, j, j + 1, j + 2),
-        normal: vector(values, j + 3, j + 4, j + 5),
-        up: vector(values, j + 6, j + 7, j + 8),
-        width_mm: value(values, j + 9),
-        height_mm: value(values, j + 10),
-        res_x: whole(wholes, k),
-        res_y: whole(wholes, k + 1),
+        center: vector(detector_values, j, j + 1, j + 2),
+        normal: vector(detector_values, j + 3, j + 4, j + 5),
+        up: vector(detector_values, j + 6, j + 7, j + 8),
+        width_mm: value(detector_values, j + 9),
+        height_mm: value(detector_values, j + 10),
+        res_x: whole(detector_tags, k),
+        res_y: whole(detector_tags, k + 1),
         total_flux_watts: 0.0,
         total_rays_hit: 0,
     }
 }
 
-pub(crate) fn detectors(values: &[f64], wholes: &[u32], count: u32) -> Detectors
-    ensures { λ r. ⌜ r ≡ detectorsOf (now (values .entry)) (now (wholes .entry)) count ⌝ }
+pub(crate) fn detectors(detector_values: &[f64], detector_tags: &[u32], count: u32) -> Detectors
+    ensures { λ r. ⌜ r ≡ detectorsOf (now («detector_values» .entry)) (now («detector_tags» .entry)) count ⌝ }
 {
     Detectors {
         list: [
-            detector(values, wholes, 0),
-            detector(values, wholes, 1),
-            detector(values, wholes, 2),
-            detector(values, wholes, 3),
-            detector(values, wholes, 4),
-            detector(values, wholes, 5),
-            detector(values, wholes, 6),
-            detector(values, wholes, 7),
+            detector(detector_values, detector_tags, 0),
+            detector(detector_values, detector_tags, 1),
+            detector(detector_values, detector_tags, 2),
+            detector(detector_values, detector_tags, 3),
+            detector(detector_values, detector_tags, 4),
+            detector(detector_values, detector_tags, 5),
+            detector(detector_values, detector_tags, 6),
+            detector(detector_values, detector_tags, 7),
         ],
         count,
     }

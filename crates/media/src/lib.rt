@@ -22,7 +22,7 @@ pub enum Place {
 }
 
 // The last of the first `depth` places that holds a solid.
-fn last_of(list: [SolidNo; 24], depth: usize, solid: SolidNo) -> Place
+fn last_place(list: [SolidNo; 24], depth: usize, solid: SolidNo) -> Place
     requires { ⌜ depth ≤ 24 ⌝ }
     ensures { λ r. ⌜ asPlace r ≡ lastPlaceOf list depth solid ⌝ }
 {
@@ -94,7 +94,7 @@ impl Media {
         if self.depth <= Media::MAX {
             let list = self.list;
             let depth = self.depth as usize;
-            return match last_of(list, depth, solid) {
+            return match last_place(list, depth, solid) {
                 Place::At(i) => Media {
                     list: move_down(list, i, depth - 1),
                     depth: self.depth - 1,

@@ -47,7 +47,7 @@ holds-checked s h sound k e =
       lt-ltb d 8 (omega (arith, sound .most)),
       lt-ltb (firstPixelOf l d + pixelAtOf (detectorAt l d) (h .«local_x») (h .«local_y»)) (length (s .flux)) (omega (arith, i, f)),
       lt-ltb (firstPixelOf l d + pixelAtOf (detectorAt l d) (h .«local_x») (h .«local_y»)) (length (s .hits)) (omega (arith, i, g)),
-      eq-eqb (length (s .values)) (length (s .tags)) (t .2),
+      eq-eqb (length (s .hitValues)) (length (s .hitTags)) (t .2),
     )
 
 -- the call that is open to hosts, once the checks passed: only 12 and 13 are left
@@ -95,7 +95,7 @@ module _ (s : Memory) (eight : length (s .detectors .list) ≡ 8) (empty : Empty
   empty-booked = record { kept = ap (added s) none; fit = subst (λ b. AllFit (s .detectors .list) b) (sym none) tt }
     where
       none : listed s ≡ []
-      none = ap (λ n. hitsFrom (s .values) (s .tags) n 0) (empty .used)
+      none = ap (λ n. hitsFrom (s .hitValues) (s .hitTags) n 0) (empty .used)
 
   -- one hit of a detector that is there into any such memory, as in a run
   pub record-books : (m : Memory) (h : DetectorHit) → Fits (s .detectors .list) h → Booked m → Booked (memoryLeft (recordOf m h))

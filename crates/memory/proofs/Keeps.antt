@@ -74,11 +74,11 @@ module _ (s : Memory) (p : ℕ) (k : DetectorHit) where
   unfolding writtenAt
   written-hits = simp length-set
 
-  pub written-values : length (writtenAt s p k .values) ≡ length (s .values)
+  pub written-values : length (writtenAt s p k .hitValues) ≡ length (s .hitValues)
   unfolding writtenAt
   written-values = length-four Float _ _ _ _ _ _
 
-  pub written-tags : length (writtenAt s p k .tags) ≡ length (s .tags)
+  pub written-tags : length (writtenAt s p k .hitTags) ≡ length (s .hitTags)
   unfolding writtenAt
   written-tags = length-four ℕ _ _ _ _ _ _
 
@@ -99,11 +99,11 @@ added-flux = added-keeps (λ m. length (m .flux)) written-flux
 added-hits : (b : List DetectorHit) (s : Memory) → length (added s b .hits) ≡ length (s .hits)
 added-hits = added-keeps (λ m. length (m .hits)) written-hits
 
-added-values : (b : List DetectorHit) (s : Memory) → length (added s b .values) ≡ length (s .values)
-added-values = added-keeps (λ m. length (m .values)) written-values
+added-values : (b : List DetectorHit) (s : Memory) → length (added s b .hitValues) ≡ length (s .hitValues)
+added-values = added-keeps (λ m. length (m .hitValues)) written-values
 
-added-tags : (b : List DetectorHit) (s : Memory) → length (added s b .tags) ≡ length (s .tags)
-added-tags = added-keeps (λ m. length (m .tags)) written-tags
+added-tags : (b : List DetectorHit) (s : Memory) → length (added s b .hitTags) ≡ length (s .hitTags)
+added-tags = added-keeps (λ m. length (m .hitTags)) written-tags
 
 pub added-holds : (b : List DetectorHit) (s : Memory) (h : DetectorHit) → hasPixel (added s b) h ≡ hasPixel s h
 unfolding hasPixel

@@ -68,8 +68,8 @@ pub hit-is : (v : List Float) (t : List ℕ) (i : ℕ) → i < length v / 4 → 
 unfolding hitAtOf
 hit-is v t i a b = rw (lt-ltb i (length v / 4) a, lt-ltb i (length t / 4) b)
 
-module _ (s : Memory) (p : ℕ) (h : DetectorHit) (even : length (s .values) ≡ length (s .tags)) (room : s .used < length (s .values) / 4) where
-  read-old : (i : ℕ) → i < s .used → readHitOf (writtenAt s p h .values) (writtenAt s p h .tags) i ≡ readHitOf (s .values) (s .tags) i
+module _ (s : Memory) (p : ℕ) (h : DetectorHit) (even : length (s .hitValues) ≡ length (s .hitTags)) (room : s .used < length (s .hitValues) / 4) where
+  read-old : (i : ℕ) → i < s .used → readHitOf (writtenAt s p h .hitValues) (writtenAt s p h .hitTags) i ≡ readHitOf (s .hitValues) (s .hitTags) i
   unfolding writtenAt
   read-old i k =
       let p : 4 * i < 4 * s .used = omega arith in
@@ -78,27 +78,27 @@ module _ (s : Memory) (p : ℕ) (h : DetectorHit) (even : length (s .values) ≡
       let u : 4 * i + 3 < 4 * s .used = omega arith in
       simp four-before
 
-  read-new : readHitOf (writtenAt s p h .values) (writtenAt s p h .tags) (s .used) ≡ h
+  read-new : readHitOf (writtenAt s p h .hitValues) (writtenAt s p h .hitTags) (s .used) ≡ h
   unfolding writtenAt
   read-new =
-      let p : 4 * s .used + 4 ≤ length (s .values) = omega arith in
-      let q : 4 * s .used + 4 ≤ length (s .tags) = omega arith in
+      let p : 4 * s .used + 4 ≤ length (s .hitValues) = omega arith in
+      let q : 4 * s .used + 4 ≤ length (s .hitTags) = omega arith in
       simp (four-0, four-1, four-2, four-3)
 
-  hit-there : (i : ℕ) → i ≤ s .used → hitAtOf (writtenAt s p h .values) (writtenAt s p h .tags) i ≡ readHitOf (writtenAt s p h .values) (writtenAt s p h .tags) i
+  hit-there : (i : ℕ) → i ≤ s .used → hitAtOf (writtenAt s p h .hitValues) (writtenAt s p h .hitTags) i ≡ readHitOf (writtenAt s p h .hitValues) (writtenAt s p h .hitTags) i
   hit-there i k = hit-is _ _ i (rw (written-values s p h) (omega arith)) (rw (written-tags s p h, sym even) (omega arith))
 
-  hit-old : (i : ℕ) → i < s .used → hitAtOf (writtenAt s p h .values) (writtenAt s p h .tags) i ≡ hitAtOf (s .values) (s .tags) i
-  hit-old i k = hit-there i (omega arith) ∙ read-old i k ∙ sym (hit-is (s .values) (s .tags) i (omega arith) (rw (sym even) (omega arith)))
+  hit-old : (i : ℕ) → i < s .used → hitAtOf (writtenAt s p h .hitValues) (writtenAt s p h .hitTags) i ≡ hitAtOf (s .hitValues) (s .hitTags) i
+  hit-old i k = hit-there i (omega arith) ∙ read-old i k ∙ sym (hit-is (s .hitValues) (s .hitTags) i (omega arith) (rw (sym even) (omega arith)))
 
-  pub listed-written : hitsFrom (writtenAt s p h .values) (writtenAt s p h .tags) (s .used + 1) 0 ≡ listed s ++ h ∷ []
+  pub listed-written : hitsFrom (writtenAt s p h .hitValues) (writtenAt s p h .hitTags) (s .used + 1) 0 ≡ listed s ++ h ∷ []
   listed-written =
-      hits-snoc (writtenAt s p h .values) (writtenAt s p h .tags) (s .used) 0
-      ∙ ap (λ r. r ++ hitAtOf (writtenAt s p h .values) (writtenAt s p h .tags) (0 + s .used) ∷ []) (hits-same _ _ _ _ (s .used) 0 (λ i l. hit-old i (omega arith)))
-      ∙ ap (λ k. listed s ++ k ∷ []) (ap (hitAtOf (writtenAt s p h .values) (writtenAt s p h .tags)) (zero-add (s .used)) ∙ hit-there (s .used) (omega arith) ∙ read-new)
+      hits-snoc (writtenAt s p h .hitValues) (writtenAt s p h .hitTags) (s .used) 0
+      ∙ ap (λ r. r ++ hitAtOf (writtenAt s p h .hitValues) (writtenAt s p h .hitTags) (0 + s .used) ∷ []) (hits-same _ _ _ _ (s .used) 0 (λ i l. hit-old i (omega arith)))
+      ∙ ap (λ k. listed s ++ k ∷ []) (ap (hitAtOf (writtenAt s p h .hitValues) (writtenAt s p h .hitTags)) (zero-add (s .used)) ∙ hit-there (s .used) (omega arith) ∙ read-new)
 
 -- the hits added are read behind those listed before
-pub listed-added : (b : List DetectorHit) (s : Memory) → length (s .values) ≡ length (s .tags) → s .used + length b ≤ capacity s → listed (added s b) ≡ listed s ++ b
+pub listed-added : (b : List DetectorHit) (s : Memory) → length (s .hitValues) ≡ length (s .hitTags) → s .used + length b ≤ capacity s → listed (added s b) ≡ listed s ++ b
 unfolding added capacity writtenAt
 listed-added [] s g k = sym (append-nil (listed s))
 listed-added (h ∷ b) s g k =

@@ -89,7 +89,7 @@ judged-same a a′ b b′ m n n′ ea eb en = cc
 
 -- what a memory that holds a hit has
 pub held : (s : Memory) (h : DetectorHit) → hasPixel s h ≡ true
-    → (h .detector .0 < 8) × (cellIn (s .detectors .list) h < length (s .flux)) × (cellIn (s .detectors .list) h < length (s .hits)) × (length (s .values) ≡ length (s .tags))
+    → (h .detector .0 < 8) × (cellIn (s .detectors .list) h < length (s .flux)) × (cellIn (s .detectors .list) h < length (s .hits)) × (length (s .hitValues) ≡ length (s .hitTags))
 unfolding hasPixel
 held s h e =
     let f = both (ltb (h .detector .0) 8) _ e in
@@ -127,9 +127,9 @@ module _ (s : Memory) (eight : length (s .detectors .list) ≡ 8) (empty : Empty
       go false e = rw (added-holds b s h, e)
 
   -- the list of the memory is the book, as long as it holds no more than the slices
-  pub same-list : (b : List DetectorHit) → length (s .values) ≡ length (s .tags) → length b ≤ capacity s → listed (added s b) ≡ b
+  pub same-list : (b : List DetectorHit) → length (s .hitValues) ≡ length (s .hitTags) → length b ≤ capacity s → listed (added s b) ≡ b
   unfolding hitsFrom
-  same-list b g k = listed-added b s g (let e = empty .used in omega arith) ∙ ap (λ n. hitsFrom (s .values) (s .tags) n 0 ++ b) (empty .used)
+  same-list b g k = listed-added b s g (let e = empty .used in omega arith) ∙ ap (λ n. hitsFrom (s .hitValues) (s .hitTags) n 0 ++ b) (empty .used)
 
   -- ---- what every recording keeps: the memory is the empty one with its listed hits added in list order
 

@@ -25,29 +25,29 @@ use Rattle.memory.specs.declared.recording.Recorded.{Recorded}
 use Rattle.memory.specs.Memory.{asRecorded, refusedOf, Memory, Outcome, done, refused, lentMemory, capacity, hitDetector, raised, four, writtenAt, maxCount, judged, putOf, cellOf, cellIn, inMapsOf, hasPixel, recordOf, areLengthsOf, isMemory, recordHitClassifiedOf}
 
 module _ (s : Memory) (p : ℕ) (h : DetectorHit) where
-  pub put-full : length (s .values) / 4 ≤ s .used → (r : Recorded) → r ≡ refusedOf HitListFull (s .detectors) (s .used) → asRecorded r (s .flux) (s .hits) (s .values) (s .tags) ≡ putOf s p h
+  pub put-full : length (s .hitValues) / 4 ≤ s .used → (r : Recorded) → r ≡ refusedOf HitListFull (s .detectors) (s .used) → asRecorded r (s .flux) (s .hits) (s .hitValues) (s .hitTags) ≡ putOf s p h
   unfolding putOf judged capacity
-  put-full k r e = rw (e, le-leb (length (s .values) / 4) (s .used) k)
+  put-full k r e = rw (e, le-leb (length (s .hitValues) / 4) (s .used) k)
 
-  module _ (room : s .used < length (s .values) / 4) where
-    pub put-pixel : getD (s .hits) p 0 ≡ maxCount → (r : Recorded) → r ≡ refusedOf HitCountFull (s .detectors) (s .used) → asRecorded r (s .flux) (s .hits) (s .values) (s .tags) ≡ putOf s p h
+  module _ (room : s .used < length (s .hitValues) / 4) where
+    pub put-pixel : getD (s .hits) p 0 ≡ maxCount → (r : Recorded) → r ≡ refusedOf HitCountFull (s .detectors) (s .used) → asRecorded r (s .flux) (s .hits) (s .hitValues) (s .hitTags) ≡ putOf s p h
     unfolding putOf judged capacity
-    put-pixel k r e = rw (e, lt-leb (length (s .values) / 4) (s .used) room, eq-eqb (getD (s .hits) p 0) maxCount k)
+    put-pixel k r e = rw (e, lt-leb (length (s .hitValues) / 4) (s .used) room, eq-eqb (getD (s .hits) p 0) maxCount k)
 
     module _ (more : getD (s .hits) p 0 ≡ maxCount → ⊥) where
-      pub put-count : hitDetector s h .«total_rays_hit» ≡ maxCount → (r : Recorded) → r ≡ refusedOf HitCountFull (s .detectors) (s .used) → asRecorded r (s .flux) (s .hits) (s .values) (s .tags) ≡ putOf s p h
+      pub put-count : hitDetector s h .«total_rays_hit» ≡ maxCount → (r : Recorded) → r ≡ refusedOf HitCountFull (s .detectors) (s .used) → asRecorded r (s .flux) (s .hits) (s .hitValues) (s .hitTags) ≡ putOf s p h
       unfolding putOf judged capacity
-      put-count k r e = rw (e, lt-leb (length (s .values) / 4) (s .used) room, ne-eqb (getD (s .hits) p 0) maxCount more, eq-eqb (hitDetector s h .«total_rays_hit») maxCount k)
+      put-count k r e = rw (e, lt-leb (length (s .hitValues) / 4) (s .used) room, ne-eqb (getD (s .hits) p 0) maxCount more, eq-eqb (hitDetector s h .«total_rays_hit») maxCount k)
 
       pub put-done : (hitDetector s h .«total_rays_hit» ≡ maxCount → ⊥) → (l : List Detector2D) (v : List Float) (t : List ℕ)
-          → v ≡ four Float (s .values) (4 * s .used) (h .«local_x») (h .«local_y») (h .«flux_watts») (h .«wavelength_nm»)
-          → t ≡ four ℕ (s .tags) (4 * s .used) (h .detector .0) (h .«bounce_count») (h .«reflection_count») (h .«tir_count»)
+          → v ≡ four Float (s .hitValues) (4 * s .used) (h .«local_x») (h .«local_y») (h .«flux_watts») (h .«wavelength_nm»)
+          → t ≡ four ℕ (s .hitTags) (4 * s .used) (h .detector .0) (h .«bounce_count») (h .«reflection_count») (h .«tir_count»)
           → l ≡ set (s .detectors .list) (h .detector .0) (raised (hitDetector s h) (h .«flux_watts»))
           → done (lentMemory (record { list = l; count = s .detectors .count }) (set (s .flux) p (add binary64 (getD (s .flux) p nan) (h .«flux_watts»))) (set (s .hits) p (getD (s .hits) p 0 + 1)) v t (s .used + 1))
           ≡ putOf s p h
       unfolding putOf judged capacity writtenAt
       put-done k l v t ev et el =
-          rw (ev, et, el, lt-leb (length (s .values) / 4) (s .used) room, ne-eqb (getD (s .hits) p 0) maxCount more, ne-eqb (hitDetector s h .«total_rays_hit») maxCount k)
+          rw (ev, et, el, lt-leb (length (s .hitValues) / 4) (s .used) room, ne-eqb (getD (s .hits) p 0) maxCount more, ne-eqb (hitDetector s h .«total_rays_hit») maxCount k)
 
 -- what two tests that both held say
 pub both : (x y : Bool) → (x && y) ≡ true → (x ≡ true) × (y ≡ true)
@@ -64,7 +64,7 @@ told-lengths p nf nh nv nt b told k =
 -- what `record` and `record_hit_classified` know at theirs
 module _ (s : Memory) (h : DetectorHit) where
   module _ (r : Spot) (said : asSpot r ≡ atOf (s .detectors) (h .detector)) where
-    pub record-nowhere : r ≡ Nowhere → (r : Recorded) → r ≡ refusedOf InvalidSliceLength (s .detectors) (s .used) → asRecorded r (s .flux) (s .hits) (s .values) (s .tags) ≡ recordOf s h
+    pub record-nowhere : r ≡ Nowhere → (r : Recorded) → r ≡ refusedOf InvalidSliceLength (s .detectors) (s .used) → asRecorded r (s .flux) (s .hits) (s .hitValues) (s .hitTags) ≡ recordOf s h
     unfolding recordOf hasPixel
     record-nowhere k r e = rw (e, nowhere (s .detectors) (h .detector) (sym said ∙ ap asSpot k))
 
@@ -73,12 +73,12 @@ module _ (s : Memory) (h : DetectorHit) where
       is-there = there (s .detectors) (h .detector) d (sym said ∙ ap asSpot k)
 
       module _ (p : ℕ) (placed : p ≡ cellOf d h) (b : Bool)
-          (told : b ≡ inMapsOf p (length (s .flux)) (length (s .hits)) (length (s .values)) (length (s .tags))) where
+          (told : b ≡ inMapsOf p (length (s .flux)) (length (s .hits)) (length (s .hitValues)) (length (s .hitTags))) where
         at-cell : p ≡ cellIn (s .detectors .list) h
         unfolding cellIn
         at-cell = placed ∙ ap (λ x. cellOf x h) (is-there .1)
 
-        pub record-outside : b ≡ false → (r : Recorded) → r ≡ refusedOf InvalidSliceLength (s .detectors) (s .used) → asRecorded r (s .flux) (s .hits) (s .values) (s .tags) ≡ recordOf s h
+        pub record-outside : b ≡ false → (r : Recorded) → r ≡ refusedOf InvalidSliceLength (s .detectors) (s .used) → asRecorded r (s .flux) (s .hits) (s .hitValues) (s .hitTags) ≡ recordOf s h
         unfolding recordOf hasPixel
         record-outside t r e = rw (e, lt-ltb (h .detector .0) 8 (is-there .0), ← at-cell, ← told, t)
 
@@ -92,8 +92,8 @@ module _ (s : Memory) (h : DetectorHit) where
     asked-refused x place k = rw (← said, k)
 
     module _ (d : Placed) (there : a ≡ There d) (b : Bool)
-        (told : b ≡ areLengthsOf (s .detectors) (length (s .flux)) (length (s .hits)) (length (s .values)) (length (s .tags)) (s .used)) where
-      pub lengths-refused : b ≡ false → (r : Recorded) → r ≡ refusedOf InvalidSliceLength (s .detectors) (s .used) → asRecorded r (s .flux) (s .hits) (s .values) (s .tags) ≡ recordHitClassifiedOf s h
+        (told : b ≡ areLengthsOf (s .detectors) (length (s .flux)) (length (s .hits)) (length (s .hitValues)) (length (s .hitTags)) (s .used)) where
+      pub lengths-refused : b ≡ false → (r : Recorded) → r ≡ refusedOf InvalidSliceLength (s .detectors) (s .used) → asRecorded r (s .flux) (s .hits) (s .hitValues) (s .hitTags) ≡ recordHitClassifiedOf s h
       unfolding recordHitClassifiedOf isMemory
       lengths-refused k r e = rw (e, ← said, there, ← told, k)
 

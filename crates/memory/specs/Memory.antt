@@ -22,12 +22,12 @@ pub record Memory : Type 0 where
   pub detectors : Detectors
   pub flux : List Float
   pub hits : List ℕ
-  pub values : List Float
-  pub tags : List ℕ
+  pub hitValues : List Float
+  pub hitTags : List ℕ
   pub used : ℕ
 
 abbrev pub lentMemory : Detectors → List Float → List ℕ → List Float → List ℕ → ℕ → Memory
-lentMemory ds f h v t n = record { detectors = ds; flux = f; hits = h; values = v; tags = t; used = n }
+lentMemory ds f h v t n = record { detectors = ds; flux = f; hits = h; hitValues = v; hitTags = t; used = n }
 
 -- what a call leaves: done, or the number and the place of the refusal
 pub data Outcome (M : Type 0) : Type 0 where
@@ -77,10 +77,10 @@ hitsFrom v t zero i = []
 hitsFrom v t (suc n) i = hitAtOf v t i ∷ hitsFrom v t n (i + 1)
 
 abbrev pub listed : Memory → List DetectorHit
-listed s = hitsFrom (s .values) (s .tags) (s .used) 0
+listed s = hitsFrom (s .hitValues) (s .hitTags) (s .used) 0
 
 unfoldable pub capacity : Memory → ℕ
-capacity s = length (s .values) / 4
+capacity s = length (s .hitValues) / 4
 
 -- four values stored from a place on
 unfoldable pub four : (A : Type 0) → List A → ℕ → A → A → A → A → List A
@@ -121,8 +121,8 @@ writtenAt s p h =
       detectors = record { list = set (s .detectors .list) (h .detector .0) (raised (hitDetector s h) (h .«flux_watts»)); count = s .detectors .count };
       flux = set (s .flux) p (add binary64 (getD (s .flux) p nan) (h .«flux_watts»));
       hits = set (s .hits) p (getD (s .hits) p 0 + 1);
-      values = four Float (s .values) i (h .«local_x») (h .«local_y») (h .«flux_watts») (h .«wavelength_nm»);
-      tags = four ℕ (s .tags) i (h .detector .0) (h .«bounce_count») (h .«reflection_count») (h .«tir_count»);
+      hitValues = four Float (s .hitValues) i (h .«local_x») (h .«local_y») (h .«flux_watts») (h .«wavelength_nm»);
+      hitTags = four ℕ (s .hitTags) i (h .detector .0) (h .«bounce_count») (h .«reflection_count») (h .«tir_count»);
       used = s .used + 1;
     }
 
@@ -145,7 +145,7 @@ inMapsOf p nf nh nv nt = ltb p nf && (ltb p nh && eqb nv nt)
 unfoldable pub hasPixel : Memory → DetectorHit → Bool
 hasPixel s h =
     ltb (h .detector .0) maxDetectors
-    && inMapsOf (cellIn (s .detectors .list) h) (length (s .flux)) (length (s .hits)) (length (s .values)) (length (s .tags))
+    && inMapsOf (cellIn (s .detectors .list) h) (length (s .flux)) (length (s .hits)) (length (s .hitValues)) (length (s .hitTags))
 
 -- one hit into any memory: wholly or not at all
 unfoldable pub recordOf : Memory → DetectorHit → Outcome Memory
@@ -162,7 +162,7 @@ unfoldable pub areLengthsOf : Detectors → ℕ → ℕ → ℕ → ℕ → ℕ 
 areLengthsOf ds nf nh nv nt used = eqb nf (allPixelsOf ds) && (eqb nh (allPixelsOf ds) && isHitListOf nv nt used)
 
 unfoldable pub isMemory : Memory → Bool
-isMemory s = areLengthsOf (s .detectors) (length (s .flux)) (length (s .hits)) (length (s .values)) (length (s .tags)) (s .used)
+isMemory s = areLengthsOf (s .detectors) (length (s .flux)) (length (s .hits)) (length (s .hitValues)) (length (s .hitTags)) (s .used)
 
 -- an outcome, unless a check before it refuses and leaves all as it is
 abbrev pub unless : {A M : Type 0} → Checked A → M → Outcome M → Outcome M

@@ -8,20 +8,20 @@ ghost use lib.ListN.{length};
 ghost use Rattle.memory.specs.Memory.{readHitOf, noHitOf, hitAtOf, four};
 
 // Hit i of slices that hold it.
-fn read_hit(values: &[f64], tags: &[u32], i: usize) -> DetectorHit
-    requires { ⌜ (4 * i + 4 ≤ length (now values)) × (4 * i + 4 ≤ length (now tags)) ⌝ }
-    ensures { λ r. ⌜ r ≡ readHitOf (now (values .entry)) (now (tags .entry)) i ⌝ }
+fn read_hit(hit_values: &[f64], hit_tags: &[u32], i: usize) -> DetectorHit
+    requires { ⌜ (4 * i + 4 ≤ length (now «hit_values»)) × (4 * i + 4 ≤ length (now «hit_tags»)) ⌝ }
+    ensures { λ r. ⌜ r ≡ readHitOf (now («hit_values» .entry)) (now («hit_tags» .entry)) i ⌝ }
 {
     let at = 4 * i;
     DetectorHit {
-        local_x: values[at],
-        local_y: values[at + 1],
-        flux_watts: values[at + 2],
-        wavelength_nm: values[at + 3],
-        detector: DetectorNo(tags[at]),
-        bounce_count: tags[at + 1],
-        reflection_count: tags[at + 2],
-        tir_count: tags[at + 3],
+        local_x: hit_values[at],
+        local_y: hit_values[at + 1],
+        flux_watts: hit_values[at + 2],
+        wavelength_nm: hit_values[at + 3],
+        detector: DetectorNo(hit_tags[at]),
+        bounce_count: hit_tags[at + 1],
+        reflection_count: hit_tags[at + 2],
+        tir_count: hit_tags[at + 3],
     }
 }
 
@@ -43,34 +43,34 @@ fn no_hit() -> DetectorHit
 }
 
 // Hit i of the list.
-pub fn hit_at(values: &[f64], tags: &[u32], i: usize) -> DetectorHit
-    ensures { λ r. ⌜ r ≡ hitAtOf (now (values .entry)) (now (tags .entry)) i ⌝ }
+pub fn hit_at(hit_values: &[f64], hit_tags: &[u32], i: usize) -> DetectorHit
+    ensures { λ r. ⌜ r ≡ hitAtOf (now («hit_values» .entry)) (now («hit_tags» .entry)) i ⌝ }
 {
     let none = no_hit();
-    if i < values.len() / 4 {
-        if i < tags.len() / 4 {
-            return read_hit(values, tags, i);
+    if i < hit_values.len() / 4 {
+        if i < hit_tags.len() / 4 {
+            return read_hit(hit_values, hit_tags, i);
         }
     }
     none
 }
 
-pub(crate) fn put_values(values: &mut [f64], at: usize, h: DetectorHit)
-    requires { ⌜ at + 4 ≤ length (now values) ⌝ }
-    ensures { λ _. ⌜ now (values .exit) ≡ four Float (now (values .entry)) at (h .«local_x») (h .«local_y») (h .«flux_watts») (h .«wavelength_nm») ⌝ }
+pub(crate) fn put_hit_values(hit_values: &mut [f64], at: usize, h: DetectorHit)
+    requires { ⌜ at + 4 ≤ length (now «hit_values») ⌝ }
+    ensures { λ _. ⌜ now («hit_values» .exit) ≡ four Float (now («hit_values» .entry)) at (h .«local_x») (h .«local_y») (h .«flux_watts») (h .«wavelength_nm») ⌝ }
 {
-    values[at] = h.local_x;
-    values[at + 1] = h.local_y;
-    values[at + 2] = h.flux_watts;
-    values[at + 3] = h.wavelength_nm;
+    hit_values[at] = h.local_x;
+    hit_values[at + 1] = h.local_y;
+    hit_values[at + 2] = h.flux_watts;
+    hit_values[at + 3] = h.wavelength_nm;
 }
 
-pub(crate) fn put_tags(tags: &mut [u32], at: usize, h: DetectorHit)
-    requires { ⌜ at + 4 ≤ length (now tags) ⌝ }
-    ensures { λ _. ⌜ now (tags .exit) ≡ four ℕ (now (tags .entry)) at (h .detector .0) (h .«bounce_count») (h .«reflection_count») (h .«tir_count») ⌝ }
+pub(crate) fn put_hit_tags(hit_tags: &mut [u32], at: usize, h: DetectorHit)
+    requires { ⌜ at + 4 ≤ length (now «hit_tags») ⌝ }
+    ensures { λ _. ⌜ now («hit_tags» .exit) ≡ four ℕ (now («hit_tags» .entry)) at (h .detector .0) (h .«bounce_count») (h .«reflection_count») (h .«tir_count») ⌝ }
 {
-    tags[at] = h.detector.0;
-    tags[at + 1] = h.bounce_count;
-    tags[at + 2] = h.reflection_count;
-    tags[at + 3] = h.tir_count;
+    hit_tags[at] = h.detector.0;
+    hit_tags[at + 1] = h.bounce_count;
+    hit_tags[at + 2] = h.reflection_count;
+    hit_tags[at + 3] = h.tir_count;
 }

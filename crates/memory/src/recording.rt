@@ -1,6 +1,6 @@
 // Recording: one hit added to its pixel, to its detector and to the hit list, wholly or not at all.
-use crate::hits::put_tags;
-use crate::hits::put_values;
+use crate::hits::put_hit_tags;
+use crate::hits::put_hit_values;
 use detector::Detector2D;
 use detector::DetectorHit;
 use detectors::Detectors;
@@ -43,12 +43,12 @@ fn cell(p: Placed, h: DetectorHit) -> usize
 }
 
 // Whether a place lies in both maps, and the hit slices are alike.
-fn in_maps(p: usize, flux: usize, hits: usize, values: usize, tags: usize) -> bool
-    ensures { λ r. ⌜ r ≡ inMapsOf p flux hits values tags ⌝ }
+fn in_maps(p: usize, flux: usize, hits: usize, hit_values: usize, hit_tags: usize) -> bool
+    ensures { λ r. ⌜ r ≡ inMapsOf p flux hits «hit_values» «hit_tags» ⌝ }
 {
     if p < flux {
         if p < hits {
-            return values == tags;
+            return hit_values == hit_tags;
         }
     }
     false
@@ -72,20 +72,20 @@ fn put(
     detectors: Detectors,
     flux: &mut [f64],
     hits: &mut [u32],
-    values: &mut [f64],
-    tags: &mut [u32],
+    hit_values: &mut [f64],
+    hit_tags: &mut [u32],
     used: usize,
     h: DetectorHit,
     p: usize,
 ) -> Recorded
-    requires { ⌜ (h .detector .0 < 8) × (p < length (now flux)) × (p < length (now hits)) × (length (now values) ≡ length (now tags)) ⌝ }
-    ensures { λ r. ⌜ asRecorded r (now (flux .exit)) (now (hits .exit)) (now (values .exit)) (now (tags .exit))
-        ≡ putOf (lentMemory detectors (now (flux .entry)) (now (hits .entry)) (now (values .entry)) (now (tags .entry)) used) p h ⌝ }
+    requires { ⌜ (h .detector .0 < 8) × (p < length (now flux)) × (p < length (now hits)) × (length (now «hit_values») ≡ length (now «hit_tags»)) ⌝ }
+    ensures { λ r. ⌜ asRecorded r (now (flux .exit)) (now (hits .exit)) (now («hit_values» .exit)) (now («hit_tags» .exit))
+        ≡ putOf (lentMemory detectors (now (flux .entry)) (now (hits .entry)) (now («hit_values» .entry)) (now («hit_tags» .entry)) used) p h ⌝ }
 {
     let list = detectors.list;
     let d = h.detector.0 as usize;
     let e = list[d];
-    if values.len() / 4 <= used {
+    if hit_values.len() / 4 <= used {
         return refused(NonSeqError::HitListFull, detectors, used);
     }
     if hits[p] == 4294967295 {
@@ -96,8 +96,8 @@ fn put(
     }
     flux[p] = flux[p] + h.flux_watts;
     hits[p] = hits[p] + 1;
-    put_values(values, 4 * used, h);
-    put_tags(tags, 4 * used, h);
+    put_hit_values(hit_values, 4 * used, h);
+    put_hit_tags(hit_tags, 4 * used, h);
     let next = Detectors {
         list: raise(list, d, h.flux_watts),
         count: detectors.count,
@@ -114,19 +114,19 @@ pub fn record(
     detectors: Detectors,
     flux: &mut [f64],
     hits: &mut [u32],
-    values: &mut [f64],
-    tags: &mut [u32],
+    hit_values: &mut [f64],
+    hit_tags: &mut [u32],
     used: usize,
     h: DetectorHit,
 ) -> Recorded
-    ensures { λ r. ⌜ asRecorded r (now (flux .exit)) (now (hits .exit)) (now (values .exit)) (now (tags .exit))
-        ≡ recordOf (lentMemory detectors (now (flux .entry)) (now (hits .entry)) (now (values .entry)) (now (tags .entry)) used) h ⌝ }
+    ensures { λ r. ⌜ asRecorded r (now (flux .exit)) (now (hits .exit)) (now («hit_values» .exit)) (now («hit_tags» .exit))
+        ≡ recordOf (lentMemory detectors (now (flux .entry)) (now (hits .entry)) (now («hit_values» .entry)) (now («hit_tags» .entry)) used) h ⌝ }
 {
     match detectors.at(h.detector) {
         Spot::There(d) => {
             let p = cell(d, h);
-            if in_maps(p, flux.len(), hits.len(), values.len(), tags.len()) {
-                return put(detectors, flux, hits, values, tags, used, h, p);
+            if in_maps(p, flux.len(), hits.len(), hit_values.len(), hit_tags.len()) {
+                return put(detectors, flux, hits, hit_values, hit_tags, used, h, p);
             }
             refused(NonSeqError::InvalidSliceLength, detectors, used)
         }
@@ -135,12 +135,12 @@ pub fn record(
 }
 
 // Whether slices of these lengths are a hit list with so many hits used.
-pub fn is_hit_list(values: usize, tags: usize, used: usize) -> bool
-    ensures { λ r. ⌜ r ≡ isHitListOf values tags used ⌝ }
+pub fn is_hit_list(hit_values: usize, hit_tags: usize, used: usize) -> bool
+    ensures { λ r. ⌜ r ≡ isHitListOf «hit_values» «hit_tags» used ⌝ }
 {
-    if values == tags {
-        if values % 4 == 0 {
-            return used <= values / 4;
+    if hit_values == hit_tags {
+        if hit_values % 4 == 0 {
+            return used <= hit_values / 4;
         }
     }
     false
@@ -151,16 +151,16 @@ pub fn are_lengths(
     detectors: Detectors,
     flux: usize,
     hits: usize,
-    values: usize,
-    tags: usize,
+    hit_values: usize,
+    hit_tags: usize,
     used: usize,
 ) -> bool
-    ensures { λ r. ⌜ r ≡ areLengthsOf detectors flux hits values tags used ⌝ }
+    ensures { λ r. ⌜ r ≡ areLengthsOf detectors flux hits «hit_values» «hit_tags» used ⌝ }
 {
     let pixels = detectors.all_pixels();
     if flux == pixels {
         if hits == pixels {
-            return is_hit_list(values, tags, used);
+            return is_hit_list(hit_values, hit_tags, used);
         }
     }
     false
@@ -172,13 +172,13 @@ pub fn record_hit_classified(
     detectors: Detectors,
     flux: &mut [f64],
     hits: &mut [u32],
-    values: &mut [f64],
-    tags: &mut [u32],
+    hit_values: &mut [f64],
+    hit_tags: &mut [u32],
     used: usize,
     h: DetectorHit,
 ) -> Recorded
-    ensures { λ r. ⌜ asRecorded r (now (flux .exit)) (now (hits .exit)) (now (values .exit)) (now (tags .exit))
-        ≡ recordHitClassifiedOf (lentMemory detectors (now (flux .entry)) (now (hits .entry)) (now (values .entry)) (now (tags .entry)) used) h ⌝ }
+    ensures { λ r. ⌜ asRecorded r (now (flux .exit)) (now (hits .exit)) (now («hit_values» .exit)) (now («hit_tags» .exit))
+        ≡ recordHitClassifiedOf (lentMemory detectors (now (flux .entry)) (now (hits .entry)) (now («hit_values» .entry)) (now («hit_tags» .entry)) used) h ⌝ }
 {
     match detectors.find(h.detector) {
         Found::Refused { error, place } => Recorded {
@@ -191,11 +191,11 @@ pub fn record_hit_classified(
                 detectors,
                 flux.len(),
                 hits.len(),
-                values.len(),
-                tags.len(),
+                hit_values.len(),
+                hit_tags.len(),
                 used,
             ) {
-                return record(detectors, flux, hits, values, tags, used, h);
+                return record(detectors, flux, hits, hit_values, hit_tags, used, h);
             }
             refused(NonSeqError::InvalidSliceLength, detectors, used)
         }

@@ -1,5 +1,5 @@
 // The ledger: the powers of a tracing, in watts, added up in step order.
-use step::Fate;
+use step::End;
 ghost use mathlib.Core.Path.{_≡_};
 ghost use Rattle.step.specs.Rays.{asEnd};
 ghost use Rattle.report.specs.Report.{detectOf, absorbOf, escapeOf, unlessMadeOf, ledgerAfterOf, energyConservationRatioOf};
@@ -57,16 +57,16 @@ impl Ledger {
     }
 
     // After what became of a ray of some power; the flags say which of its rays were made.
-    pub fn after(self, power: f64, fate: Fate, first: bool, second: bool) -> Ledger
-        ensures { λ r. ⌜ r ≡ ledgerAfterOf self power (asEnd fate) first second ⌝ }
+    pub fn after(self, power: f64, end: End, first: bool, second: bool) -> Ledger
+        ensures { λ r. ⌜ r ≡ ledgerAfterOf self power (asEnd end) first second ⌝ }
     {
-        match fate {
-            Fate::Dim => self.absorb(power),
-            Fate::Spent => self.absorb(power),
-            Fate::Gone => self.escape(power),
-            Fate::Caught(_) => self.detect(power),
-            Fate::Stopped(left) => self.absorb(left),
-            Fate::Parted {
+        match end {
+            End::Dim => self.absorb(power),
+            End::Spent => self.absorb(power),
+            End::Gone => self.escape(power),
+            End::Caught(_) => self.detect(power),
+            End::Stopped(left) => self.absorb(left),
+            End::Parted {
                 reflected,
                 transmitted,
                 total: _,
@@ -74,7 +74,7 @@ impl Ledger {
                 let l = self.unless_made(first, reflected);
                 l.unless_made(second, transmitted)
             }
-            Fate::Refused(_) => self,
+            End::Refused(_) => self,
         }
     }
 

@@ -3,11 +3,11 @@ mod ledger;
 mod tallies;
 
 pub use ledger::Ledger;
+use step::End;
+use step::Step;
+use step::more;
 pub use tallies::Tallies;
 use tallies::more_if;
-use step::Event;
-use step::Fate;
-use step::more;
 ghost use mathlib.Core.Path.{_≡_};
 ghost use Rattle.step.specs.Rays.{asEnd, asStep};
 ghost use Rattle.report.specs.Report.{isInteractionOf, reportAfterOf, countedOf, startReportOf};
@@ -22,21 +22,21 @@ pub struct NonSeqTraceReport {
 }
 
 // Whether what became of a ray is an interaction.
-fn is_interaction(fate: Fate) -> bool
-    ensures { λ r. ⌜ r ≡ isInteractionOf (asEnd fate) ⌝ }
+fn is_interaction(end: End) -> bool
+    ensures { λ r. ⌜ r ≡ isInteractionOf (asEnd end) ⌝ }
 {
-    match fate {
-        Fate::Dim => false,
-        Fate::Spent => false,
-        Fate::Gone => true,
-        Fate::Caught(_) => true,
-        Fate::Stopped(_) => true,
-        Fate::Parted {
+    match end {
+        End::Dim => false,
+        End::Spent => false,
+        End::Gone => true,
+        End::Caught(_) => true,
+        End::Stopped(_) => true,
+        End::Parted {
             reflected: _,
             transmitted: _,
             total: _,
         } => true,
-        Fate::Refused(_) => true,
+        End::Refused(_) => true,
     }
 }
 
@@ -67,17 +67,17 @@ impl NonSeqTraceReport {
     }
 
     // After a step that was not refused.
-    pub fn after(self, power: f64, event: Event) -> NonSeqTraceReport
-        ensures { λ r. ⌜ r ≡ reportAfterOf self power (asStep event) ⌝ }
+    pub fn after(self, power: f64, step: Step) -> NonSeqTraceReport
+        ensures { λ r. ⌜ r ≡ reportAfterOf self power (asStep step) ⌝ }
     {
         let ledger = self.ledger;
         let tallies = self.tallies;
-        let fate = event.fate;
+        let end = step.end;
         NonSeqTraceReport {
-            ledger: ledger.after(power, fate, event.first, event.second),
+            ledger: ledger.after(power, end, step.first, step.second),
             total_rays_traced: self.total_rays_traced,
-            total_interactions: more_if(is_interaction(fate), self.total_interactions),
-            tallies: tallies.after(fate, event.first, event.second),
+            total_interactions: more_if(is_interaction(end), self.total_interactions),
+            tallies: tallies.after(end, step.first, step.second),
         }
     }
 

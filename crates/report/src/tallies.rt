@@ -1,5 +1,5 @@
 // The tallies: how many rays were made, and what became of how many.
-use step::Fate;
+use step::End;
 use step::more;
 ghost use mathlib.Core.Path.{_≡_};
 ghost use mathlib.Core.Bool.{true, false, cond};
@@ -92,21 +92,21 @@ impl Tallies {
     }
 
     // After what became of a ray; the flags say which of its rays were made.
-    pub fn after(self, fate: Fate, first: bool, second: bool) -> Tallies
-        ensures { λ r. ⌜ r ≡ talliesAfterOf self (asEnd fate) first second ⌝ }
+    pub fn after(self, end: End, first: bool, second: bool) -> Tallies
+        ensures { λ r. ⌜ r ≡ talliesAfterOf self (asEnd end) first second ⌝ }
     {
-        match fate {
-            Fate::Dim => self.add_dim(),
-            Fate::Spent => self.add_spent(),
-            Fate::Gone => self.add_gone(),
-            Fate::Caught(_) => self.add_caught(),
-            Fate::Stopped(_) => self.add_surface(first, second, false, false),
-            Fate::Parted {
+        match end {
+            End::Dim => self.add_dim(),
+            End::Spent => self.add_spent(),
+            End::Gone => self.add_gone(),
+            End::Caught(_) => self.add_caught(),
+            End::Stopped(_) => self.add_surface(first, second, false, false),
+            End::Parted {
                 reflected: _,
                 transmitted: _,
                 total,
             } => self.add_surface(first, second, opposite(first), faint(total, second)),
-            Fate::Refused(_) => self,
+            End::Refused(_) => self,
         }
     }
 }

@@ -17,7 +17,7 @@ use Rattle.memory.specs.declared.recording.Recorded.{Recorded}
 use Rattle.memory.specs.Memory.{Memory, lentMemory, Outcome, done, refused, unless, asOutcome, asRecorded, recordOf}
 use Rattle.memory.proofs.Records.{both}
 use Rattle.step.specs.declared.ActiveRay.{ActiveRay}
-use Rattle.step.specs.declared.Event.{Event}
+use Rattle.step.specs.declared.Step as code
 use Rattle.step.specs.Rays.{Scene, Step, asStep}
 use Rattle.step.specs.Turn.{takeStepOf}
 use Rattle.report.specs.declared.NonSeqTraceReport.{NonSeqTraceReport}
@@ -75,7 +75,7 @@ module _ (S : Scene) (given : ℕ → ActiveRay) where
       (tested : b ≡ goesOnOf c k (stack .len) left) (on : b ≡ true)
       (inv : andThen (drive recordOf S given k) (asOutcome c m) (progressOf stack left report) ≡ z)
       (t : Taken) (took : t ≡ takenFrom given stack left)
-      (e : Event) (came : asStep e ≡ takeStepOf S (t .ray))
+      (e : code.Step) (came : asStep e ≡ takeStepOf S (t .ray))
       (after : NonSeqTraceReport) (added : after ≡ reportAfterOf report (t .ray .ray .energy) (asStep e))
       (next : Stack) (pushed : next ≡ stackAfter stack (asStep e))
       (q : Catch) (caught : asCatch q ≡ hitInOf (asStep e .end)) where

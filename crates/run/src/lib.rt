@@ -37,25 +37,25 @@ pub struct Advanced {
 // hits of the steps before it stay.
 pub fn advance(
     config: NonSeqTraceConfig,
-    values: &[f64],
-    tags: &[u32],
+    solid_values: &[f64],
+    solid_tags: &[u32],
     count: u32,
     faces: Faces,
-    rays: &[f64],
-    marks: &[u32],
+    ray_values: &[f64],
+    ray_tags: &[u32],
     progress: Progress,
     steps: u32,
     detectors: Detectors,
     flux: &mut [f64],
     hits: &mut [u32],
-    places: &mut [f64],
-    kinds: &mut [u32],
+    hit_values: &mut [f64],
+    hit_tags: &mut [u32],
     used: usize,
 ) -> Advanced
-    ensures { λ r. ⌜ asAdvanced r (now (flux .exit)) (now (hits .exit)) (now (places .exit)) (now (kinds .exit))
-        ≡ drive recordOf (listedScene (now (values .entry)) (now (tags .entry)) count faces config)
-        (givenAtOf (now (rays .entry)) (now (marks .entry))) steps
-        (lentMemory detectors (now (flux .entry)) (now (hits .entry)) (now (places .entry)) (now (kinds .entry)) used) progress ⌝ }
+    ensures { λ r. ⌜ asAdvanced r (now (flux .exit)) (now (hits .exit)) (now («hit_values» .exit)) (now («hit_tags» .exit))
+        ≡ drive recordOf (listedScene (now («solid_values» .entry)) (now («solid_tags» .entry)) count faces config)
+        (givenAtOf (now («ray_values» .entry)) (now («ray_tags» .entry))) steps
+        (lentMemory detectors (now (flux .entry)) (now (hits .entry)) (now («hit_values» .entry)) (now («hit_tags» .entry)) used) progress ⌝ }
 {
     let mut check = Check::Passed;
     let mut stack = progress.stack;
@@ -67,17 +67,17 @@ pub fn advance(
     while settling::goes_on(check, k, stack.len, left) {
         k -= 1;
         let newest = stack.rays[stack::top_at(stack.len)];
-        let t = stack::take(newest, stack.len, left, rays, marks);
-        let e = step::turn(config, values, tags, count, faces, t.ray);
+        let t = stack::take(newest, stack.len, left, ray_values, ray_tags);
+        let e = step::take_step(config, solid_values, solid_tags, count, faces, t.ray);
         let after = report.after(t.ray.ray.energy, e);
         left = t.left;
         let at = stack::under(stack.len);
         let slot = stack::slot(at);
         stack.len = stack::height(e.first, e.second, at);
-        let fate = e.fate;
-        match settling::hit_in(fate) {
+        let end = e.end;
+        match settling::hit_in(end) {
             Catch::Hit(h) => {
-                let r = memory::record(ds, flux, hits, places, kinds, n, h);
+                let r = memory::record(ds, flux, hits, hit_values, hit_tags, n, h);
                 ds = r.detectors;
                 n = r.used;
                 let c = r.check;
@@ -86,7 +86,7 @@ pub fn advance(
             }
             Catch::Nothing => {
                 report = after;
-                check = settling::refusal_in(fate, left);
+                check = settling::refusal_in(end, left);
                 let reflected = e.reflected;
                 let transmitted = e.transmitted;
                 match stack::rays_coming(e.first, e.second, at) {

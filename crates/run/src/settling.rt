@@ -1,8 +1,8 @@
 // What a step means for the memory and the report.
-use error::Check;
 use detector::DetectorHit;
+use error::Check;
 use report::NonSeqTraceReport;
-use step::Fate;
+use step::End;
 ghost use mathlib.Core.Path.{_≡_};
 ghost use Rattle.error.specs.Refusals.{asChecked};
 ghost use Rattle.step.specs.Rays.{asEnd};
@@ -14,40 +14,40 @@ pub enum Catch {
     Nothing,
 }
 
-pub(crate) fn hit_in(fate: Fate) -> Catch
-    ensures { λ r. ⌜ asCatch r ≡ hitInOf (asEnd fate) ⌝ }
+pub(crate) fn hit_in(end: End) -> Catch
+    ensures { λ r. ⌜ asCatch r ≡ hitInOf (asEnd end) ⌝ }
 {
-    match fate {
-        Fate::Dim => Catch::Nothing,
-        Fate::Spent => Catch::Nothing,
-        Fate::Gone => Catch::Nothing,
-        Fate::Caught(h) => Catch::Hit(h),
-        Fate::Stopped(_) => Catch::Nothing,
-        Fate::Parted {
+    match end {
+        End::Dim => Catch::Nothing,
+        End::Spent => Catch::Nothing,
+        End::Gone => Catch::Nothing,
+        End::Caught(h) => Catch::Hit(h),
+        End::Stopped(_) => Catch::Nothing,
+        End::Parted {
             reflected: _,
             transmitted: _,
             total: _,
         } => Catch::Nothing,
-        Fate::Refused(_) => Catch::Nothing,
+        End::Refused(_) => Catch::Nothing,
     }
 }
 
 // A step's refusal (14 to 16), at the given ray's place.
-pub(crate) fn refusal_in(fate: Fate, place: u32) -> Check
-    ensures { λ r. ⌜ asChecked r ≡ refusalInOf (asEnd fate) place ⌝ }
+pub(crate) fn refusal_in(end: End, place: u32) -> Check
+    ensures { λ r. ⌜ asChecked r ≡ refusalInOf (asEnd end) place ⌝ }
 {
-    match fate {
-        Fate::Dim => Check::Passed,
-        Fate::Spent => Check::Passed,
-        Fate::Gone => Check::Passed,
-        Fate::Caught(_) => Check::Passed,
-        Fate::Stopped(_) => Check::Passed,
-        Fate::Parted {
+    match end {
+        End::Dim => Check::Passed,
+        End::Spent => Check::Passed,
+        End::Gone => Check::Passed,
+        End::Caught(_) => Check::Passed,
+        End::Stopped(_) => Check::Passed,
+        End::Parted {
             reflected: _,
             transmitted: _,
             total: _,
         } => Check::Passed,
-        Fate::Refused(error) => Check::Refused { error, place },
+        End::Refused(error) => Check::Refused { error, place },
     }
 }
 

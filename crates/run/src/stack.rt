@@ -35,12 +35,12 @@ fn fewer(left: u32) -> u32
 }
 
 // The last given ray that is left.
-fn load(left: u32, values: &[f64], tags: &[u32]) -> Taken
-    ensures { λ r. ⌜ r ≡ loadOf (givenAtOf (now (values .entry)) (now (tags .entry))) left ⌝ }
+fn load(left: u32, ray_values: &[f64], ray_tags: &[u32]) -> Taken
+    ensures { λ r. ⌜ r ≡ loadOf (givenAtOf (now («ray_values» .entry)) (now («ray_tags» .entry))) left ⌝ }
 {
     let next = fewer(left);
     Taken {
-        ray: given_rays::given_at(values, tags, next),
+        ray: given_rays::given_at(ray_values, ray_tags, next),
         left: next,
     }
 }
@@ -59,16 +59,22 @@ pub(crate) fn top_at(len: usize) -> usize
 }
 
 // The newest ray: the top of the stack, or else the last given ray that is left.
-pub(crate) fn take(top: ActiveRay, len: usize, left: u32, values: &[f64], tags: &[u32]) -> Taken
-    ensures { λ r. ⌜ r ≡ takeOf (givenAtOf (now (values .entry)) (now (tags .entry))) top len left ⌝ }
+pub(crate) fn take(
+    top: ActiveRay,
+    len: usize,
+    left: u32,
+    ray_values: &[f64],
+    ray_tags: &[u32],
+) -> Taken
+    ensures { λ r. ⌜ r ≡ takeOf (givenAtOf (now («ray_values» .entry)) (now («ray_tags» .entry))) top len left ⌝ }
 {
     if 0 < len {
         if len <= 17 {
             return Taken { ray: top, left };
         }
-        return load(left, values, tags);
+        return load(left, ray_values, ray_tags);
     }
-    load(left, values, tags)
+    load(left, ray_values, ray_tags)
 }
 
 // One ray fewer; none stays none.

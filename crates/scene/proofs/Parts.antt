@@ -8,7 +8,7 @@ use Rattle.rays.specs.Matrices.{transformPointOf, transformDirectionOf}
 use Rattle.geometry.specs.declared.LocalHit.{LocalHit}
 use Rattle.geometry.specs.declared.PrimitiveGeometry.{PrimitiveGeometry}
 use Rattle.geometry.specs.declared.meeting.Meeting.{Meeting}
-use Rattle.geometry.specs.declared.meeting.Met as met
+use Rattle.geometry.specs.declared.meeting.LocalMeeting as met
 use Rattle.geometry.specs.Shapes.{intersectLocalOf}
 use Rattle.geometry.specs.Transforms.{inverseTransformRayOf}
 use Rattle.geometry.specs.Meetings.{asMeeting, rayFromOf, meetBy, meetAlongOf, meetOf}
@@ -44,12 +44,12 @@ meets o r g w m a p q e =
     ∙ ap (λ (v : PrimitiveGeometry). reachedBy (o .transform .matrix) r (meetOf v w r)) (sym p)
     ∙ ap (reachedBy (o .transform .matrix) r) (sym e)
 
-pub approach-met : (o : NonSeqObject) (r : Ray) (g : PrimitiveGeometry) (m w : Mat4) (k : met.Met) (a : Meeting) (x : Option Approach) → o .«is_active» ≡ true → g ≡ o .geometry → w ≡ o .transform .inverse → m ≡ o .transform .matrix → asMeeting k ≡ meetOf g w r → k ≡ met.the-variants.At a → x ≡ reachedOf m r (a .point) (a .hit) → x ≡ approachOf o r
+pub approach-met : (o : NonSeqObject) (r : Ray) (g : PrimitiveGeometry) (m w : Mat4) (k : met.LocalMeeting) (a : Meeting) (x : Option Approach) → o .«is_active» ≡ true → g ≡ o .geometry → w ≡ o .transform .inverse → m ≡ o .transform .matrix → asMeeting k ≡ meetOf g w r → k ≡ met.the-variants.At a → x ≡ reachedOf m r (a .point) (a .hit) → x ≡ approachOf o r
 unfolding reachedBy
 approach-met o r g m w k a x e p q s t u v =
     v ∙ ap (λ (n : Mat4). reachedOf n r (a .point) (a .hit)) s ∙ sym (meets o r g w (some a) e p q (sym (ap asMeeting u) ∙ t))
 
-pub approach-missed : (o : NonSeqObject) (r : Ray) (g : PrimitiveGeometry) (w : Mat4) (k : met.Met) → o .«is_active» ≡ true → g ≡ o .geometry → w ≡ o .transform .inverse → asMeeting k ≡ meetOf g w r → k ≡ met.the-variants.Miss → none ≡ approachOf o r
+pub approach-missed : (o : NonSeqObject) (r : Ray) (g : PrimitiveGeometry) (w : Mat4) (k : met.LocalMeeting) → o .«is_active» ≡ true → g ≡ o .geometry → w ≡ o .transform .inverse → asMeeting k ≡ meetOf g w r → k ≡ met.the-variants.Miss → none ≡ approachOf o r
 unfolding reachedBy
 approach-missed o r g w k e p q t u = sym (meets o r g w none e p q (sym (ap asMeeting u) ∙ t))
 

@@ -42,21 +42,34 @@ fn distance(best: Nearest) -> f64
 }
 
 // The hit of an approach to the solid at a place, if its normal can be made.
-fn arrive_at(values: &[f64], tags: &[u32], place: u32, ray: Ray, approach: Approach) -> Intersection
-    ensures { λ r. ⌜ asHit r ≡ arriveAtOf (objectAtOf (now (values .entry)) (now (tags .entry)) place) ray approach ⌝ }
+fn arrive_at(
+    solid_values: &[f64],
+    solid_tags: &[u32],
+    place: u32,
+    ray: Ray,
+    approach: Approach,
+) -> Intersection
+    ensures { λ r. ⌜ asHit r ≡ arriveAtOf (objectAtOf (now («solid_values» .entry)) (now («solid_tags» .entry)) place) ray approach ⌝ }
 {
-    match solids::object_at(values, tags, place) {
+    match solids::object_at(solid_values, solid_tags, place) {
         Listed::Object(object) => object.arrive(ray, approach),
         Listed::Nothing => Intersection::Miss,
     }
 }
 
 // Whether an approach to solid i is kept: in a strict search only if its normal can be made.
-fn is_kept(values: &[f64], tags: &[u32], i: u32, ray: Ray, strict: bool, approach: Approach) -> bool
-    ensures { λ r. ⌜ r ≡ isKeptOf strict (arriveAtOf (objectAtOf (now (values .entry)) (now (tags .entry)) i) ray approach) ⌝ }
+fn is_kept(
+    solid_values: &[f64],
+    solid_tags: &[u32],
+    i: u32,
+    ray: Ray,
+    strict: bool,
+    approach: Approach,
+) -> bool
+    ensures { λ r. ⌜ r ≡ isKeptOf strict (arriveAtOf (objectAtOf (now («solid_values» .entry)) (now («solid_tags» .entry)) i) ray approach) ⌝ }
 {
     if strict {
-        return match arrive_at(values, tags, i, ray, approach) {
+        return match arrive_at(solid_values, solid_tags, i, ray, approach) {
             Intersection::Hit(_) => true,
             Intersection::Miss => false,
         };
@@ -66,19 +79,19 @@ fn is_kept(values: &[f64], tags: &[u32], i: u32, ray: Ray, strict: bool, approac
 
 // The nearest approach so far, or that of solid i.
 fn nearer_candidate(
-    values: &[f64],
-    tags: &[u32],
+    solid_values: &[f64],
+    solid_tags: &[u32],
     i: u32,
     ray: Ray,
     strict: bool,
     best: Nearest,
 ) -> Nearest
-    ensures { λ r. ⌜ asCandidate r ≡ nearerOf Candidate candidateDistance (asCandidate best) (candidatesIn strict (objectAtOf (now (values .entry)) (now (tags .entry))) ray i) ⌝ }
+    ensures { λ r. ⌜ asCandidate r ≡ nearerOf Candidate candidateDistance (asCandidate best) (candidatesIn strict (objectAtOf (now («solid_values» .entry)) (now («solid_tags» .entry))) ray i) ⌝ }
 {
-    match solids::approach_at(values, tags, i, ray) {
+    match solids::approach_at(solid_values, solid_tags, i, ray) {
         Approached::At(approach) => {
             if nearest::is_nearer(approach.t, distance(best)) {
-                if is_kept(values, tags, i, ray, strict, approach) {
+                if is_kept(solid_values, solid_tags, i, ray, strict, approach) {
                     return Nearest::At(Candidate { place: i, approach });
                 }
                 return best;
@@ -90,26 +103,32 @@ fn nearer_candidate(
 }
 
 // The nearest approach of the first `count` solids.
-fn nearest_candidate(values: &[f64], tags: &[u32], count: u32, ray: Ray, strict: bool) -> Nearest
-    ensures { λ r. ⌜ asCandidate r ≡ nearestAmong Candidate candidateDistance (candidatesIn strict (objectAtOf (now (values .entry)) (now (tags .entry))) ray) count ⌝ }
+fn nearest_candidate(
+    solid_values: &[f64],
+    solid_tags: &[u32],
+    count: u32,
+    ray: Ray,
+    strict: bool,
+) -> Nearest
+    ensures { λ r. ⌜ asCandidate r ≡ nearestAmong Candidate candidateDistance (candidatesIn strict (objectAtOf (now («solid_values» .entry)) (now («solid_tags» .entry))) ray) count ⌝ }
 {
     let mut best = Nearest::Nothing;
     let mut i: u32 = 0;
     while i < count {
-        best = nearer_candidate(values, tags, i, ray, strict, best);
+        best = nearer_candidate(solid_values, solid_tags, i, ray, strict, best);
         i += 1;
     }
     best
 }
 
 // With a normal for each approach that is nearer than those before it.
-fn closest_strictly(values: &[f64], tags: &[u32], count: u32, ray: Ray) -> Intersection
-    ensures { λ r. ⌜ asHit r ≡ closestObjectOf (objectAtOf (now (values .entry)) (now (tags .entry))) count ray ⌝ }
+fn closest_strictly(solid_values: &[f64], solid_tags: &[u32], count: u32, ray: Ray) -> Intersection
+    ensures { λ r. ⌜ asHit r ≡ closestObjectOf (objectAtOf (now («solid_values» .entry)) (now («solid_tags» .entry))) count ray ⌝ }
 {
-    match nearest_candidate(values, tags, count, ray, true) {
+    match nearest_candidate(solid_values, solid_tags, count, ray, true) {
         Nearest::At(c) => {
             let approach = c.approach;
-            arrive_at(values, tags, c.place, ray, approach)
+            arrive_at(solid_values, solid_tags, c.place, ray, approach)
         }
         Nearest::Nothing => Intersection::Miss,
     }
@@ -118,15 +137,20 @@ fn closest_strictly(values: &[f64], tags: &[u32], count: u32, ray: Ray) -> Inter
 // The nearest of the first `count` solids, passing over what is no solid of these lists: for callers
 // that have checked them. Only the nearest approach gets a normal; where that can't be made, the search is
 // made again.
-pub fn closest_object(values: &[f64], tags: &[u32], count: u32, ray: Ray) -> Intersection
-    ensures { λ r. ⌜ asHit r ≡ closestObjectOf (objectAtOf (now (values .entry)) (now (tags .entry))) count ray ⌝ }
+pub fn closest_object(
+    solid_values: &[f64],
+    solid_tags: &[u32],
+    count: u32,
+    ray: Ray,
+) -> Intersection
+    ensures { λ r. ⌜ asHit r ≡ closestObjectOf (objectAtOf (now («solid_values» .entry)) (now («solid_tags» .entry))) count ray ⌝ }
 {
-    match nearest_candidate(values, tags, count, ray, false) {
+    match nearest_candidate(solid_values, solid_tags, count, ray, false) {
         Nearest::At(c) => {
             let approach = c.approach;
-            match arrive_at(values, tags, c.place, ray, approach) {
+            match arrive_at(solid_values, solid_tags, c.place, ray, approach) {
                 Intersection::Hit(h) => Intersection::Hit(h),
-                Intersection::Miss => closest_strictly(values, tags, count, ray),
+                Intersection::Miss => closest_strictly(solid_values, solid_tags, count, ray),
             }
         }
         Nearest::Nothing => Intersection::Miss,
@@ -134,14 +158,19 @@ pub fn closest_object(values: &[f64], tags: &[u32], count: u32, ray: Ray) -> Int
 }
 
 // The nearest solid. Lists that do not fit are refused (17), then more than 32 solids (3).
-pub fn intersect_closest_object(values: &[f64], tags: &[u32], count: u32, ray: Ray) -> Closest
-    ensures { λ r. ⌜ asClosest r ≡ intersectClosestObjectOf (now (values .entry)) (now (tags .entry)) count ray ⌝ }
+pub fn intersect_closest_object(
+    solid_values: &[f64],
+    solid_tags: &[u32],
+    count: u32,
+    ray: Ray,
+) -> Closest
+    ensures { λ r. ⌜ asClosest r ≡ intersectClosestObjectOf (now («solid_values» .entry)) (now («solid_tags» .entry)) count ray ⌝ }
 {
-    match solids::check_solids(values, tags, count) {
+    match solids::check_solids(solid_values, solid_tags, count) {
         Check::Refused { error, place } => Closest::Refused { error, place },
         Check::Passed => {
             if count <= 32 {
-                return Closest::Found(closest_object(values, tags, count, ray));
+                return Closest::Found(closest_object(solid_values, solid_tags, count, ray));
             }
             Closest::Refused {
                 error: NonSeqError::ListTooLong,

@@ -3,7 +3,7 @@ use crate::Intersection;
 use crate::NonSeqHit;
 use crate::NonSeqObject;
 use geometry::LocalHit;
-use geometry::Met;
+use geometry::LocalMeeting;
 use geometry::UnitVector;
 use rays::Mat4;
 use rays::Ray;
@@ -59,11 +59,11 @@ impl NonSeqObject {
         let transform = self.transform;
         if self.is_active {
             return match geometry.meet(transform.inverse, ray) {
-                Met::At(m) => {
+                LocalMeeting::At(m) => {
                     let hit = m.hit;
                     reached(transform.matrix, ray, m.point, hit)
                 }
-                Met::Miss => Approached::Miss,
+                LocalMeeting::Miss => Approached::Miss,
             };
         }
         Approached::Miss

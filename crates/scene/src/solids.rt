@@ -7,7 +7,7 @@ use crate::object;
 use crate::object::Approached;
 use error::Check;
 use error::NonSeqError;
-use geometry::Met;
+use geometry::LocalMeeting;
 use geometry::PrimitiveGeometry;
 use geometry::Transform3D;
 use material::OpticalMedium;
@@ -28,57 +28,62 @@ pub enum Listed {
     Nothing,
 }
 
-fn row_at(values: &[f64], i: usize) -> Row
-    requires { ⌜ i + 4 ≤ length (now values) ⌝ }
-    ensures { λ r. ⌜ r ≡ rowAtOf (now (values .entry)) i ⌝ }
+fn row_at(solid_values: &[f64], i: usize) -> Row
+    requires { ⌜ i + 4 ≤ length (now «solid_values») ⌝ }
+    ensures { λ r. ⌜ r ≡ rowAtOf (now («solid_values» .entry)) i ⌝ }
 {
     Row {
-        a: values[i],
-        b: values[i + 1],
-        c: values[i + 2],
-        d: values[i + 3],
+        a: solid_values[i],
+        b: solid_values[i + 1],
+        c: solid_values[i + 2],
+        d: solid_values[i + 3],
     }
 }
 
-fn mat_at(values: &[f64], i: usize) -> Mat4
-    requires { ⌜ i + 16 ≤ length (now values) ⌝ }
-    ensures { λ r. ⌜ r ≡ matAtOf (now (values .entry)) i ⌝ }
+fn mat_at(solid_values: &[f64], i: usize) -> Mat4
+    requires { ⌜ i + 16 ≤ length (now «solid_values») ⌝ }
+    ensures { λ r. ⌜ r ≡ matAtOf (now («solid_values» .entry)) i ⌝ }
 {
     Mat4 {
-        r0: row_at(values, i),
-        r1: row_at(values, i + 4),
-        r2: row_at(values, i + 8),
-        r3: row_at(values, i + 12),
+        r0: row_at(solid_values, i),
+        r1: row_at(solid_values, i + 4),
+        r2: row_at(solid_values, i + 8),
+        r3: row_at(solid_values, i + 12),
     }
 }
 
 // Solid i of lists that hold it.
-fn read_object(values: &[f64], tags: &[u32], i: u32) -> NonSeqObject
-    requires { ⌜ (i * 42 + 42 ≤ length (now values)) × (i * 4 + 4 ≤ length (now tags)) ⌝ }
-    ensures { λ r. ⌜ r ≡ readObjectOf (now (values .entry)) (now (tags .entry)) i ⌝ }
+fn read_object(solid_values: &[f64], solid_tags: &[u32], i: u32) -> NonSeqObject
+    requires { ⌜ (i * 42 + 42 ≤ length (now «solid_values»)) × (i * 4 + 4 ≤ length (now «solid_tags»)) ⌝ }
+    ensures { λ r. ⌜ r ≡ readObjectOf (now («solid_values» .entry)) (now («solid_tags» .entry)) i ⌝ }
 {
     let a = i as usize * 42;
     let b = i as usize * 4;
-    let matrix = mat_at(values, a + 10);
-    let inverse = mat_at(values, a + 26);
-    let geometry = PrimitiveGeometry::numbered(tags[b], values[a], values[a + 1], values[a + 2]);
+    let matrix = mat_at(solid_values, a + 10);
+    let inverse = mat_at(solid_values, a + 26);
+    let geometry = PrimitiveGeometry::numbered(
+        solid_tags[b],
+        solid_values[a],
+        solid_values[a + 1],
+        solid_values[a + 2],
+    );
     NonSeqObject {
         id: SolidNo(i),
         geometry,
         transform: Transform3D { matrix, inverse },
-        is_active: tags[b + 1] == 1,
+        is_active: solid_tags[b + 1] == 1,
     }
 }
 
 // Solid i, if the lists hold it and its shape has a number that is one.
-pub fn object_at(values: &[f64], tags: &[u32], i: u32) -> Listed
-    ensures { λ r. ⌜ asObject r ≡ objectAtOf (now (values .entry)) (now (tags .entry)) i ⌝ }
+pub fn object_at(solid_values: &[f64], solid_tags: &[u32], i: u32) -> Listed
+    ensures { λ r. ⌜ asObject r ≡ objectAtOf (now («solid_values» .entry)) (now («solid_tags» .entry)) i ⌝ }
 {
     let b = i as usize * 4;
-    if i as usize * 42 + 42 <= values.len() {
-        if b + 4 <= tags.len() {
-            if tags[b] <= PrimitiveGeometry::LAST {
-                return Listed::Object(read_object(values, tags, i));
+    if i as usize * 42 + 42 <= solid_values.len() {
+        if b + 4 <= solid_tags.len() {
+            if solid_tags[b] <= PrimitiveGeometry::LAST {
+                return Listed::Object(read_object(solid_values, solid_tags, i));
             }
         }
     }
@@ -86,40 +91,40 @@ pub fn object_at(values: &[f64], tags: &[u32], i: u32) -> Listed
 }
 
 // Where a ray meets solid i of lists that hold it. The solid's matrix is read only where its shape is met.
-fn approach_in(values: &[f64], tags: &[u32], i: u32, ray: Ray) -> Approached
-    requires { ⌜ (i * 42 + 42 ≤ length (now values)) × (i * 4 + 4 ≤ length (now tags)) ⌝ }
-    ensures { λ r. ⌜ asApproach r ≡ approachOf (readObjectOf (now (values .entry)) (now (tags .entry)) i) ray ⌝ }
+fn approach_in(solid_values: &[f64], solid_tags: &[u32], i: u32, ray: Ray) -> Approached
+    requires { ⌜ (i * 42 + 42 ≤ length (now «solid_values»)) × (i * 4 + 4 ≤ length (now «solid_tags»)) ⌝ }
+    ensures { λ r. ⌜ asApproach r ≡ approachOf (readObjectOf (now («solid_values» .entry)) (now («solid_tags» .entry)) i) ray ⌝ }
 {
     let a = i as usize * 42;
     let b = i as usize * 4;
-    if tags[b + 1] == 1 {
-        let inverse = mat_at(values, a + 26);
+    if solid_tags[b + 1] == 1 {
+        let inverse = mat_at(solid_values, a + 26);
         let geometry = PrimitiveGeometry::numbered(
-            tags[b],
-            values[a],
-            values[a + 1],
-            values[a + 2],
+            solid_tags[b],
+            solid_values[a],
+            solid_values[a + 1],
+            solid_values[a + 2],
         );
         return match geometry.meet(inverse, ray) {
-            Met::At(m) => {
+            LocalMeeting::At(m) => {
                 let hit = m.hit;
-                object::reached(mat_at(values, a + 10), ray, m.point, hit)
+                object::reached(mat_at(solid_values, a + 10), ray, m.point, hit)
             }
-            Met::Miss => Approached::Miss,
+            LocalMeeting::Miss => Approached::Miss,
         };
     }
     Approached::Miss
 }
 
 // Where a ray meets solid i, if the lists hold it.
-pub(crate) fn approach_at(values: &[f64], tags: &[u32], i: u32, ray: Ray) -> Approached
-    ensures { λ r. ⌜ asApproach r ≡ approachAtOf (objectAtOf (now (values .entry)) (now (tags .entry)) i) ray ⌝ }
+pub(crate) fn approach_at(solid_values: &[f64], solid_tags: &[u32], i: u32, ray: Ray) -> Approached
+    ensures { λ r. ⌜ asApproach r ≡ approachAtOf (objectAtOf (now («solid_values» .entry)) (now («solid_tags» .entry)) i) ray ⌝ }
 {
     let shape = i as usize * 4;
-    if i as usize * 42 + 42 <= values.len() {
-        if shape + 4 <= tags.len() {
-            if tags[shape] <= PrimitiveGeometry::LAST {
-                return approach_in(values, tags, i, ray);
+    if i as usize * 42 + 42 <= solid_values.len() {
+        if shape + 4 <= solid_tags.len() {
+            if solid_tags[shape] <= PrimitiveGeometry::LAST {
+                return approach_in(solid_values, solid_tags, i, ray);
             }
         }
     }
@@ -127,37 +132,37 @@ pub(crate) fn approach_at(values: &[f64], tags: &[u32], i: u32, ray: Ray) -> App
 }
 
 // The finish of a solid; clear for one that the lists do not hold.
-pub fn finish_at(values: &[f64], tags: &[u32], solid: SolidNo) -> SurfaceFinish
-    ensures { λ r. ⌜ r ≡ finishAtOf (now (values .entry)) (now (tags .entry)) solid ⌝ }
+pub fn finish_at(solid_values: &[f64], solid_tags: &[u32], solid: SolidNo) -> SurfaceFinish
+    ensures { λ r. ⌜ r ≡ finishAtOf (now («solid_values» .entry)) (now («solid_tags» .entry)) solid ⌝ }
 {
     let i = solid.0;
     let a = i as usize * 42;
     let b = i as usize * 4;
-    if a + 42 <= values.len() {
-        if b + 4 <= tags.len() {
-            return SurfaceFinish::numbered(tags[b + 2], values[a + 3]);
+    if a + 42 <= solid_values.len() {
+        if b + 4 <= solid_tags.len() {
+            return SurfaceFinish::numbered(solid_tags[b + 2], solid_values[a + 3]);
         }
     }
     SurfaceFinish::Specular
 }
 
 // The medium of a solid; air for one that the lists do not hold.
-pub fn medium_at(values: &[f64], tags: &[u32], solid: SolidNo) -> OpticalMedium
-    ensures { λ r. ⌜ r ≡ mediumAtOf (now (values .entry)) (now (tags .entry)) solid ⌝ }
+pub fn medium_at(solid_values: &[f64], solid_tags: &[u32], solid: SolidNo) -> OpticalMedium
+    ensures { λ r. ⌜ r ≡ mediumAtOf (now («solid_values» .entry)) (now («solid_tags» .entry)) solid ⌝ }
 {
     let i = solid.0;
     let a = i as usize * 42;
     let b = i as usize * 4;
-    if a + 42 <= values.len() {
-        if b + 4 <= tags.len() {
+    if a + 42 <= solid_values.len() {
+        if b + 4 <= solid_tags.len() {
             return OpticalMedium::numbered(
-                tags[b + 3],
-                values[a + 4],
-                values[a + 5],
-                values[a + 6],
-                values[a + 7],
-                values[a + 8],
-                values[a + 9],
+                solid_tags[b + 3],
+                solid_values[a + 4],
+                solid_values[a + 5],
+                solid_values[a + 6],
+                solid_values[a + 7],
+                solid_values[a + 8],
+                solid_values[a + 9],
             );
         }
     }
@@ -179,14 +184,19 @@ fn tags_fit(shape: u32, active: u32, finish: u32, medium: u32) -> bool
 }
 
 // The first solid whose whole numbers are not in range is refused (17).
-fn check_tags(tags: &[u32], count: u32) -> Check
-    requires { ⌜ count * 4 ≤ length (now tags) ⌝ }
-    ensures { λ r. ⌜ asChecked r ≡ checkTagsOf (now (tags .entry)) count 0 ⌝ }
+fn check_tags(solid_tags: &[u32], count: u32) -> Check
+    requires { ⌜ count * 4 ≤ length (now «solid_tags») ⌝ }
+    ensures { λ r. ⌜ asChecked r ≡ checkTagsOf (now («solid_tags» .entry)) count 0 ⌝ }
 {
     let mut i: u32 = 0;
     while i < count {
         let b = i as usize * 4;
-        if tags_fit(tags[b], tags[b + 1], tags[b + 2], tags[b + 3]) {
+        if tags_fit(
+            solid_tags[b],
+            solid_tags[b + 1],
+            solid_tags[b + 2],
+            solid_tags[b + 3],
+        ) {
             i += 1;
         } else {
             return Check::Refused {
@@ -199,12 +209,12 @@ fn check_tags(tags: &[u32], count: u32) -> Check
 }
 
 // Whether the lists are those of so many solids, each with whole numbers in range (17).
-pub fn check_solids(values: &[f64], tags: &[u32], count: u32) -> Check
-    ensures { λ r. ⌜ asChecked r ≡ checkSolidsOf (now (values .entry)) (now (tags .entry)) count ⌝ }
+pub fn check_solids(solid_values: &[f64], solid_tags: &[u32], count: u32) -> Check
+    ensures { λ r. ⌜ asChecked r ≡ checkSolidsOf (now («solid_values» .entry)) (now («solid_tags» .entry)) count ⌝ }
 {
-    if values.len() == count as usize * 42 {
-        if tags.len() == count as usize * 4 {
-            return check_tags(tags, count);
+    if solid_values.len() == count as usize * 42 {
+        if solid_tags.len() == count as usize * 4 {
+            return check_tags(solid_tags, count);
         }
     }
     Check::Refused {

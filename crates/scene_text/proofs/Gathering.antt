@@ -98,14 +98,14 @@ tally-is c o n i j k a b e f g = rw (a, b, e, f, g)
 
 slices-are :
     (c : Contents) (m : Slices) (x1 : List Float) (x2 : List ℕ) (x3 : List Float) (x4 : List ℕ) (x5 : List Float) (x6 : List ℕ) (x7 : List Float) (x8 : List ℕ) →
-    x1 ≡ doublesIn (m .run) (c .run) →
-    x2 ≡ wholesIn (m .runs) (c .run) →
-    x3 ≡ doublesIn (m .solids) (c .solids) →
-    x4 ≡ wholesIn (m .tags) (c .solids) →
-    x5 ≡ doublesIn (m .detectors) (c .detectors) →
-    x6 ≡ wholesIn (m .sizes) (c .detectors) →
-    x7 ≡ doublesIn (m .rays) (c .rays) →
-    x8 ≡ wholesIn (m .marks) (c .rays) →
+    x1 ≡ doublesIn (m .runValues) (c .run) →
+    x2 ≡ wholesIn (m .runTags) (c .run) →
+    x3 ≡ doublesIn (m .solidValues) (c .solids) →
+    x4 ≡ wholesIn (m .solidTags) (c .solids) →
+    x5 ≡ doublesIn (m .detectorValues) (c .detectors) →
+    x6 ≡ wholesIn (m .detectorTags) (c .detectors) →
+    x7 ≡ doublesIn (m .rayValues) (c .rays) →
+    x8 ≡ wholesIn (m .rayTags) (c .rays) →
     slices x1 x2 x3 x4 x5 x6 x7 x8 ≡ filledWith c m
 unfolding filledWith
 slices-are c m x1 x2 x3 x4 x5 x6 x7 x8 e1 e2 e3 e4 e5 e6 e7 e8 = rw (e1, e2, e3, e4, e5, e6, e7, e8)
@@ -119,8 +119,8 @@ module _
     (cn : ℕ)
     (cr : List (List ℕ))
     (c :
-    (run ≡ doublesIn (m .run) (readRunOf (split 10 s)))
-    × (runs ≡ wholesIn (m .runs) (readRunOf (split 10 s)))
+    (run ≡ doublesIn (m .runValues) (readRunOf (split 10 s)))
+    × (runs ≡ wholesIn (m .runTags) (readRunOf (split 10 s)))
     × (co ≡ readNamesOf solidNames (readRunOf (split 10 s) .rest) (readRunOf (split 10 s) .line) .ok)
     × (cn ≡ readNamesOf solidNames (readRunOf (split 10 s) .rest) (readRunOf (split 10 s) .line) .line)
     × (cr ≡ readNamesOf solidNames (readRunOf (split 10 s) .rest) (readRunOf (split 10 s) .line) .rest))
@@ -131,7 +131,7 @@ module _
     (w1 : List ℕ)
     (j1 : ℕ)
     (r1 : List (List ℕ))
-    (e1 : reading o1 n1 k1 (table q1 d1 i1 w1 j1) r1 ≡ onto 0 (table true (m .solids) 0 (m .tags) 0) (readLinesOf detectorNames solidForm cr cn))
+    (e1 : reading o1 n1 k1 (table q1 d1 i1 w1 j1) r1 ≡ onto 0 (table true (m .solidValues) 0 (m .solidTags) 0) (readLinesOf detectorNames solidForm cr cn))
     (o2 q2 : Bool)
     (n2 k2 : ℕ)
     (d2 : List Float)
@@ -139,7 +139,7 @@ module _
     (w2 : List ℕ)
     (j2 : ℕ)
     (r2 : List (List ℕ))
-    (e2 : reading o2 n2 k2 (table q2 d2 i2 w2 j2) r2 ≡ onto 0 (table true (m .detectors) 0 (m .sizes) 0) (readLinesOf rayNames detectorForm r1 n1))
+    (e2 : reading o2 n2 k2 (table q2 d2 i2 w2 j2) r2 ≡ onto 0 (table true (m .detectorValues) 0 (m .detectorTags) 0) (readLinesOf rayNames detectorForm r1 n1))
     (o3 q3 : Bool)
     (n3 k3 : ℕ)
     (d3 : List Float)
@@ -147,30 +147,30 @@ module _
     (w3 : List ℕ)
     (j3 : ℕ)
     (r3 : List (List ℕ))
-    (e3 : reading o3 n3 k3 (table q3 d3 i3 w3 j3) r3 ≡ onto 0 (table true (m .rays) 0 (m .marks) 0) (readLinesOf [] rayForm r2 n2))
+    (e3 : reading o3 n3 k3 (table q3 d3 i3 w3 j3) r3 ≡ onto 0 (table true (m .rayValues) 0 (m .rayTags) 0) (readLinesOf [] rayForm r2 n2))
   where
-    solids-read : reading o1 n1 k1 (table q1 d1 i1 w1 j1) r1 ≡ onto 0 (table true (m .solids) 0 (m .tags) 0) (contentsIn s .solids)
+    solids-read : reading o1 n1 k1 (table q1 d1 i1 w1 j1) r1 ≡ onto 0 (table true (m .solidValues) 0 (m .solidTags) 0) (contentsIn s .solids)
     unfolding contentsIn
-    solids-read = e1 ∙ ap (onto 0 (table true (m .solids) 0 (m .tags) 0)) (lines-are detectorNames solidForm cr _ cn _ (c .4) (c .3))
+    solids-read = e1 ∙ ap (onto 0 (table true (m .solidValues) 0 (m .solidTags) 0)) (lines-are detectorNames solidForm cr _ cn _ (c .4) (c .3))
 
-    detectors-read : reading o2 n2 k2 (table q2 d2 i2 w2 j2) r2 ≡ onto 0 (table true (m .detectors) 0 (m .sizes) 0) (contentsIn s .detectors)
+    detectors-read : reading o2 n2 k2 (table q2 d2 i2 w2 j2) r2 ≡ onto 0 (table true (m .detectorValues) 0 (m .detectorTags) 0) (contentsIn s .detectors)
     unfolding contentsIn
     detectors-read =
-        e2 ∙ ap (onto 0 (table true (m .detectors) 0 (m .sizes) 0)) (lines-are rayNames detectorForm r1 _ n1 _ (rest-is (contentsIn s .solids) o1 q1 n1 k1 (m .solids) d1 i1 (m .tags) w1 j1 r1 solids-read) (line-is (contentsIn s .solids) o1 q1 n1 k1 (m .solids) d1 i1 (m .tags) w1 j1 r1 solids-read))
+        e2 ∙ ap (onto 0 (table true (m .detectorValues) 0 (m .detectorTags) 0)) (lines-are rayNames detectorForm r1 _ n1 _ (rest-is (contentsIn s .solids) o1 q1 n1 k1 (m .solidValues) d1 i1 (m .solidTags) w1 j1 r1 solids-read) (line-is (contentsIn s .solids) o1 q1 n1 k1 (m .solidValues) d1 i1 (m .solidTags) w1 j1 r1 solids-read))
 
-    rays-read : reading o3 n3 k3 (table q3 d3 i3 w3 j3) r3 ≡ onto 0 (table true (m .rays) 0 (m .marks) 0) (contentsIn s .rays)
+    rays-read : reading o3 n3 k3 (table q3 d3 i3 w3 j3) r3 ≡ onto 0 (table true (m .rayValues) 0 (m .rayTags) 0) (contentsIn s .rays)
     unfolding contentsIn
     rays-read =
-        e3 ∙ ap (onto 0 (table true (m .rays) 0 (m .marks) 0)) (lines-are [] rayForm r2 _ n2 _ (rest-is (contentsIn s .detectors) o2 q2 n2 k2 (m .detectors) d2 i2 (m .sizes) w2 j2 r2 detectors-read) (line-is (contentsIn s .detectors) o2 q2 n2 k2 (m .detectors) d2 i2 (m .sizes) w2 j2 r2 detectors-read))
+        e3 ∙ ap (onto 0 (table true (m .rayValues) 0 (m .rayTags) 0)) (lines-are [] rayForm r2 _ n2 _ (rest-is (contentsIn s .detectors) o2 q2 n2 k2 (m .detectorValues) d2 i2 (m .detectorTags) w2 j2 r2 detectors-read) (line-is (contentsIn s .detectors) o2 q2 n2 k2 (m .detectorValues) d2 i2 (m .detectorTags) w2 j2 r2 detectors-read))
 
-    run-kept : (run ≡ doublesIn (m .run) (contentsIn s .run)) × (runs ≡ wholesIn (m .runs) (contentsIn s .run))
+    run-kept : (run ≡ doublesIn (m .runValues) (contentsIn s .run)) × (runs ≡ wholesIn (m .runTags) (contentsIn s .run))
     unfolding contentsIn
     run-kept = (c .0, c .1)
 
     pub gathered : (tally o3 n3 k1 k2 k3 ≡ tallied (contentsIn s)) × (slices run runs d1 w1 d2 w2 d3 w3 ≡ filledWith (contentsIn s) m)
     gathered = (
-      tally-is (contentsIn s) o3 n3 k1 k2 k3 (ok-is (contentsIn s .rays) o3 q3 n3 k3 (m .rays) d3 i3 (m .marks) w3 j3 r3 rays-read) (line-is (contentsIn s .rays) o3 q3 n3 k3 (m .rays) d3 i3 (m .marks) w3 j3 r3 rays-read) (rows-are (contentsIn s .solids) o1 q1 n1 k1 (m .solids) d1 i1 (m .tags) w1 j1 r1 solids-read) (rows-are (contentsIn s .detectors) o2 q2 n2 k2 (m .detectors) d2 i2 (m .sizes) w2 j2 r2 detectors-read) (rows-are (contentsIn s .rays) o3 q3 n3 k3 (m .rays) d3 i3 (m .marks) w3 j3 r3 rays-read),
-      slices-are (contentsIn s) m run runs d1 w1 d2 w2 d3 w3 (run-kept .0) (run-kept .1) (doubles-are (contentsIn s .solids) o1 q1 n1 k1 (m .solids) d1 i1 (m .tags) w1 j1 r1 solids-read) (wholes-are (contentsIn s .solids) o1 q1 n1 k1 (m .solids) d1 i1 (m .tags) w1 j1 r1 solids-read) (doubles-are (contentsIn s .detectors) o2 q2 n2 k2 (m .detectors) d2 i2 (m .sizes) w2 j2 r2 detectors-read) (wholes-are (contentsIn s .detectors) o2 q2 n2 k2 (m .detectors) d2 i2 (m .sizes) w2 j2 r2 detectors-read) (doubles-are (contentsIn s .rays) o3 q3 n3 k3 (m .rays) d3 i3 (m .marks) w3 j3 r3 rays-read) (wholes-are (contentsIn s .rays) o3 q3 n3 k3 (m .rays) d3 i3 (m .marks) w3 j3 r3 rays-read),
+      tally-is (contentsIn s) o3 n3 k1 k2 k3 (ok-is (contentsIn s .rays) o3 q3 n3 k3 (m .rayValues) d3 i3 (m .rayTags) w3 j3 r3 rays-read) (line-is (contentsIn s .rays) o3 q3 n3 k3 (m .rayValues) d3 i3 (m .rayTags) w3 j3 r3 rays-read) (rows-are (contentsIn s .solids) o1 q1 n1 k1 (m .solidValues) d1 i1 (m .solidTags) w1 j1 r1 solids-read) (rows-are (contentsIn s .detectors) o2 q2 n2 k2 (m .detectorValues) d2 i2 (m .detectorTags) w2 j2 r2 detectors-read) (rows-are (contentsIn s .rays) o3 q3 n3 k3 (m .rayValues) d3 i3 (m .rayTags) w3 j3 r3 rays-read),
+      slices-are (contentsIn s) m run runs d1 w1 d2 w2 d3 w3 (run-kept .0) (run-kept .1) (doubles-are (contentsIn s .solids) o1 q1 n1 k1 (m .solidValues) d1 i1 (m .solidTags) w1 j1 r1 solids-read) (wholes-are (contentsIn s .solids) o1 q1 n1 k1 (m .solidValues) d1 i1 (m .solidTags) w1 j1 r1 solids-read) (doubles-are (contentsIn s .detectors) o2 q2 n2 k2 (m .detectorValues) d2 i2 (m .detectorTags) w2 j2 r2 detectors-read) (wholes-are (contentsIn s .detectors) o2 q2 n2 k2 (m .detectorValues) d2 i2 (m .detectorTags) w2 j2 r2 detectors-read) (doubles-are (contentsIn s .rays) o3 q3 n3 k3 (m .rayValues) d3 i3 (m .rayTags) w3 j3 r3 rays-read) (wholes-are (contentsIn s .rays) o3 q3 n3 k3 (m .rayValues) d3 i3 (m .rayTags) w3 j3 r3 rays-read),
     )
 
 -- ---- the answer

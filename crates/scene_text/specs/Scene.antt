@@ -55,17 +55,17 @@ tallied c = tally (c .rays .ok) (c .rays .line) (c .solids .rows) (c .detectors 
 -- of a detector 11 (cx to height) and 2 (resx, resy);
 -- of a ray 8 (ox to power) and 10 (bounce, number of media, eight media)
 pub record Slices : Type 0 where
-  pub run : List Float
-  pub runs : List ℕ
-  pub solids : List Float
-  pub tags : List ℕ
-  pub detectors : List Float
-  pub sizes : List ℕ
-  pub rays : List Float
-  pub marks : List ℕ
+  pub runValues : List Float
+  pub runTags : List ℕ
+  pub solidValues : List Float
+  pub solidTags : List ℕ
+  pub detectorValues : List Float
+  pub detectorTags : List ℕ
+  pub rayValues : List Float
+  pub rayTags : List ℕ
 
 abbrev pub slices : List Float → List ℕ → List Float → List ℕ → List Float → List ℕ → List Float → List ℕ → Slices
-slices a b c d e f g h = record { run = a; runs = b; solids = c; tags = d; detectors = e; sizes = f; rays = g; marks = h }
+slices a b c d e f g h = record { runValues = a; runTags = b; solidValues = c; solidTags = d; detectorValues = e; detectorTags = f; rayValues = g; rayTags = h }
 
 abbrev pub doublesIn : List Float → Block → List Float
 doublesIn l b = putAll l 0 (b .read .doubles) .list
@@ -75,10 +75,10 @@ wholesIn l b = putAll l 0 (b .read .wholes) .list
 
 unfoldable pub filledWith : Contents → Slices → Slices
 filledWith c m =
-    slices (doublesIn (m .run) (c .run)) (wholesIn (m .runs) (c .run))
-    (doublesIn (m .solids) (c .solids)) (wholesIn (m .tags) (c .solids))
-    (doublesIn (m .detectors) (c .detectors)) (wholesIn (m .sizes) (c .detectors))
-    (doublesIn (m .rays) (c .rays)) (wholesIn (m .marks) (c .rays))
+    slices (doublesIn (m .runValues) (c .run)) (wholesIn (m .runTags) (c .run))
+    (doublesIn (m .solidValues) (c .solids)) (wholesIn (m .solidTags) (c .solids))
+    (doublesIn (m .detectorValues) (c .detectors)) (wholesIn (m .detectorTags) (c .detectors))
+    (doublesIn (m .rayValues) (c .rays)) (wholesIn (m .rayTags) (c .rays))
 
 pub record Answer : Type 0 where
   pub check : Checked Unit

@@ -95,7 +95,7 @@ fn read_next(s: &[u8], f: Found, names: &[u8], form: &[u8], d: &mut [f64], w: &m
         ≡ comesTo (now (s .entry)) (now (names .entry)) (now (form .entry)) (f .more) (f .ok) (f .at) (f .line) (f .rows) (table (f .ok) (now (d .entry)) (f .nd) (now (w .entry)) (f .nw)) ⌝ }
     ensures { λ r. ⌜ (r .at ≤ length (now (s .entry))) × (r .line ≤ r .at + 1) × (r .rows ≤ r .at) × (r .more ≡ true → f .at < r .at) ⌝ }
 {
-    let e = fields::end_of(s, f.at, 10);
+    let e = fields::end_at(s, f.at, 10);
     if e < s.len() {
         return read_line(s, e, f, names, form, d, w);
     }
@@ -170,7 +170,7 @@ pub(crate) fn read_one(s: &[u8], from: Found, form: &[u8], d: &mut [f64], w: &mu
     ensures { λ r. ⌜ (r .at ≤ length (now (s .entry))) × (r .line ≤ r .at + 1) ⌝ }
 {
     if from.ok {
-        let e = fields::end_of(s, from.at, 10);
+        let e = fields::end_at(s, from.at, 10);
         if e < s.len() {
             let at = from.at;
             let r = read_row(&s[at..e + 1], form, d, 0, w, 0);

@@ -25,7 +25,7 @@ fn next_cell(line: &[u8], kind: u8, end: u8, r: Row, d: &mut [f64], w: &mut [u32
     ensures { λ o. ⌜ o .at ≤ length (now (line .entry)) ⌝ }
 {
     if r.ok {
-        let e = fields::end_of(line, r.at, end);
+        let e = fields::end_at(line, r.at, end);
         if e < line.len() {
             let at = r.at;
             let c = read_cell(kind, &line[at..e], d, r.nd, w, r.nw);

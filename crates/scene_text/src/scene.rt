@@ -34,10 +34,10 @@ pub struct Tallied {
 }
 
 // The run's block and the line of names behind it.
-fn read_run(s: &[u8], run: &mut [f64], runs: &mut [u32]) -> Found
+fn read_run(s: &[u8], run_values: &mut [f64], run_tags: &mut [u32]) -> Found
     requires { ⌜ length (now s) ≤ 65536 ⌝ }
     ensures { λ r. ⌜ (let b = readRunOf (split 10 (now (s .entry))) in let c = readNamesOf solidNames (b .rest) (b .line) in
-        (now (run .exit) ≡ doublesIn (now (run .entry)) b) × (now (runs .exit) ≡ wholesIn (now (runs .entry)) b)
+        (now («run_values» .exit) ≡ doublesIn (now («run_values» .entry)) b) × (now («run_tags» .exit) ≡ wholesIn (now («run_tags» .entry)) b)
         × (r .ok ≡ c .ok) × (r .line ≡ c .line) × (restAt (r .ok) (now (s .entry)) (r .at) ≡ c .rest)) ⌝ }
     ensures { λ r. ⌜ (r .at ≤ length (now (s .entry))) × (r .line ≤ r .at + 1) ⌝ }
 {
@@ -51,7 +51,7 @@ fn read_run(s: &[u8], run: &mut [f64], runs: &mut [u32]) -> Found
         nw: 0,
     };
     let a = read_names(s, start, b"threshold bounces filter ambient a b c d e f\n");
-    let b = read_one(s, a, b"d n f 4 d d d d d d\n", run, runs);
+    let b = read_one(s, a, b"d n f 4 d d d d d d\n", run_values, run_tags);
     read_names(
         s,
         b,
@@ -93,24 +93,24 @@ fn read_detectors(s: &[u8], from: Found, d: &mut [f64], w: &mut [u32]) -> Found
 
 fn read_blocks(
     s: &[u8],
-    run: &mut [f64],
-    runs: &mut [u32],
-    solids: &mut [f64],
-    tags: &mut [u32],
-    detectors: &mut [f64],
-    sizes: &mut [u32],
-    rays: &mut [f64],
-    marks: &mut [u32],
+    run_values: &mut [f64],
+    run_tags: &mut [u32],
+    solid_values: &mut [f64],
+    solid_tags: &mut [u32],
+    detector_values: &mut [f64],
+    detector_tags: &mut [u32],
+    ray_values: &mut [f64],
+    ray_tags: &mut [u32],
 ) -> Tallied
     requires { ⌜ length (now s) ≤ 65536 ⌝ }
     ensures { λ r. ⌜ tally (r .ok) (r .line) (r .solids) (r .detectors) (r .rays) ≡ tallied (contentsIn (now (s .entry))) ⌝ }
-    ensures { λ r. ⌜ slices (now (run .exit)) (now (runs .exit)) (now (solids .exit)) (now (tags .exit)) (now (detectors .exit)) (now (sizes .exit)) (now (rays .exit)) (now (marks .exit))
-        ≡ filledWith (contentsIn (now (s .entry))) (slices (now (run .entry)) (now (runs .entry)) (now (solids .entry)) (now (tags .entry)) (now (detectors .entry)) (now (sizes .entry)) (now (rays .entry)) (now (marks .entry))) ⌝ }
+    ensures { λ r. ⌜ slices (now («run_values» .exit)) (now («run_tags» .exit)) (now («solid_values» .exit)) (now («solid_tags» .exit)) (now («detector_values» .exit)) (now («detector_tags» .exit)) (now («ray_values» .exit)) (now («ray_tags» .exit))
+        ≡ filledWith (contentsIn (now (s .entry))) (slices (now («run_values» .entry)) (now («run_tags» .entry)) (now («solid_values» .entry)) (now («solid_tags» .entry)) (now («detector_values» .entry)) (now («detector_tags» .entry)) (now («ray_values» .entry)) (now («ray_tags» .entry))) ⌝ }
 {
-    let c = read_run(s, run, runs);
-    let d = read_solids(s, c, solids, tags);
-    let e = read_detectors(s, d, detectors, sizes);
-    let f = read_lines(s, e, b"", b"d d d d d d d d n l\n", rays, marks);
+    let c = read_run(s, run_values, run_tags);
+    let d = read_solids(s, c, solid_values, solid_tags);
+    let e = read_detectors(s, d, detector_values, detector_tags);
+    let f = read_lines(s, e, b"", b"d d d d d d d d n l\n", ray_values, ray_tags);
     Tallied {
         ok: f.ok,
         line: f.line,
@@ -163,25 +163,35 @@ fn refused(place: u32) -> SceneText
 // The text of a scene. Where it is refused, the slices are as they were.
 pub fn read_scene(
     text: &[u8],
-    run: &mut [f64],
-    runs: &mut [u32],
-    solids: &mut [f64],
-    tags: &mut [u32],
-    detectors: &mut [f64],
-    sizes: &mut [u32],
-    rays: &mut [f64],
-    marks: &mut [u32],
+    run_values: &mut [f64],
+    run_tags: &mut [u32],
+    solid_values: &mut [f64],
+    solid_tags: &mut [u32],
+    detector_values: &mut [f64],
+    detector_tags: &mut [u32],
+    ray_values: &mut [f64],
+    ray_tags: &mut [u32],
 ) -> SceneText
     ensures { λ r. ⌜ answer (asChecked (r .check)) (r .solids) (r .detectors) (r .rays)
-        (slices (now (run .exit)) (now (runs .exit)) (now (solids .exit)) (now (tags .exit)) (now (detectors .exit)) (now (sizes .exit)) (now (rays .exit)) (now (marks .exit)))
-        ≡ readSceneOf (now (text .entry)) (slices (now (run .entry)) (now (runs .entry)) (now (solids .entry)) (now (tags .entry)) (now (detectors .entry)) (now (sizes .entry)) (now (rays .entry)) (now (marks .entry))) ⌝ }
+        (slices (now («run_values» .exit)) (now («run_tags» .exit)) (now («solid_values» .exit)) (now («solid_tags» .exit)) (now («detector_values» .exit)) (now («detector_tags» .exit)) (now («ray_values» .exit)) (now («ray_tags» .exit)))
+        ≡ readSceneOf (now (text .entry)) (slices (now («run_values» .entry)) (now («run_tags» .entry)) (now («solid_values» .entry)) (now («solid_tags» .entry)) (now («detector_values» .entry)) (now («detector_tags» .entry)) (now («ray_values» .entry)) (now («ray_tags» .entry))) ⌝ }
 {
     if 65536 < text.len() {
         return refused(0);
     }
     let found = check_text(text);
     if found.ok {
-        read_blocks(text, run, runs, solids, tags, detectors, sizes, rays, marks);
+        read_blocks(
+            text,
+            run_values,
+            run_tags,
+            solid_values,
+            solid_tags,
+            detector_values,
+            detector_tags,
+            ray_values,
+            ray_tags,
+        );
         return SceneText {
             check: Check::Passed,
             solids: found.solids,

@@ -17,8 +17,8 @@ use Rattle.detector.specs.declared.DetectorHit.{DetectorHit}
 use Rattle.faces.specs.declared.Faces.{Faces}
 use Rattle.step.specs.declared.NonSeqTraceConfig.{NonSeqTraceConfig}
 use Rattle.step.specs.declared.ActiveRay.{ActiveRay}
-use Rattle.step.specs.declared.Event.{Event}
-use Rattle.step.specs.declared.Fate as fates
+use Rattle.step.specs.declared.Step as steps
+use Rattle.step.specs.declared.End as ends
 
 -- the solids' finishes and media, and by which rules rays are traced
 pub record Optics : Type 0 where
@@ -92,14 +92,14 @@ transmittedOf a r m =
     }
 
 -- what the code's answers say
-abbrev pub asEnd : fates.Fate → End
-asEnd fates.the-variants.Dim = dim
-asEnd fates.the-variants.Spent = spent
-asEnd fates.the-variants.Gone = gone
-asEnd (fates.the-variants.Caught h) = caught h
-asEnd (fates.the-variants.Stopped p) = stopped p
-asEnd (fates.the-variants.Parted r t total) = parted r t total
-asEnd (fates.the-variants.Refused e) = refusing (numberOf e)
+abbrev pub asEnd : ends.End → End
+asEnd ends.the-variants.Dim = dim
+asEnd ends.the-variants.Spent = spent
+asEnd ends.the-variants.Gone = gone
+asEnd (ends.the-variants.Caught h) = caught h
+asEnd (ends.the-variants.Stopped p) = stopped p
+asEnd (ends.the-variants.Parted r t total) = parted r t total
+asEnd (ends.the-variants.Refused e) = refusing (numberOf e)
 
-abbrev pub asStep : Event → Step
-asStep e = record { end = asEnd (e .fate); «first» = e .«first»; reflected = e .reflected; second = e .second; transmitted = e .transmitted }
+abbrev pub asStep : steps.Step → Step
+asStep e = record { end = asEnd (e .end); «first» = e .«first»; reflected = e .reflected; second = e .second; transmitted = e .transmitted }

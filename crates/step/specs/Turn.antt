@@ -20,8 +20,7 @@ use Rattle.detector.specs.declared.DetectorHit.{DetectorHit}
 use Rattle.faces.specs.declared.Sight.{Sight}
 use Rattle.faces.specs.Faces.{nearestDetectorOf}
 use Rattle.step.specs.declared.ActiveRay.{ActiveRay}
-use Rattle.step.specs.declared.encounter.Encounter.{Encounter}
-use Rattle.step.specs.declared.encounter.Encounter.the-variants as code
+use Rattle.step.specs.declared.meeting.Met as code
 use Rattle.step.specs.Rays.{Optics, Scene, Step, endsOf, dim, spent, gone, caught, stopped, parted, refusing, reflectedOf, transmittedOf}
 
 abbrev #0 : Float
@@ -144,7 +143,7 @@ takeStepOf S a =
     (cond (leb (S .optics .config .«max_bounces») (a .«bounce_count»)) (endsOf a spent) (interactOf S a))
 
 -- what the code's answer says
-abbrev pub asMet : Encounter → Met
-asMet (code.Detector s) = detector s
-asMet (code.Solid h) = solid h
-asMet code.Nothing = nothing
+abbrev pub asMet : code.Met → Met
+asMet (code.the-variants.Detector s) = detector s
+asMet (code.the-variants.Solid h) = solid h
+asMet code.the-variants.Nothing = nothing

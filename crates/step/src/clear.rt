@@ -1,8 +1,8 @@
 // A ray at a clear surface.
 use crate::ActiveRay;
-use crate::Event;
-use crate::Fate;
+use crate::End;
 use crate::NonSeqTraceConfig;
+use crate::Step;
 use material::RefractiveIndex;
 use media::Media;
 use media::Newest;
@@ -18,17 +18,17 @@ ghost use Rattle.step.specs.Turn.{indexInOf, beyondOf, partedBy, partedO
 // The index of the newest medium, else of the ambient.
 fn index_in(
     config: NonSeqTraceConfig,
-    values: &[f64],
-    tags: &[u32],
+    solid_values: &[f64],
+    solid_tags: &[u32],
     media: Media,
     wavelength: f64,
 ) -> RefractiveIndex
-    ensures { λ r. ⌜ asIndex r ≡ indexInOf (listedOptics (now (values .entry)) (now (tags .entry)) config) media wavelength ⌝ }
+    ensures { λ r. ⌜ asIndex r ≡ indexInOf (listedOptics (now («solid_values» .entry)) (now («solid_tags» .entry)) config) media wavelength ⌝ }
 {
     let ambient = config.ambient_medium;
     match media.newest() {
         Newest::In(solid) => {
-            let medium = scene::medium_at(values, tags, solid);
+            let medium = scene::medium_at(solid_values, solid_tags, solid);
             medium.refractive_index(wavelength)
         }
         Newest::Outside => ambient.refractive_index(wavelength),
@@ -46,11 +46,11 @@ fn beyond(media: Media, hit: NonSeqHit) -> Media
     media.left(solid)
 }
 
-fn all_reflected(threshold: f64, a: ActiveRay, media: Media, ray: Ray) -> Event
+fn all_reflected(threshold: f64, a: ActiveRay, media: Media, ray: Ray) -> Step
     ensures { λ r. ⌜ asStep r ≡ partedBy threshold a media (total ray) ⌝ }
 {
-    Event {
-        fate: Fate::Parted {
+    Step {
+        end: End::Parted {
             reflected: ray.energy,
             transmitted: 0.0,
             total: true,
@@ -63,12 +63,12 @@ fn all_reflected(threshold: f64, a: ActiveRay, media: Media, ray: Ray) -> Event
 }
 
 // Transmitted power at most 0 counts as total reflection.
-fn both_made(threshold: f64, a: ActiveRay, media: Media, reflected: Ray, transmitted: Ray) -> Event
+fn both_made(threshold: f64, a: ActiveRay, media: Media, reflected: Ray, transmitted: Ray) -> Step
     ensures { λ r. ⌜ asStep r ≡ partedBy threshold a media (split reflected transmitted) ⌝ }
 {
     let tir = transmitted.energy <= 0.0;
-    Event {
-        fate: Fate::Parted {
+    Step {
+        end: End::Parted {
             reflected: reflected.energy,
             transmitted: transmitted.energy,
             total: false,
@@ -80,7 +80,7 @@ fn both_made(threshold: f64, a: ActiveRay, media: Media, reflected: Ray, transmi
     }
 }
 
-fn parted(threshold: f64, a: ActiveRay, media: Media, rays: FresnelInteraction) -> Event
+fn parted(threshold: f64, a: ActiveRay, media: Media, rays: FresnelInteraction) -> Step
     ensures { λ r. ⌜ asStep r ≡ partedOf threshold a media (asInteraction rays) ⌝ }
 {
     match rays {
@@ -89,7 +89,7 @@ fn parted(threshold: f64, a: ActiveRay, media: Media, rays: FresnelInteraction) 
             reflected,
             transmitted,
         } => both_made(threshold, a, media, reflected, transmitted),
-        FresnelInteraction::Refused(error) => a.ends(Fate::Refused(error)),
+        FresnelInteraction::Refused(error) => a.ends(End::Refused(error)),
     }
 }
 
@@ -101,7 +101,7 @@ fn between(
     media: Media,
     here: RefractiveIndex,
     there: RefractiveIndex,
-) -> Event
+) -> Step
     ensures { λ r. ⌜ asStep r ≡ betweenOf threshold a hit media (asIndex here) (asIndex there) ⌝ }
 {
     let ray = a.ray;
@@ -111,25 +111,25 @@ fn between(
                 let rays = surface::compute_snell_fresnel_interaction(ray, hit, n1, n2, ray.energy);
                 parted(threshold, a, media, rays)
             }
-            RefractiveIndex::Refused(error) => a.ends(Fate::Refused(error)),
+            RefractiveIndex::Refused(error) => a.ends(End::Refused(error)),
         },
-        RefractiveIndex::Refused(error) => a.ends(Fate::Refused(error)),
+        RefractiveIndex::Refused(error) => a.ends(End::Refused(error)),
     }
 }
 
 pub(crate) fn clear(
     config: NonSeqTraceConfig,
-    values: &[f64],
-    tags: &[u32],
+    solid_values: &[f64],
+    solid_tags: &[u32],
     a: ActiveRay,
     hit: NonSeqHit,
-) -> Event
-    ensures { λ r. ⌜ asStep r ≡ clearOf (listedOptics (now (values .entry)) (now (tags .entry)) config) a hit ⌝ }
+) -> Step
+    ensures { λ r. ⌜ asStep r ≡ clearOf (listedOptics (now («solid_values» .entry)) (now («solid_tags» .entry)) config) a hit ⌝ }
 {
     let media = a.media;
     let after = beyond(media, hit);
     let wavelength = a.ray.wavelength_nm;
-    let n1 = index_in(config, values, tags, media, wavelength);
-    let n2 = index_in(config, values, tags, after, wavelength);
+    let n1 = index_in(config, solid_values, solid_tags, media, wavelength);
+    let n2 = index_in(config, solid_values, solid_tags, after, wavelength);
     between(config.min_power_threshold, a, hit, after, n1, n2)
 }

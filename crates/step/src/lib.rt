@@ -1,18 +1,18 @@
 // One step of a ray's life (document 01, "How a ray lives"), after trace.rs: what becomes of the newest
 // ray, and which rays come of it. It sees no memory.
 mod clear;
-mod encounter;
+mod meeting;
 mod mirror;
 
-pub use encounter::Encounter;
-pub use encounter::first_met;
+use detector::DetectorHit;
 use error::NonSeqError;
 use faces::Faces;
 use faces::Sight;
 use material::OpticalMedium;
 use material::SurfaceFinish;
 use media::Media;
-use detector::DetectorHit;
+pub use meeting::Met;
+pub use meeting::first_met;
 use rays::Ray;
 use scene::NonSeqHit;
 ghost use mathlib.Core.Path.{_≡_};
@@ -36,7 +36,7 @@ pub struct ActiveRay {
 }
 
 // What becomes of a ray.
-pub enum Fate {
+pub enum End {
     // its power is at most the threshold
     Dim,
     // it has bounced as often as it may
@@ -57,8 +57,8 @@ pub enum Fate {
 
 // One step: what becomes of the ray, and the rays that come of it, each with a flag that says whether
 // it is made.
-pub struct Event {
-    pub fate: Fate,
+pub struct Step {
+    pub end: End,
     pub first: bool,
     pub reflected: ActiveRay,
     pub second: bool,
@@ -76,12 +76,12 @@ pub fn more(n: u32) -> u32
 }
 
 impl ActiveRay {
-    // The event of which no ray comes.
-    fn ends(self, fate: Fate) -> Event
-        ensures { λ r. ⌜ asStep r ≡ endsOf self (asEnd fate) ⌝ }
+    // The step of which no ray comes.
+    fn ends(self, end: End) -> Step
+        ensures { λ r. ⌜ asStep r ≡ endsOf self (asEnd end) ⌝ }
     {
-        Event {
-            fate,
+        Step {
+            end,
             first: false,
             reflected: self,
             second: false,
@@ -149,60 +149,60 @@ impl ActiveRay {
 // What the nearest solid makes of a ray.
 fn surface(
     config: NonSeqTraceConfig,
-    values: &[f64],
-    tags: &[u32],
+    solid_values: &[f64],
+    solid_tags: &[u32],
     a: ActiveRay,
     hit: NonSeqHit,
-) -> Event
-    ensures { λ r. ⌜ asStep r ≡ surfaceOf (listedOptics (now (values .entry)) (now (tags .entry)) config) a hit ⌝ }
+) -> Step
+    ensures { λ r. ⌜ asStep r ≡ surfaceOf (listedOptics (now («solid_values» .entry)) (now («solid_tags» .entry)) config) a hit ⌝ }
 {
     let solid = hit.object_id;
-    match scene::finish_at(values, tags, solid) {
-        SurfaceFinish::Specular => clear::clear(config, values, tags, a, hit),
+    match scene::finish_at(solid_values, solid_tags, solid) {
+        SurfaceFinish::Specular => clear::clear(config, solid_values, solid_tags, a, hit),
         SurfaceFinish::Mirror { reflectance } => {
             mirror::mirror(config.min_power_threshold, a, hit, reflectance)
         }
-        SurfaceFinish::Absorber => a.ends(Fate::Stopped(a.ray.energy)),
+        SurfaceFinish::Absorber => a.ends(End::Stopped(a.ray.energy)),
     }
 }
 
 fn interact(
     config: NonSeqTraceConfig,
-    values: &[f64],
-    tags: &[u32],
+    solid_values: &[f64],
+    solid_tags: &[u32],
     count: u32,
     faces: Faces,
     a: ActiveRay,
-) -> Event
-    ensures { λ r. ⌜ asStep r ≡ interactOf (listedScene (now (values .entry)) (now (tags .entry)) count faces config) a ⌝ }
+) -> Step
+    ensures { λ r. ⌜ asStep r ≡ interactOf (listedScene (now («solid_values» .entry)) (now («solid_tags» .entry)) count faces config) a ⌝ }
 {
     let ray = a.ray;
-    let seen = faces.nearest(ray);
-    let met = scene::closest_object(values, tags, count, ray);
-    match encounter::first_met(seen, met) {
-        Encounter::Detector(sight) => a.ends(Fate::Caught(a.caught_by(sight))),
-        Encounter::Solid(hit) => surface(config, values, tags, a, hit),
-        Encounter::Nothing => a.ends(Fate::Gone),
+    let seen = faces.nearest_detector(ray);
+    let met = scene::closest_object(solid_values, solid_tags, count, ray);
+    match meeting::first_met(seen, met) {
+        Met::Detector(sight) => a.ends(End::Caught(a.caught_by(sight))),
+        Met::Solid(hit) => surface(config, solid_values, solid_tags, a, hit),
+        Met::Nothing => a.ends(End::Gone),
     }
 }
 
 // What becomes of a ray among the first `count` of the solids in the lists and the faces of the
 // detectors.
-pub fn turn(
+pub fn take_step(
     config: NonSeqTraceConfig,
-    values: &[f64],
-    tags: &[u32],
+    solid_values: &[f64],
+    solid_tags: &[u32],
     count: u32,
     faces: Faces,
     a: ActiveRay,
-) -> Event
-    ensures { λ r. ⌜ asStep r ≡ takeStepOf (listedScene (now (values .entry)) (now (tags .entry)) count faces config) a ⌝ }
+) -> Step
+    ensures { λ r. ⌜ asStep r ≡ takeStepOf (listedScene (now («solid_values» .entry)) (now («solid_tags» .entry)) count faces config) a ⌝ }
 {
     if a.ray.energy <= config.min_power_threshold {
-        return a.ends(Fate::Dim);
+        return a.ends(End::Dim);
     }
     if a.bounce_count >= config.max_bounces {
-        return a.ends(Fate::Spent);
+        return a.ends(End::Spent);
     }
-    interact(config, values, tags, count, faces, a)
+    interact(config, solid_values, solid_tags, count, faces, a)
 }

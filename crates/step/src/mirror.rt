@@ -1,7 +1,7 @@
 // A ray at a mirror.
 use crate::ActiveRay;
-use crate::Event;
-use crate::Fate;
+use crate::End;
+use crate::Step;
 use rays::NewRay;
 use scene::NonSeqHit;
 ghost use mathlib.Core.Path.{_≡_};
@@ -10,23 +10,23 @@ ghost use Rattle.step.specs.Rays.{asStep};
 ghost use Rattle.step.specs.Turn.{mirrorFromOf, mirrorOf};
 
 // The ray is on its way again, and the rest of its power stays; or it could not be made.
-fn mirror_from(a: ActiveRay, left: f64, made: NewRay) -> Event
+fn mirror_from(a: ActiveRay, left: f64, made: NewRay) -> Step
     ensures { λ r. ⌜ asStep r ≡ mirrorFromOf a left (asRay made) ⌝ }
 {
     match made {
-        NewRay::Made(ray) => Event {
-            fate: Fate::Stopped(left),
+        NewRay::Made(ray) => Step {
+            end: End::Stopped(left),
             first: true,
             reflected: a.reflected(false, ray),
             second: false,
             transmitted: a,
         },
-        NewRay::Refused(error) => a.ends(Fate::Refused(error)),
+        NewRay::Refused(error) => a.ends(End::Refused(error)),
     }
 }
 
 // Only a ray above the threshold is made.
-pub(crate) fn mirror(threshold: f64, a: ActiveRay, hit: NonSeqHit, reflectance: f64) -> Event
+pub(crate) fn mirror(threshold: f64, a: ActiveRay, hit: NonSeqHit, reflectance: f64) -> Step
     ensures { λ r. ⌜ asStep r ≡ mirrorOf threshold a hit reflectance ⌝ }
 {
     let ray = a.ray;
@@ -35,5 +35,5 @@ pub(crate) fn mirror(threshold: f64, a: ActiveRay, hit: NonSeqHit, reflectance: 
     if power > threshold {
         return mirror_from(a, left, surface::mirrored(ray, hit, power));
     }
-    a.ends(Fate::Stopped(left))
+    a.ends(End::Stopped(left))
 }

@@ -3,8 +3,8 @@
 //   4 a tracing that is refused before its run, 5 a filter, 6 a reading
 use crate::drawn;
 use crate::lists;
-use detector::DetectorNo;
 use detector::DetectorHit;
+use detector::DetectorNo;
 ghost use Prim.Native.Nat.{_≤_};
 
 // How many calls a list has, by its own numbers u.

@@ -4,8 +4,8 @@ use crate::report;
 use crate::sifted;
 use crate::sifted::Question;
 use crate::tried;
-use detectors::Detectors;
 use detector::DetectorHit;
+use detectors::Detectors;
 use memory::Recorded;
 
 // The work map starts with sevens.

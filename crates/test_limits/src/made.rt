@@ -1,8 +1,8 @@
 // What the trials start from: detectors, hits, and slices filled with numbers that no hit brings.
 use detector::Detector2D;
+use detector::DetectorHit;
 use detector::DetectorNo;
 use detectors::Detectors;
-use detector::DetectorHit;
 use rays::Vec3;
 ghost use mathlib.Core.Path.{_≡_};
 

@@ -6,9 +6,9 @@ use crate::made;
 use crate::made::Lent;
 use crate::report;
 use detector::Detector2D;
+use detector::DetectorHit;
 use detectors::Detectors;
 use error::Check;
-use detector::DetectorHit;
 use memory::Recorded;
 ghost use Prim.Native.Nat.{_≤_};
 

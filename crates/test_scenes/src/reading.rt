@@ -13,12 +13,12 @@ fn between(text: &[u8], from: usize, to: usize) -> &[u8] {
 
 // From `at` up to the next b; empty past the end.
 fn part_at(text: &[u8], at: usize, b: u8) -> &[u8] {
-    between(text, at, fields::end_of(text, at, b))
+    between(text, at, fields::end_at(text, at, b))
 }
 
 // Where the part after that one starts.
 fn after(text: &[u8], at: usize, b: u8) -> usize {
-    std::num::wrapping_add_usize(fields::end_of(text, at, b), 1)
+    std::num::wrapping_add_usize(fields::end_at(text, at, b), 1)
 }
 
 pub(crate) fn line_at(text: &[u8], at: usize) -> &[u8] {

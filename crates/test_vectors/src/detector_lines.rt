@@ -1,5 +1,12 @@
 // Whether a stored line of crossings or recordings is what a detector answers. For the program
 // `vectors`.
+use crate::parts::are_bits;
+use crate::parts::both;
+use crate::parts::double_at;
+use crate::parts::has_shape;
+use crate::parts::is_dash;
+use crate::parts::is_double;
+use crate::parts::vec_at;
 use detector::Crossed;
 use detector::Crossing;
 use detector::Detector2D;
@@ -8,13 +15,6 @@ use detector::index_along;
 use fields::ReadWhole;
 use rays::Ray;
 use rays::Vec3;
-use crate::parts::are_bits;
-use crate::parts::both;
-use crate::parts::double_at;
-use crate::parts::has_shape;
-use crate::parts::is_dash;
-use crate::parts::is_double;
-use crate::parts::vec_at;
 ghost use mathlib.Core.Path.{_≡_};
 ghost use Rattle.detector.specs.Faces.{asCrossing};
 ghost use Rattle.detector.specs.Pixels.{asReading};

@@ -1,11 +1,4 @@
 // Whether a stored line is what the functions answer.
-use error::NonSeqError;
-use fields::ReadWhole;
-use material::OpticalMedium;
-use material::RefractiveIndex;
-use rays::Ray;
-use rays::Vec3;
-use source::Rng64;
 use crate::parts::are_bits;
 use crate::parts::bits_at;
 use crate::parts::both;
@@ -19,6 +12,13 @@ use crate::parts::is_whole;
 use crate::parts::mat_at;
 use crate::parts::one_if;
 use crate::parts::vec_at;
+use error::NonSeqError;
+use fields::ReadWhole;
+use material::OpticalMedium;
+use material::RefractiveIndex;
+use rays::Ray;
+use rays::Vec3;
+use source::Rng64;
 ghost use mathlib.Core.Path.{_≡_};
 ghost use Rattle.error.specs.Refusals.{numberOf};
 ghost use Rattle.material.specs.Media.{asIndex};

@@ -20,7 +20,7 @@ fn tally_lines(kind: Kind, text: &[u8]) -> Tally
     let mut t = Tally::empty();
     let mut at: usize = 0;
     while at < text.len() {
-        let e = fields::end_of(text, at, b'\n');
+        let e = fields::end_at(text, at, b'\n');
         t = t.count(lines::line_agrees(kind, &text[at..e]));
         at = e + 1;
     }

@@ -19,7 +19,7 @@ fn all_worked(index: &[u8]) {
     let mut agree: u64 = 0;
     let mut all: u64 = 0;
     while at < index.len() {
-        let end = fields::end_of(index, at, b'\n');
+        let end = fields::end_at(index, at, b'\n');
         agree = std::num::wrapping_add_u64(agree, worked(files::between(index, at, end)));
         all = std::num::wrapping_add_u64(all, 1);
         at = files::later(at, files::plus(end, 1));

@@ -17,7 +17,7 @@ fn wholes(line: &[u8], out: &mut [usize]) {
     let mut at: usize = 0;
     let mut i: usize = 0;
     while i < out.len() {
-        let end = fields::end_of(line, at, b' ');
+        let end = fields::end_at(line, at, b' ');
         out[i] = whole(files::between(line, at, end));
         at = files::plus(end, 1);
         i += 1;
@@ -80,7 +80,7 @@ pub(crate) fn all(text: &[u8]) {
     let mut agree: u64 = 0;
     let mut runs: u64 = 0;
     while at < text.len() {
-        let end = fields::end_of(text, at, b'\n');
+        let end = fields::end_at(text, at, b'\n');
         let line = files::between(text, at, end);
         wholes(line, &mut head);
         let start = files::plus(end, 1);

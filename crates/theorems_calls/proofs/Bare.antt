@@ -78,11 +78,11 @@ module _ (s : Memory) (eight : length (s .detectors .list) ≡ 8) (empty : Empty
   unfolding bare
   bare-hits = length-replicate _ _
 
-  bare-values : length (bare s .values) ≡ length (s .values)
+  bare-values : length (bare s .hitValues) ≡ length (s .hitValues)
   unfolding bare
   bare-values = length-replicate _ _
 
-  bare-tags : length (bare s .tags) ≡ length (s .tags)
+  bare-tags : length (bare s .hitTags) ≡ length (s .hitTags)
   unfolding bare
   bare-tags = length-replicate _ _
 

@@ -65,13 +65,13 @@ module _ (s : Memory) (eight : length (s .detectors .list) ≡ 8) (empty : Empty
   unfolding checkBatch
   check-added B =
       rw (added-flux b s, added-hits b s, added-values b s, added-tags b s, used-by s eight empty b)
-      (same-all B (s .detectors) (m .detectors) (length (s .flux)) (length (s .hits)) (length (s .values)) (length (s .tags)) (length b) (added-checks b s) (added-all b s))
+      (same-all B (s .detectors) (m .detectors) (length (s .flux)) (length (s .hits)) (length (s .hitValues)) (length (s .hitTags)) (length b) (added-checks b s) (added-all b s))
 
   memory-added : isMemory m ≡ isMemory (withUsed s b)
   unfolding isMemory
   memory-added =
       rw (added-flux b s, added-hits b s, added-values b s, added-tags b s, used-by s eight empty b)
-      (same-memory (s .detectors) (m .detectors) (length (s .flux)) (length (s .hits)) (length (s .values)) (length (s .tags)) (length b) (added-all b s))
+      (same-memory (s .detectors) (m .detectors) (length (s .flux)) (length (s .hits)) (length (s .hitValues)) (length (s .hitTags)) (length b) (added-all b s))
 
   -- ---- a hit on a detector that is there
 
@@ -91,7 +91,7 @@ module _ (s : Memory) (eight : length (s .detectors .list) ≡ 8) (empty : Empty
   -- ---- a tracing
 
   abbrev sceneFor : Batch → Faces → Scene
-  sceneFor B fs = listedScene (B .values) (B .tags) (B .solids) fs (B .config)
+  sceneFor B fs = listedScene (B .solidValues) (B .solidTags) (B .solids) fs (B .config)
 
   module _ (B : Batch) (b : List DetectorHit) (p : Passes B (withUsed s b)) where
     lengths-held : isMemory (withUsed s b) ≡ true

@@ -24,10 +24,10 @@ use Rattle.theorems_calls.proofs.Reached.{Reached, added-checks, added-
 use Rattle.theorems_calls.proofs.Joined.{former-given, later-given}
 
 abbrev checkLengthsIn : Memory → Checked Unit
-checkLengthsIn s = checkLengthsOf (s .detectors) (length (s .flux)) (length (s .hits)) (length (s .values)) (length (s .tags)) (s .used)
+checkLengthsIn s = checkLengthsOf (s .detectors) (length (s .flux)) (length (s .hits)) (length (s .hitValues)) (length (s .hitTags)) (s .used)
 
 pub record Passes (B : Batch) (s : Memory) : Type 0 where
-  pub solids : checkSolidsOf (B .values) (B .tags) (B .solids) ≡ passed tt
+  pub solids : checkSolidsOf (B .solidValues) (B .solidTags) (B .solids) ≡ passed tt
   pub lists : checkListsOf (length (B .rayValues)) (length (B .rayTags)) (B .rays) ≡ passed tt
   pub config : checkConfigOf (B .config) ≡ passed tt
   pub counts : checkCountsOf (B .solids) (B .rays) ≡ passed tt
@@ -41,7 +41,7 @@ passes B s e =
     let e1 = both-passed tt (checkFlatOf B) _ e in
     let e2 = both-passed tt (checkRulesOf (B .config) (B .solids) (B .rays)) _ (e1 .1) in
     let e3 = both-passed tt (after (checkDetectorsOf (s .detectors)) (checkLengthsIn s)) _ (e2 .1) in
-    let f = both-passed tt (checkSolidsOf (B .values) (B .tags) (B .solids)) _ (e1 .0) in
+    let f = both-passed tt (checkSolidsOf (B .solidValues) (B .solidTags) (B .solids)) _ (e1 .0) in
     let g = both-passed tt (checkConfigOf (B .config)) _ (e2 .0) in
     let h = both-passed tt (checkDetectorsOf (s .detectors)) _ (e3 .0) in
     record { solids = f .0; lists = f .1; config = g .0; counts = g .1; detectors = h .0; lengths = h .1; rays = e3 .1 }
@@ -67,9 +67,9 @@ counts-less k n m l e =
     let t = said (leb k 32 && leb n 4096) 3 0 e in
     rw (and-left (leb k 32) (leb n 4096) t, le-leb m 4096 (omega (arith, leb-true n 4096 (and-right (leb k 32) (leb n 4096) t))))
 
-pub exact-lists : (p : Part) → Exact p → checkListsOf (length (p .values)) (length (p .tags)) (p .rays) ≡ passed tt
+pub exact-lists : (p : Part) → Exact p → checkListsOf (length (p .rayValues)) (length (p .rayTags)) (p .rays) ≡ passed tt
 unfolding checkListsOf
-exact-lists p e = rw (eq-eqb _ _ (e .values), eq-eqb _ _ (e .tags))
+exact-lists p e = rw (eq-eqb _ _ (e .rayValues), eq-eqb _ _ (e .rayTags))
 
 pub lists-say : (nv nt n : ℕ) → checkListsOf nv nt n ≡ passed tt → (nv ≡ n * 8) × (nt ≡ n * 10)
 unfolding checkListsOf
@@ -128,7 +128,7 @@ lengths-say ds nf nh nv nt u e =
 
 pub used-room : (s : Memory) → checkLengthsIn s ≡ passed tt → s .used ≤ capacity s
 unfolding capacity
-used-room s e = leb-true (s .used) (length (s .values) / 4) (lengths-say _ _ _ _ _ _ e .4)
+used-room s e = leb-true (s .used) (length (s .hitValues) / 4) (lengths-say _ _ _ _ _ _ e .4)
 
 more-used : (ds : Detectors) (nf nh nv nt u v : ℕ) → v ≤ nv / 4 → checkLengthsOf ds nf nh nv nt u ≡ passed tt → checkLengthsOf ds nf nh nv nt v ≡ passed tt
 unfolding checkLengthsOf areLengthsOf isHitListOf
@@ -145,9 +145,9 @@ pub reached-lengths : (s m : Memory) → Reached s m → checkLengthsIn s ≡ pa
 unfolding capacity
 reached-lengths s m r e =
     let b = r .hits in
-    ap (λ (x : Memory). checkLengthsOf (x .detectors) (length (x .flux)) (length (x .hits)) (length (x .values)) (length (x .tags)) (m .used)) (r .sum)
-    ∙ rw (added-flux b s, added-hits b s, added-values b s, added-tags b s, same-lengths (s .detectors) _ (length (s .flux)) (length (s .hits)) (length (s .values)) (length (s .tags)) (m .used) (added-all b s))
-    (more-used (s .detectors) (length (s .flux)) (length (s .hits)) (length (s .values)) (length (s .tags)) (s .used) (m .used) (r .room) e)
+    ap (λ (x : Memory). checkLengthsOf (x .detectors) (length (x .flux)) (length (x .hits)) (length (x .hitValues)) (length (x .hitTags)) (m .used)) (r .sum)
+    ∙ rw (added-flux b s, added-hits b s, added-values b s, added-tags b s, same-lengths (s .detectors) _ (length (s .flux)) (length (s .hits)) (length (s .hitValues)) (length (s .hitTags)) (m .used) (added-all b s))
+    (more-used (s .detectors) (length (s .flux)) (length (s .hits)) (length (s .hitValues)) (length (s .hitTags)) (s .used) (m .used) (r .room) e)
 
 pub reached-checks : (s m : Memory) → Reached s m → checkDetectorsOf (s .detectors) ≡ passed tt → checkDetectorsOf (m .detectors) ≡ passed tt
 reached-checks s m r e = ap (λ (x : Memory). checkDetectorsOf (x .detectors)) (r .sum) ∙ added-checks (r .hits) s ∙ e

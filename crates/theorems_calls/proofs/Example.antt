@@ -68,8 +68,8 @@ memory =
       detectors = record { list = replicate 8 detector; count = 1 };
       flux = replicate 4 #0;
       hits = replicate 4 0;
-      values = replicate 8 nan;
-      tags = replicate 8 7;
+      hitValues = replicate 8 nan;
+      hitTags = replicate 8 7;
       used = 0;
     }
 
@@ -91,8 +91,8 @@ abbrev batch : Batch
 batch =
     record {
       config = record { «max_bounces» = 4; «min_power_threshold» = #0; «ambient_medium» = Air };
-      values = [];
-      tags = [];
+      solidValues = [];
+      solidTags = [];
       solids = 0;
       rayValues = #1 ∷ #1 ∷ #0 ∷ #0 ∷ #0 ∷ #1 ∷ #550 ∷ #1 ∷ [];
       rayTags = replicate 10 0;
@@ -140,13 +140,13 @@ example = subst (Told memory (memoryAfter calls memory)) listed (told memory eig
 -- ---- and the batch in three parts, two of them empty
 
 abbrev parts : List Part
-parts = noRays ∷ record { values = batch .rayValues; tags = batch .rayTags; rays = 1 } ∷ noRays ∷ []
+parts = noRays ∷ record { rayValues = batch .rayValues; rayTags = batch .rayTags; rays = 1 } ∷ noRays ∷ []
 
 splits : Splits batch parts
 unfolding joinedAll AllExact
 splits =
     record {
-      exact = (record { values = refl; tags = refl }, (record { values = refl; tags = refl }, (record { values = refl; tags = refl }, tt)));
+      exact = (record { rayValues = refl; rayTags = refl }, (record { rayValues = refl; rayTags = refl }, (record { rayValues = refl; rayTags = refl }, tt)));
       whole = refl;
     }
 

@@ -13,13 +13,13 @@ use Rattle.theorems_calls.specs.Parts.{Part, Exact, AllExact, joined, jo
 pub exact-joined : (p q : Part) → Exact p → Exact q → Exact (joined p q)
 exact-joined p q e f =
     record {
-      values = length-append (p .values) (q .values) ∙ omega (arith, e .values, f .values);
-      tags = length-append (p .tags) (q .tags) ∙ omega (arith, e .tags, f .tags);
+      rayValues = length-append (p .rayValues) (q .rayValues) ∙ omega (arith, e .rayValues, f .rayValues);
+      rayTags = length-append (p .rayTags) (q .rayTags) ∙ omega (arith, e .rayTags, f .rayTags);
     }
 
 pub exact-all : (ps : List Part) → AllExact ps → Exact (joinedAll ps)
 unfolding joinedAll AllExact
-exact-all [] e = record { values = refl; tags = refl }
+exact-all [] e = record { rayValues = refl; rayTags = refl }
 exact-all (p ∷ ps) e = exact-joined p (joinedAll ps) (e .0) (exact-all ps (e .1))
 
 -- ---- the rays of two lists one after the other, w numbers a ray
@@ -32,24 +32,24 @@ module _ {A : Type 0} (z : A) (l k : List A) (n w : ℕ) (e : length l ≡ n * w
   later-at x y q = ap (λ x. getD (l ++ k) x z) (q ∙ ap (λ x. x + y) (sym e)) ∙ getD-append-add l k y z
 
 module _ (p q : Part) (e : Exact p) (i : ℕ) where
-  abbrev values : List Float
-  values = p .values ++ q .values
+  abbrev rayValues : List Float
+  rayValues = p .rayValues ++ q .rayValues
 
-  abbrev tags : List ℕ
-  tags = p .tags ++ q .tags
+  abbrev rayTags : List ℕ
+  rayTags = p .rayTags ++ q .rayTags
 
   module _ (k : i < p .rays) where
-    old : (j : ℕ) → j < 8 → getD values (i * 8 + j) nan ≡ getD (p .values) (i * 8 + j) nan
-    old j l = former-at nan (p .values) (q .values) (p .rays) 8 (e .values) (i * 8 + j) (omega arith)
+    old : (j : ℕ) → j < 8 → getD rayValues (i * 8 + j) nan ≡ getD (p .rayValues) (i * 8 + j) nan
+    old j l = former-at nan (p .rayValues) (q .rayValues) (p .rays) 8 (e .rayValues) (i * 8 + j) (omega arith)
 
-    old-tag : (j : ℕ) → j < 10 → getD tags (i * 10 + j) 0 ≡ getD (p .tags) (i * 10 + j) 0
-    old-tag j l = former-at 0 (p .tags) (q .tags) (p .rays) 10 (e .tags) (i * 10 + j) (omega arith)
+    old-tag : (j : ℕ) → j < 10 → getD rayTags (i * 10 + j) 0 ≡ getD (p .rayTags) (i * 10 + j) 0
+    old-tag j l = former-at 0 (p .rayTags) (q .rayTags) (p .rays) 10 (e .rayTags) (i * 10 + j) (omega arith)
 
-    former-ray : readRayOf values i ≡ readRayOf (p .values) i
+    former-ray : readRayOf rayValues i ≡ readRayOf (p .rayValues) i
     unfolding readRayOf
     former-ray =
         rw (
-          former-at nan (p .values) (q .values) (p .rays) 8 (e .values) (i * 8) (omega arith),
+          former-at nan (p .rayValues) (q .rayValues) (p .rays) 8 (e .rayValues) (i * 8) (omega arith),
           old 1 (omega arith),
           old 2 (omega arith),
           old 3 (omega arith),
@@ -59,7 +59,7 @@ module _ (p q : Part) (e : Exact p) (i : ℕ) where
           old 7 (omega arith),
         )
 
-    former-media : readMediaOf tags i ≡ readMediaOf (p .tags) i
+    former-media : readMediaOf rayTags i ≡ readMediaOf (p .rayTags) i
     unfolding readMediaOf
     former-media =
         rw (
@@ -74,47 +74,47 @@ module _ (p q : Part) (e : Exact p) (i : ℕ) where
           old-tag 9 (omega arith),
         )
 
-    pub former-given : givenAtOf (p .values) (p .tags) i ≡ givenAtOf values tags i
+    pub former-given : givenAtOf (p .rayValues) (p .rayTags) i ≡ givenAtOf rayValues rayTags i
     unfolding givenAtOf
     former-given =
         rw (
-          le-leb (i * 8 + 8) (length (p .values)) (omega (arith, e .values)),
-          le-leb (i * 10 + 10) (length (p .tags)) (omega (arith, e .tags)),
-          le-leb (i * 8 + 8) (length values) (rw length-append (omega (arith, e .values))),
-          le-leb (i * 10 + 10) (length tags) (rw length-append (omega (arith, e .tags))),
+          le-leb (i * 8 + 8) (length (p .rayValues)) (omega (arith, e .rayValues)),
+          le-leb (i * 10 + 10) (length (p .rayTags)) (omega (arith, e .rayTags)),
+          le-leb (i * 8 + 8) (length rayValues) (rw length-append (omega (arith, e .rayValues))),
+          le-leb (i * 10 + 10) (length rayTags) (rw length-append (omega (arith, e .rayTags))),
           former-ray,
           former-media,
-          former-at 0 (p .tags) (q .tags) (p .rays) 10 (e .tags) (i * 10) (omega arith),
+          former-at 0 (p .rayTags) (q .rayTags) (p .rays) 10 (e .rayTags) (i * 10) (omega arith),
         )
 
   module _ (f : Exact q) (k : i < q .rays) where
     abbrev c : ℕ
     c = p .rays
 
-    new : (j : ℕ) → getD values ((c + i) * 8 + j) nan ≡ getD (q .values) (i * 8 + j) nan
-    new j = later-at nan (p .values) (q .values) (p .rays) 8 (e .values) ((c + i) * 8 + j) (i * 8 + j) (omega arith)
+    new : (j : ℕ) → getD rayValues ((c + i) * 8 + j) nan ≡ getD (q .rayValues) (i * 8 + j) nan
+    new j = later-at nan (p .rayValues) (q .rayValues) (p .rays) 8 (e .rayValues) ((c + i) * 8 + j) (i * 8 + j) (omega arith)
 
-    new-tag : (j : ℕ) → getD tags ((c + i) * 10 + j) 0 ≡ getD (q .tags) (i * 10 + j) 0
-    new-tag j = later-at 0 (p .tags) (q .tags) (p .rays) 10 (e .tags) ((c + i) * 10 + j) (i * 10 + j) (omega arith)
+    new-tag : (j : ℕ) → getD rayTags ((c + i) * 10 + j) 0 ≡ getD (q .rayTags) (i * 10 + j) 0
+    new-tag j = later-at 0 (p .rayTags) (q .rayTags) (p .rays) 10 (e .rayTags) ((c + i) * 10 + j) (i * 10 + j) (omega arith)
 
-    later-ray : readRayOf values (c + i) ≡ readRayOf (q .values) i
+    later-ray : readRayOf rayValues (c + i) ≡ readRayOf (q .rayValues) i
     unfolding readRayOf
     later-ray =
-        rw (later-at nan (p .values) (q .values) (p .rays) 8 (e .values) ((c + i) * 8) (i * 8) (omega arith), new 1, new 2, new 3, new 4, new 5, new 6, new 7)
+        rw (later-at nan (p .rayValues) (q .rayValues) (p .rays) 8 (e .rayValues) ((c + i) * 8) (i * 8) (omega arith), new 1, new 2, new 3, new 4, new 5, new 6, new 7)
 
-    later-media : readMediaOf tags (c + i) ≡ readMediaOf (q .tags) i
+    later-media : readMediaOf rayTags (c + i) ≡ readMediaOf (q .rayTags) i
     unfolding readMediaOf
     later-media = rw (new-tag 1, new-tag 2, new-tag 3, new-tag 4, new-tag 5, new-tag 6, new-tag 7, new-tag 8, new-tag 9)
 
-    pub later-given : givenAtOf (q .values) (q .tags) i ≡ givenAtOf values tags (c + i)
+    pub later-given : givenAtOf (q .rayValues) (q .rayTags) i ≡ givenAtOf rayValues rayTags (c + i)
     unfolding givenAtOf
     later-given =
         rw (
-          le-leb (i * 8 + 8) (length (q .values)) (omega (arith, f .values)),
-          le-leb (i * 10 + 10) (length (q .tags)) (omega (arith, f .tags)),
-          le-leb ((c + i) * 8 + 8) (length values) (rw length-append (omega (arith, e .values, f .values))),
-          le-leb ((c + i) * 10 + 10) (length tags) (rw length-append (omega (arith, e .tags, f .tags))),
+          le-leb (i * 8 + 8) (length (q .rayValues)) (omega (arith, f .rayValues)),
+          le-leb (i * 10 + 10) (length (q .rayTags)) (omega (arith, f .rayTags)),
+          le-leb ((c + i) * 8 + 8) (length rayValues) (rw length-append (omega (arith, e .rayValues, f .rayValues))),
+          le-leb ((c + i) * 10 + 10) (length rayTags) (rw length-append (omega (arith, e .rayTags, f .rayTags))),
           later-ray,
           later-media,
-          later-at 0 (p .tags) (q .tags) (p .rays) 10 (e .tags) ((c + i) * 10) (i * 10) (omega arith),
+          later-at 0 (p .rayTags) (q .rayTags) (p .rays) 10 (e .rayTags) ((c + i) * 10) (i * 10) (omega arith),
         )

@@ -97,7 +97,7 @@ module _ (s : Memory) (eight : length (s .detectors .list) ≡ 8) (empty : Empty
 
   start-sane : Sane []
   unfolding added hitsFrom
-  start-sane = record { back = ap (λ n. hitsFrom (s .values) (s .tags) n 0) (empty .used); booked = empty-booked s eight empty }
+  start-sane = record { back = ap (λ n. hitsFrom (s .hitValues) (s .hitTags) n 0) (empty .used); booked = empty-booked s eight empty }
 
   -- ---- one call: done or refused, with the same number and place, in both
 

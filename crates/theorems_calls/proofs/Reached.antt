@@ -87,11 +87,11 @@ module _ (b : List DetectorHit) (s : Memory) where
   pub added-hits : length (added s b .hits) ≡ length (s .hits)
   added-hits = added-keeps (λ m. length (m .hits)) written-hits b s
 
-  pub added-values : length (added s b .values) ≡ length (s .values)
-  added-values = added-keeps (λ m. length (m .values)) written-values b s
+  pub added-values : length (added s b .hitValues) ≡ length (s .hitValues)
+  added-values = added-keeps (λ m. length (m .hitValues)) written-values b s
 
-  pub added-tags : length (added s b .tags) ≡ length (s .tags)
-  added-tags = added-keeps (λ m. length (m .tags)) written-tags b s
+  pub added-tags : length (added s b .hitTags) ≡ length (s .hitTags)
+  added-tags = added-keeps (λ m. length (m .hitTags)) written-tags b s
 
 -- ---- what a run leaves of a memory
 

@@ -21,7 +21,7 @@ use Rattle.theorems_calls.proofs.Checks.{Passes, passes, all-pass, used
 -- ---- a tracing whose checks passed is its run
 
 abbrev ranIn : Faces → Batch → Memory → Outcome Memory
-ranIn fs B m = drive recordOf (listedScene (B .values) (B .tags) (B .solids) fs (B .config)) (raysIn B) allSteps m (startOf (raysIn B) (B .rays)) .outcome
+ranIn fs B m = drive recordOf (listedScene (B .solidValues) (B .solidTags) (B .solids) fs (B .config)) (raysIn B) allSteps m (startOf (raysIn B) (B .rays)) .outcome
 
 pub traced : (B : Batch) (m : Memory) → Passes B m → traceRaysOf B m .outcome ≡ ranIn (newFacesOf (m .detectors)) B m
 unfolding traceRaysOf runOn
@@ -59,7 +59,7 @@ module _ (B : Batch) (p q : Part) (s : Memory) (ep : Exact p) (eq : Exact q) (w 
   two-parts =
       then-same (p .rays) (traceRaysOf (withRays B q) s .outcome) _ (ranIn fs (withRays B p)) former-traced
       ∙ ap (λ o. thenOn (shifted (p .rays) o) (ranIn fs (withRays B p))) (traced (withRays B q) s (later-passes B p q s ep eq w))
-      ∙ sym (two-runs recordOf (listedScene (B .values) (B .tags) (B .solids) fs (B .config)) lim (p .rays) (q .rays) (raysIn (withRays B (joined p q))) (raysIn (withRays B p)) (raysIn (withRays B q)) few (former-given p q ep) (λ i k. later-given p q ep i eq k) s)
+      ∙ sym (two-runs recordOf (listedScene (B .solidValues) (B .solidTags) (B .solids) fs (B .config)) lim (p .rays) (q .rays) (raysIn (withRays B (joined p q))) (raysIn (withRays B p)) (raysIn (withRays B q)) few (former-given p q ep) (λ i k. later-given p q ep i eq k) s)
       ∙ sym (traced (withRays B (joined p q)) s w)
 
 -- ---- any list of parts

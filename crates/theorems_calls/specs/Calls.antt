@@ -86,15 +86,15 @@ bare s =
       detectors = record { list = map bareDetector (s .detectors .list); count = s .detectors .count };
       flux = replicate (length (s .flux)) #0;
       hits = replicate (length (s .hits)) 0;
-      values = replicate (length (s .values)) #0;
-      tags = replicate (length (s .tags)) 0;
+      hitValues = replicate (length (s .hitValues)) #0;
+      hitTags = replicate (length (s .hitTags)) 0;
       used = 0;
     }
 
 -- the book's number used is its length
 abbrev pub withUsed : Memory → List DetectorHit → Memory
 withUsed s b =
-    record { detectors = s .detectors; flux = s .flux; hits = s .hits; values = s .values; tags = s .tags; used = length b }
+    record { detectors = s .detectors; flux = s .flux; hits = s .hits; hitValues = s .hitValues; hitTags = s .hitTags; used = length b }
 
 -- 12 if the lent slices hold no more, 13 if 2^32 - 1 listed hits share that pixel or detector; else the hit is appended
 unfoldable pub plainHit : Memory → List DetectorHit → DetectorHit → Outcome (List DetectorHit)

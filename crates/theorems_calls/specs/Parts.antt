@@ -9,14 +9,14 @@ use Rattle.trace.specs.Trace.{Batch, traceRaysOf}
 
 -- given rays as two lists of numbers, eight doubles and ten whole numbers a ray
 pub record Part : Type 0 where
-  pub values : List Float
-  pub tags : List ℕ
+  pub rayValues : List Float
+  pub rayTags : List ℕ
   pub rays : ℕ
 
 -- the lists are those of just so many rays
 pub record Exact (p : Part) : Type 0 where
-  pub values : length (p .values) ≡ p .rays * 8
-  pub tags : length (p .tags) ≡ p .rays * 10
+  pub rayValues : length (p .rayValues) ≡ p .rays * 8
+  pub rayTags : length (p .rayTags) ≡ p .rays * 10
 
 unfoldable pub AllExact : List Part → Type 0
 AllExact [] = Unit
@@ -25,10 +25,10 @@ AllExact (p ∷ ps) = Exact p × AllExact ps
 -- ---- parts put together in order
 
 abbrev pub noRays : Part
-noRays = record { values = []; tags = []; rays = 0 }
+noRays = record { rayValues = []; rayTags = []; rays = 0 }
 
 abbrev pub joined : Part → Part → Part
-joined p q = record { values = p .values ++ q .values; tags = p .tags ++ q .tags; rays = p .rays + q .rays }
+joined p q = record { rayValues = p .rayValues ++ q .rayValues; rayTags = p .rayTags ++ q .rayTags; rays = p .rays + q .rays }
 
 unfoldable pub joinedAll : List Part → Part
 joinedAll [] = noRays
@@ -39,11 +39,11 @@ abbrev pub withRays : Batch → Part → Batch
 withRays B p =
     record {
       config = B .config;
-      values = B .values;
-      tags = B .tags;
+      solidValues = B .solidValues;
+      solidTags = B .solidTags;
       solids = B .solids;
-      rayValues = p .values;
-      rayTags = p .tags;
+      rayValues = p .rayValues;
+      rayTags = p .rayTags;
       rays = p .rays;
     }
 

@@ -55,7 +55,7 @@ flat-early : (B : Batch) → early (checkFlatOf B) ≡ true
 unfolding checkFlatOf checkSolidsOf checkListsOf
 flat-early B =
     after-early _ _
-    (if-early (eqb (length (B .values)) (B .solids * 42) && eqb (length (B .tags)) (B .solids * 4)) _ _ (tags-early (B .tags) (B .solids) 0) (bad 17 0 refl))
+    (if-early (eqb (length (B .solidValues)) (B .solids * 42) && eqb (length (B .solidTags)) (B .solids * 4)) _ _ (tags-early (B .solidTags) (B .solids) 0) (bad 17 0 refl))
     (if-early (eqb (length (B .rayValues)) (B .rays * 8) && eqb (length (B .rayTags)) (B .rays * 10)) _ _ well (bad 17 0 refl))
 
 config-early : (g : NonSeqTraceConfig) → early (checkConfigOf g) ≡ true

@@ -42,13 +42,13 @@ module _ (B : Batch) (s : Memory) where
 map-short : (t : Tables) → length (tablesText t) ≤ 119994
 unfolding tablesText
 map-short t =
-    let m = memoryIn (detectorsOf (t .places) (t .sizes) (t .detectors)) in
-    trace-short (meantOf (wholeOf (t .runs) 1)) (traceRaysOf (batchIn t) m) (rw (left-flux (batchIn t) m) (memory-short (detectorsOf (t .places) (t .sizes) (t .detectors))))
+    let m = memoryIn (detectorsOf (t .detectorValues) (t .detectorTags) (t .detectors)) in
+    trace-short (meantOf (wholeOf (t .runTags) 1)) (traceRaysOf (batchIn t) m) (rw (left-flux (batchIn t) m) (memory-short (detectorsOf (t .detectorValues) (t .detectorTags) (t .detectors))))
 
 read-short : (c : Checked Unit) (a : Answer) → length (readText c a) ≤ 119994
 read-short (passed u) a =
     let m = a .left in
-    map-short (tables (m .run) (m .runs) (m .solids) (m .tags) (a .solids) (m .detectors) (m .sizes) (a .detectors) (m .rays) (m .marks) (a .rays))
+    map-short (tables (m .runValues) (m .runTags) (m .solidValues) (m .solidTags) (a .solids) (m .detectorValues) (m .detectorTags) (a .detectors) (m .rayValues) (m .rayTags) (a .rays))
 read-short (refusedAt n place) a = omega (arith, refusal-short n place)
 
 pub answer-most : (s : List ℕ) → length (strayMapText s) ≤ 119994

@@ -83,7 +83,7 @@ fit B s e =
     let e1 = both-passed tt (checkFlatOf B) _ e in
     let e2 = both-passed tt (checkRulesOf (B .config) (B .solids) (B .rays)) _ (e1 .1) in
     let e3 = both-passed tt (checkConfigOf (B .config)) (checkCountsOf (B .solids) (B .rays)) (e2 .0) in
-    let e4 = both-passed tt (checkMemoryOf (s .detectors) (length (s .flux)) (length (s .hits)) (length (s .values)) (length (s .tags)) (s .used)) (checkRaysOf (raysIn B) (B .solids) (B .rays) 0) (e2 .1) in
+    let e4 = both-passed tt (checkMemoryOf (s .detectors) (length (s .flux)) (length (s .hits)) (length (s .hitValues)) (length (s .hitTags)) (s .used)) (checkRaysOf (raysIn B) (B .solids) (B .rays) 0) (e2 .1) in
     record {
       limit = config-lim (B .config) (e3 .0);
       few = counts-few (B .solids) (B .rays) (e3 .1);

@@ -21,14 +21,14 @@ use Rattle.trace.specs.declared.Traced.{Traced}
 use Rattle.trace.specs.Trace.{Batch, raysIn, checkTraceOf, checkBatch, allSteps, startOf, runOn, traced, traceRaysOf, answerOf, asTraced}
 
 module _ (B : Batch) (s : Memory) (c : Check)
-    (said : asChecked c ≡ checkTraceOf B (s .detectors) (length (s .flux)) (length (s .hits)) (length (s .values)) (length (s .tags)) (s .used)) where
+    (said : asChecked c ≡ checkTraceOf B (s .detectors) (length (s .flux)) (length (s .hits)) (length (s .hitValues)) (length (s .hitTags)) (s .used)) where
   pub refused-call : (e : NonSeqError) (place : ℕ) → c ≡ Refused e place → (r : NonSeqTraceReport) → r ≡ startReportOf 0 #0 → record { outcome = asOutcome (Refused e place) s; report = r } ≡ traceRaysOf B s
   unfolding traceRaysOf checkBatch
   refused-call e place k r er = rw (er, ← said, k)
 
   pub passed-call : c ≡ Passed → (fs : Faces) → fs ≡ newFacesOf (s .detectors) → (p : Progress) → p ≡ startOf (raysIn B) (B .rays)
       → (a : Advanced) (f : List Float) (h : List ℕ) (v : List Float) (t : List ℕ)
-      → asAdvanced a f h v t ≡ drive recordOf (listedScene (B .values) (B .tags) (B .solids) fs (B .config)) (raysIn B) allSteps s p
+      → asAdvanced a f h v t ≡ drive recordOf (listedScene (B .solidValues) (B .solidTags) (B .solids) fs (B .config)) (raysIn B) allSteps s p
       → (r : Traced) → r ≡ answerOf a → asTraced r f h v t ≡ traceRaysOf B s
   unfolding traceRaysOf checkBatch runOn
   passed-call k fs efs p ep a f h v t ran r er = rw (er, ← said, k) (ap traced (rw (efs, ep) at ran))

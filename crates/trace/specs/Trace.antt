@@ -28,15 +28,15 @@ use Rattle.trace.specs.declared.Traced.{Traced}
 -- what a tracing is given, the memory aside: the rules, the solids, the rays
 pub record Batch : Type 0 where
   pub config : NonSeqTraceConfig
-  pub values : List Float
-  pub tags : List ℕ
+  pub solidValues : List Float
+  pub solidTags : List ℕ
   pub solids : ℕ
   pub rayValues : List Float
   pub rayTags : List ℕ
   pub rays : ℕ
 
 abbrev pub lentBatch : NonSeqTraceConfig → List Float → List ℕ → ℕ → List Float → List ℕ → ℕ → Batch
-lentBatch g x k n v t m = record { config = g; values = x; tags = k; solids = n; rayValues = v; rayTags = t; rays = m }
+lentBatch g x k n v t m = record { config = g; solidValues = x; solidTags = k; solids = n; rayValues = v; rayTags = t; rays = m }
 
 abbrev pub raysIn : Batch → ℕ → ActiveRay
 raysIn B = givenAtOf (B .rayValues) (B .rayTags)
@@ -45,7 +45,7 @@ raysIn B = givenAtOf (B .rayValues) (B .rayTags)
 
 -- 17, solids before rays
 unfoldable pub checkFlatOf : Batch → Checked Unit
-checkFlatOf B = after (checkSolidsOf (B .values) (B .tags) (B .solids)) (checkListsOf (length (B .rayValues)) (length (B .rayTags)) (B .rays))
+checkFlatOf B = after (checkSolidsOf (B .solidValues) (B .solidTags) (B .solids)) (checkListsOf (length (B .rayValues)) (length (B .rayTags)) (B .rays))
 
 -- 1, then 2
 unfoldable pub checkConfigOf : NonSeqTraceConfig → Checked Unit
@@ -77,7 +77,7 @@ checkTraceOf B ds nf nh nv nt used =
     (after (checkMemoryOf ds nf nh nv nt used) (checkRaysOf (raysIn B) (B .solids) (B .rays) 0)))
 
 unfoldable pub checkBatch : Batch → Memory → Checked Unit
-checkBatch B s = checkTraceOf B (s .detectors) (length (s .flux)) (length (s .hits)) (length (s .values)) (length (s .tags)) (s .used)
+checkBatch B s = checkTraceOf B (s .detectors) (length (s .flux)) (length (s .hits)) (length (s .hitValues)) (length (s .hitTags)) (s .used)
 
 -- ---- the run
 
@@ -89,7 +89,7 @@ unfoldable pub startOf : (ℕ → ActiveRay) → ℕ → Progress
 startOf given n = record { stack = emptyStackOf; left = n; report = startReportOf n (launchedOf given n) }
 
 abbrev pub sceneIn : Batch → Detectors → Scene
-sceneIn B ds = listedScene (B .values) (B .tags) (B .solids) (newFacesOf ds) (B .config)
+sceneIn B ds = listedScene (B .solidValues) (B .solidTags) (B .solids) (newFacesOf ds) (B .config)
 
 -- into any memory; of the detectors it uses the faces
 unfoldable pub runOn : {M : Type 0} → (M → DetectorHit → Outcome M) → Detectors → Batch → M → Run M

@@ -10,17 +10,17 @@ ghost use Rattle.trace.specs.Trace.{lentBatch, checkFlatOf, checkConfigO
 // Lists of solids or rays that do not fit (17).
 fn check_flat(
     config: NonSeqTraceConfig,
-    values: &[f64],
-    tags: &[u32],
+    solid_values: &[f64],
+    solid_tags: &[u32],
     count: u32,
-    rays: &[f64],
-    marks: &[u32],
+    ray_values: &[f64],
+    ray_tags: &[u32],
     given: u32,
 ) -> Check
-    ensures { λ r. ⌜ asChecked r ≡ checkFlatOf (lentBatch config (now (values .entry)) (now (tags .entry)) count (now (rays .entry)) (now (marks .entry)) given) ⌝ }
+    ensures { λ r. ⌜ asChecked r ≡ checkFlatOf (lentBatch config (now («solid_values» .entry)) (now («solid_tags» .entry)) count (now («ray_values» .entry)) (now («ray_tags» .entry)) given) ⌝ }
 {
-    match scene::check_solids(values, tags, count) {
-        Check::Passed => given_rays::check_lists(rays.len(), marks.len(), given),
+    match scene::check_solids(solid_values, solid_tags, count) {
+        Check::Passed => given_rays::check_lists(ray_values.len(), ray_tags.len(), given),
         Check::Refused { error, place } => Check::Refused { error, place },
     }
 }
@@ -76,13 +76,13 @@ fn check_lengths(
     detectors: Detectors,
     flux: usize,
     hits: usize,
-    places: usize,
-    kinds: usize,
+    hit_values: usize,
+    hit_tags: usize,
     used: usize,
 ) -> Check
-    ensures { λ r. ⌜ asChecked r ≡ checkLengthsOf detectors flux hits places kinds used ⌝ }
+    ensures { λ r. ⌜ asChecked r ≡ checkLengthsOf detectors flux hits «hit_values» «hit_tags» used ⌝ }
 {
-    if memory::are_lengths(detectors, flux, hits, places, kinds, used) {
+    if memory::are_lengths(detectors, flux, hits, hit_values, hit_tags, used) {
         return Check::Passed;
     }
     Check::Refused {
@@ -95,14 +95,14 @@ fn check_memory(
     detectors: Detectors,
     flux: usize,
     hits: usize,
-    places: usize,
-    kinds: usize,
+    hit_values: usize,
+    hit_tags: usize,
     used: usize,
 ) -> Check
-    ensures { λ r. ⌜ asChecked r ≡ checkMemoryOf detectors flux hits places kinds used ⌝ }
+    ensures { λ r. ⌜ asChecked r ≡ checkMemoryOf detectors flux hits «hit_values» «hit_tags» used ⌝ }
 {
     match detectors.check() {
-        Check::Passed => check_lengths(detectors, flux, hits, places, kinds, used),
+        Check::Passed => check_lengths(detectors, flux, hits, hit_values, hit_tags, used),
         Check::Refused { error, place } => Check::Refused { error, place },
     }
 }
@@ -110,25 +110,33 @@ fn check_memory(
 // All checks of a tracing; flux, hits, places and kinds are the lengths of the memory's slices.
 pub fn check_trace(
     config: NonSeqTraceConfig,
-    values: &[f64],
-    tags: &[u32],
+    solid_values: &[f64],
+    solid_tags: &[u32],
     count: u32,
-    rays: &[f64],
-    marks: &[u32],
+    ray_values: &[f64],
+    ray_tags: &[u32],
     given: u32,
     detectors: Detectors,
     flux: usize,
     hits: usize,
-    places: usize,
-    kinds: usize,
+    hit_values: usize,
+    hit_tags: usize,
     used: usize,
 ) -> Check
-    ensures { λ r. ⌜ asChecked r ≡ checkTraceOf (lentBatch config (now (values .entry)) (now (tags .entry)) count (now (rays .entry)) (now (marks .entry)) given) detectors flux hits places kinds used ⌝ }
+    ensures { λ r. ⌜ asChecked r ≡ checkTraceOf (lentBatch config (now («solid_values» .entry)) (now («solid_tags» .entry)) count (now («ray_values» .entry)) (now («ray_tags» .entry)) given) detectors flux hits «hit_values» «hit_tags» used ⌝ }
 {
-    match check_flat(config, values, tags, count, rays, marks, given) {
+    match check_flat(
+        config,
+        solid_values,
+        solid_tags,
+        count,
+        ray_values,
+        ray_tags,
+        given,
+    ) {
         Check::Passed => match check_rules(config, count, given) {
-            Check::Passed => match check_memory(detectors, flux, hits, places, kinds, used) {
-                Check::Passed => given_rays::check_rays(rays, marks, given, count),
+            Check::Passed => match check_memory(detectors, flux, hits, hit_values, hit_tags, used) {
+                Check::Passed => given_rays::check_rays(ray_values, ray_tags, given, count),
                 Check::Refused { error, place } => Check::Refused { error, place },
             },
             Check::Refused { error, place } => Check::Refused { error, place },

@@ -25,10 +25,10 @@ pub struct Traced {
 }
 
 // Before the first step.
-fn start(rays: &[f64], marks: &[u32], given: u32) -> Progress
-    ensures { λ r. ⌜ r ≡ startOf (givenAtOf (now (rays .entry)) (now (marks .entry))) given ⌝ }
+fn start(ray_values: &[f64], ray_tags: &[u32], given: u32) -> Progress
+    ensures { λ r. ⌜ r ≡ startOf (givenAtOf (now («ray_values» .entry)) (now («ray_tags» .entry))) given ⌝ }
 {
-    let launched = given_rays::launched(rays, marks, given);
+    let launched = given_rays::launched(ray_values, ray_tags, given);
     Progress {
         stack: Stack::empty(),
         left: given,
@@ -58,36 +58,36 @@ fn answer(r: Advanced) -> Traced
 // keeps the hits of the steps before.
 pub fn trace_rays(
     config: NonSeqTraceConfig,
-    values: &[f64],
-    tags: &[u32],
+    solid_values: &[f64],
+    solid_tags: &[u32],
     count: u32,
-    rays: &[f64],
-    marks: &[u32],
+    ray_values: &[f64],
+    ray_tags: &[u32],
     given: u32,
     detectors: Detectors,
     flux: &mut [f64],
     hits: &mut [u32],
-    places: &mut [f64],
-    kinds: &mut [u32],
+    hit_values: &mut [f64],
+    hit_tags: &mut [u32],
     used: usize,
 ) -> Traced
-    ensures { λ r. ⌜ asTraced r (now (flux .exit)) (now (hits .exit)) (now (places .exit)) (now (kinds .exit))
-        ≡ traceRaysOf (lentBatch config (now (values .entry)) (now (tags .entry)) count (now (rays .entry)) (now (marks .entry)) given)
-        (lentMemory detectors (now (flux .entry)) (now (hits .entry)) (now (places .entry)) (now (kinds .entry)) used) ⌝ }
+    ensures { λ r. ⌜ asTraced r (now (flux .exit)) (now (hits .exit)) (now («hit_values» .exit)) (now («hit_tags» .exit))
+        ≡ traceRaysOf (lentBatch config (now («solid_values» .entry)) (now («solid_tags» .entry)) count (now («ray_values» .entry)) (now («ray_tags» .entry)) given)
+        (lentMemory detectors (now (flux .entry)) (now (hits .entry)) (now («hit_values» .entry)) (now («hit_tags» .entry)) used) ⌝ }
 {
     match check_trace(
         config,
-        values,
-        tags,
+        solid_values,
+        solid_tags,
         count,
-        rays,
-        marks,
+        ray_values,
+        ray_tags,
         given,
         detectors,
         flux.len(),
         hits.len(),
-        places.len(),
-        kinds.len(),
+        hit_values.len(),
+        hit_tags.len(),
         used,
     ) {
         Check::Refused { error, place } => Traced {
@@ -98,22 +98,22 @@ pub fn trace_rays(
         },
         Check::Passed => {
             let faces = Faces::new(detectors);
-            let progress = start(rays, marks, given);
+            let progress = start(ray_values, ray_tags, given);
             let r = run::advance(
                 config,
-                values,
-                tags,
+                solid_values,
+                solid_tags,
                 count,
                 faces,
-                rays,
-                marks,
+                ray_values,
+                ray_tags,
                 progress,
                 4294967295,
                 detectors,
                 flux,
                 hits,
-                places,
-                kinds,
+                hit_values,
+                hit_tags,
                 used,
             );
             answer(r)

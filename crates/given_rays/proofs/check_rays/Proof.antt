@@ -8,10 +8,10 @@ use Rattle.given_rays.proofs.check_rays.Statement.{statement}
 use Rattle.given_rays.proofs.check_rays.Tie as tie
 
 abbrev Inv-loop : tie.InvT-loop
-Inv-loop values tags rays solids i₀ i = checkRaysOf (givenAtOf values tags) solids (rays - i) i ≡ checkRaysOf (givenAtOf values tags) solids rays 0
+Inv-loop rayValues rayTags rays solids i₀ i = checkRaysOf (givenAtOf rayValues rayTags) solids (rays - i) i ≡ checkRaysOf (givenAtOf rayValues rayTags) solids rays 0
 
 abbrev μ-loop : tie.MeasureT-loop
-μ-loop values tags rays solids i₀ i = rays - i
+μ-loop rayValues rayTags rays solids i₀ i = rays - i
 
 loop-holds : tie.Need-loop-holds Inv-loop μ-loop
 loop-holds c = rays-start _ _ _

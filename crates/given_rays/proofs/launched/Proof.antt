@@ -9,10 +9,10 @@ use Rattle.given_rays.proofs.launched.Statement.{statement}
 use Rattle.given_rays.proofs.launched.Tie as tie
 
 abbrev Inv-loop : tie.InvT-loop
-Inv-loop values tags rays sum₀ i₀ sum i = launchedFrom (givenAtOf values tags) (rays - i) i sum ≡ launchedOf (givenAtOf values tags) rays
+Inv-loop rayValues rayTags rays sum₀ i₀ sum i = launchedFrom (givenAtOf rayValues rayTags) (rays - i) i sum ≡ launchedOf (givenAtOf rayValues rayTags) rays
 
 abbrev μ-loop : tie.MeasureT-loop
-μ-loop values tags rays sum₀ i₀ sum i = rays - i
+μ-loop rayValues rayTags rays sum₀ i₀ sum i = rays - i
 
 loop-holds : tie.Need-loop-holds Inv-loop μ-loop
 loop-holds c = launch-start _ _

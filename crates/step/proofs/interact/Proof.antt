@@ -4,8 +4,8 @@ use borrow.Author.Needs.{needs}
 use Rattle.step.proofs.interact.Statement.{statement}
 use Rattle.step.proofs.interact.Tie as tie
 
-nearest-requires : tie.Need-nearest-requires
-nearest-requires c κs = search needs
+nearest-detector-requires : tie.Need-nearest-detector-requires
+nearest-detector-requires c κs = search needs
 
 closest-object-requires : tie.Need-closest-object-requires
 closest-object-requires c κs = search needs
@@ -36,21 +36,21 @@ ends-requires-2 c κs = search needs
 
 returns : tie.Need-returns
 unfolding interactOf meetsWith
-returns c = simp (← c .before .before .before .before .before .before .before .nearest .ensures, ← c .before .before .before .before .before .before .closest-object .ensures, ← c .before .before .before .before .before .first-met .ensures, c .before .before .before .sight .given .1, ← c .before .caught-by .ensures, ← c .ends .ensures)
+returns c = simp (← c .before .before .before .before .before .before .before .nearest-detector .ensures, ← c .before .before .before .before .before .before .closest-object .ensures, ← c .before .before .before .before .before .first-met .ensures, c .before .before .before .sight .given .1, ← c .before .caught-by .ensures, ← c .ends .ensures)
 
 returns-2 : tie.Need-returns-2
 unfolding interactOf meetsWith
-returns-2 c = simp (← c .before .before .before .before .before .before .nearest .ensures, ← c .before .before .before .before .before .closest-object .ensures, ← c .before .before .before .before .first-met .ensures, c .before .before .hit .given .1, ← c .surface .ensures)
+returns-2 c = simp (← c .before .before .before .before .before .before .nearest-detector .ensures, ← c .before .before .before .before .before .closest-object .ensures, ← c .before .before .before .before .first-met .ensures, c .before .before .hit .given .1, ← c .surface .ensures)
 
 returns-3 : tie.Need-returns-3
 unfolding interactOf meetsWith
-returns-3 c = simp (← c .before .before .before .before .before .nearest .ensures, ← c .before .before .before .before .closest-object .ensures, ← c .before .before .before .first-met .ensures, c .before .enum-told .given .1, ← c .ends2 .ensures)
+returns-3 c = simp (← c .before .before .before .before .before .nearest-detector .ensures, ← c .before .before .before .before .closest-object .ensures, ← c .before .before .before .first-met .ensures, c .before .enum-told .given .1, ← c .ends2 .ensures)
 
 pub interact-spec : {M : Type 1} → statement M
 interact-spec =
     tie.close
     (tie.spec
-    nearest-requires
+    nearest-detector-requires
     closest-object-requires
     first-met-requires
     enum-known-sight

@@ -26,11 +26,11 @@ empty-requires c κs = search needs
 loop-holds : tie.Need-loop-holds Inv-loop μ-loop
 loop-holds c = (search needs, rw (c .empty .ensures))
 
-end-of-requires : tie.Need-end-of-requires Inv-loop μ-loop
-end-of-requires c κs = search needs
+end-at-requires : tie.Need-end-at-requires Inv-loop μ-loop
+end-at-requires c κs = search needs
 
-ends : (c : tie.After-end-of Inv-loop μ-loop) → (c .before .before .loop .at ≤ c .end-of .result) × (c .end-of .result ≤ length (c .before .before .before .before .before .args .text .now))
-ends c = end-in _ _ _ _ (c .end-of .ensures) (le-of-lt (c .before .loop-test .taken))
+ends : (c : tie.After-end-at Inv-loop μ-loop) → (c .before .before .loop .at ≤ c .end-at .result) × (c .end-at .result ≤ length (c .before .before .before .before .before .args .text .now))
+ends c = end-in _ _ _ _ (c .end-at .ensures) (le-of-lt (c .before .loop-test .taken))
 
 sub-line-agrees : tie.Need-sub-line-agrees Inv-loop μ-loop
 sub-line-agrees c = ends c .0
@@ -58,7 +58,7 @@ loop-again c =
     let l = c .before .before .before .before .before in
     let h = ends (c .before .before .before) in (
       omega arith,
-      turn _ _ _ _ _ (l .loop .t) _ _ (c .before .before .before .before .loop-test .taken) (c .before .before .before .end-of .ensures) (c .before .line-agrees .ensures) (c .count .ensures) (l .loop .inv .1),
+      turn _ _ _ _ _ (l .loop .t) _ _ (c .before .before .before .before .loop-test .taken) (c .before .before .before .end-at .ensures) (c .before .line-agrees .ensures) (c .count .ensures) (l .loop .inv .1),
     )
 
 returns : tie.Need-returns Inv-loop μ-loop
@@ -72,7 +72,7 @@ tally-lines-spec =
     μ-loop
     empty-requires
     loop-holds
-    end-of-requires
+    end-at-requires
     sub-line-agrees
     part-line-agrees-start
     part-line-agrees-end

@@ -10,17 +10,17 @@ use Rattle.answer_text.proofs.detectors_text.put_detectors.Statement.{s
 use Rattle.answer_text.proofs.detectors_text.put_detectors.Tie as tie
 
 abbrev Inv-loop : tie.InvT-loop
-Inv-loop buf₀ at detectors filter flux values tags used n p₀ d₀ buf p d =
-    (d ≤ n) × (length buf ≡ length buf₀) × (putAll buf p (eachFrom (detectorText (held detectors flux values tags used) filter) (n - d) d) ≡ putAll buf₀ at (eachFrom (detectorText (held detectors flux values tags used) filter) (detectorCountOf (detectors .count)) 0))
+Inv-loop buf₀ at detectors filter flux hitValues hitTags used n p₀ d₀ buf p d =
+    (d ≤ n) × (length buf ≡ length buf₀) × (putAll buf p (eachFrom (detectorText (held detectors flux hitValues hitTags used) filter) (n - d) d) ≡ putAll buf₀ at (eachFrom (detectorText (held detectors flux hitValues hitTags used) filter) (detectorCountOf (detectors .count)) 0))
 
 abbrev μ-loop : tie.MeasureT-loop
-μ-loop buf₀ at detectors filter flux values tags used n p₀ d₀ buf p d = n - d
+μ-loop buf₀ at detectors filter flux hitValues hitTags used n p₀ d₀ buf p d = n - d
 
-count-of-requires : tie.Need-count-of-requires Inv-loop μ-loop
-count-of-requires c κs = search needs
+detector-count-requires : tie.Need-detector-count-requires Inv-loop μ-loop
+detector-count-requires c κs = search needs
 
 loop-holds : tie.Need-loop-holds Inv-loop μ-loop
-loop-holds c = (search needs, refl, each-start _ _ _ _ _ (c .count-of .ensures))
+loop-holds c = (search needs, refl, each-start _ _ _ _ _ (c .detector-count .ensures))
 
 put-detector-requires : tie.Need-put-detector-requires Inv-loop μ-loop
 put-detector-requires c κs = search needs
@@ -47,7 +47,7 @@ put-detectors-spec =
     (tie.spec
     Inv-loop
     μ-loop
-    count-of-requires
+    detector-count-requires
     loop-holds
     put-detector-requires
     add-d

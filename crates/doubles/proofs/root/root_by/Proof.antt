@@ -13,14 +13,14 @@ use Rattle.doubles.proofs.root.root_by.Tie as tie
 add-d : tie.Need-add-d
 add-d c = search needs
 
-add-pins : tie.Need-add-pins
-add-pins c = search needs
+add-is-nearest-root : tie.Need-add-is-nearest-root
+add-is-nearest-root c = search needs
 
-shl-pins : tie.Need-shl-pins
-shl-pins c = search needs
+shl-is-nearest-root : tie.Need-shl-is-nearest-root
+shl-is-nearest-root c = search needs
 
-pins-requires : tie.Need-pins-requires
-pins-requires c κs =
+is-nearest-root-requires : tie.Need-is-nearest-root-requires
+is-nearest-root-requires c κs =
     let b = c .args .b in
     let lo = c .pre .0 in
     let hi = c .pre .1 in
@@ -42,7 +42,7 @@ float-from-bits-result c = positive-no-nan _ (omega arith)
 returns : tie.Need-returns
 returns c =
     let start = c .before .before in
-    normal-root (start .args .b) (start .pre .0) (start .pre .1) _ (nearest-of _ _ (near-of-true _ _ (sym (c .before .pins .ensures) ∙ c .if1 .taken)))
+    normal-root (start .args .b) (start .pre .0) (start .pre .1) _ (nearest-of _ _ (near-of-true _ _ (sym (c .before .is-nearest-root .ensures) ∙ c .if1 .taken)))
 
 root-slowly-requires : tie.Need-root-slowly-requires
 root-slowly-requires c κs = search needs
@@ -55,9 +55,9 @@ root-by-spec =
     tie.close
     (tie.spec
     add-d
-    add-pins
-    shl-pins
-    pins-requires
+    add-is-nearest-root
+    shl-is-nearest-root
+    is-nearest-root-requires
     add-result
     mul-result
     add-result-2

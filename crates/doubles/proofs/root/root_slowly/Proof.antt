@@ -17,25 +17,25 @@ returns c = search needs
 add-d : tie.Need-add-d
 add-d c = search needs
 
-add-slow-root : tie.Need-add-slow-root
-add-slow-root c = search needs
+add-nearest-root : tie.Need-add-nearest-root
+add-nearest-root c = search needs
 
-shl-slow-root : tie.Need-shl-slow-root
-shl-slow-root c = search needs
+shl-nearest-root : tie.Need-shl-nearest-root
+shl-nearest-root c = search needs
 
-slow-root-requires : tie.Need-slow-root-requires
-slow-root-requires c κs =
+nearest-root-requires : tie.Need-nearest-root-requires
+nearest-root-requires c κs =
     let b = c .before .args .b in
     let lo = c .if1 .left in
     let hi = c .before .pre .1 in
     evened-in (b % 2 ^ 52 + 2 ^ 52) ((b / 2 ^ 52 + 1) % 2) (digits-least b lo hi) (digits-most b lo hi) (even-most b lo hi)
 
-most : (c : tie.After-slow-root) → c .slow-root .result < 2 ^ 53
+most : (c : tie.After-nearest-root) → c .nearest-root .result < 2 ^ 53
 most c =
     let b = c .before .before .args .b in
     let lo = c .before .if1 .left in
     let hi = c .before .before .pre .1 in
-    root-most (b % 2 ^ 52 + 2 ^ 52) ((b / 2 ^ 52 + 1) % 2) (digits-least b lo hi) (digits-most b lo hi) (even-most b lo hi) (c .slow-root .result) (c .slow-root .ensures)
+    root-most (b % 2 ^ 52 + 2 ^ 52) ((b / 2 ^ 52 + 1) % 2) (digits-least b lo hi) (digits-most b lo hi) (even-most b lo hi) (c .nearest-root .result) (c .nearest-root .ensures)
 
 add-result : tie.Need-add-result
 add-result c = search needs
@@ -50,7 +50,7 @@ float-from-bits-result : tie.Need-float-from-bits-result
 float-from-bits-result c = positive-no-nan _ (omega (arith, most c))
 
 returns-2 : tie.Need-returns-2
-returns-2 c = normal-root (c .before .before .args .b) (c .before .if1 .left) (c .before .before .pre .1) (c .slow-root .result) (c .slow-root .ensures)
+returns-2 c = normal-root (c .before .before .args .b) (c .before .if1 .left) (c .before .before .pre .1) (c .nearest-root .result) (c .nearest-root .ensures)
 
 pub root-slowly-spec : {M : Type 1} → statement M
 root-slowly-spec =
@@ -59,9 +59,9 @@ root-slowly-spec =
     root-subnormal-requires
     returns
     add-d
-    add-slow-root
-    shl-slow-root
-    slow-root-requires
+    add-nearest-root
+    shl-nearest-root
+    nearest-root-requires
     add-result
     mul-result
     add-result-2

@@ -23,11 +23,11 @@ sub-s c = at c .enough
 shl-d : tie.Need-shl-d
 shl-d c = omega (arith, at c .short)
 
-shl-slow-root : tie.Need-shl-slow-root
-shl-slow-root c = search needs
+shl-nearest-root : tie.Need-shl-nearest-root
+shl-nearest-root c = search needs
 
-slow-root-requires : tie.Need-slow-root-requires
-slow-root-requires c κs =
+nearest-root-requires : tie.Need-nearest-root-requires
+nearest-root-requires c κs =
     let b = c .args .b in
     let a = at c in
     let s = leadingZeros 64 b - 11 in
@@ -35,18 +35,18 @@ slow-root-requires c κs =
     subst (λ (x : ℕ). (2 ^ 52 ≤ (x * 2 ^ (s % 2)) % 2 ^ 64) × ((x * 2 ^ (s % 2)) % 2 ^ 64 + 1 < 2 ^ 54)) (sym (a .fits))
     (evened-in (b * 2 ^ s) (s % 2) (a .least) (a .most) e)
 
-near : (c : tie.After-slow-root) → c .slow-root .result ≡ nearestRootOf ((c .before .args .b * 2 ^ (leadingZeros 64 (c .before .args .b) - 11) * 2 ^ ((leadingZeros 64 (c .before .args .b) - 11) % 2)) % 2 ^ 64 * 2 ^ 52)
+near : (c : tie.After-nearest-root) → c .nearest-root .result ≡ nearestRootOf ((c .before .args .b * 2 ^ (leadingZeros 64 (c .before .args .b) - 11) * 2 ^ ((leadingZeros 64 (c .before .args .b) - 11) % 2)) % 2 ^ 64 * 2 ^ 52)
 near c =
     let s = leadingZeros 64 (c .before .args .b) - 11 in
-    subst (λ (x : ℕ). c .slow-root .result ≡ nearestRootOf ((x * 2 ^ (s % 2)) % 2 ^ 64 * 2 ^ 52)) (at (c .before) .fits) (c .slow-root .ensures)
+    subst (λ (x : ℕ). c .nearest-root .result ≡ nearestRootOf ((x * 2 ^ (s % 2)) % 2 ^ 64 * 2 ^ 52)) (at (c .before) .fits) (c .nearest-root .ensures)
 
-most : (c : tie.After-slow-root) → c .slow-root .result < 2 ^ 53
+most : (c : tie.After-nearest-root) → c .nearest-root .result < 2 ^ 53
 most c =
     let b = c .before .args .b in
     let a = at (c .before) in
     let s = leadingZeros 64 b - 11 in
     let e = sub-even b s (c .before .pre .0) (c .before .pre .1) (a .least) (a .most) (a .short) in
-    root-most (b * 2 ^ s) (s % 2) (a .least) (a .most) e (c .slow-root .result) (near c)
+    root-most (b * 2 ^ s) (s % 2) (a .least) (a .most) e (c .nearest-root .result) (near c)
 
 sub-result : tie.Need-sub-result
 sub-result c = omega (arith, at (c .before) .short)
@@ -64,7 +64,7 @@ returns : tie.Need-returns
 returns c =
     let b = c .before .args .b in
     let a = at (c .before) in
-    subnormal-root b (leadingZeros 64 b - 11) (c .before .pre .0) (c .before .pre .1) (a .least) (a .most) (a .short) (c .slow-root .result) (near c)
+    subnormal-root b (leadingZeros 64 b - 11) (c .before .pre .0) (c .before .pre .1) (a .least) (a .most) (a .short) (c .nearest-root .result) (near c)
 
 pub root-subnormal-spec : {M : Type 1} → statement M
 root-subnormal-spec =
@@ -73,8 +73,8 @@ root-subnormal-spec =
     cast-s
     sub-s
     shl-d
-    shl-slow-root
-    slow-root-requires
+    shl-nearest-root
+    nearest-root-requires
     sub-result
     mul-result
     add-result

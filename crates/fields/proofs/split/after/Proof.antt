@@ -11,15 +11,15 @@ returns : tie.Need-returns
 unfolding afterOf
 returns c = simp (lt-ltb _ _ (c .if1 .taken))
 
-end-of-requires : tie.Need-end-of-requires
-end-of-requires c κs = search needs
+end-at-requires : tie.Need-end-at-requires
+end-at-requires c κs = search needs
 
 add-result : tie.Need-add-result
-add-result c = omega (arith, end-in _ _ _ _ (c .end-of .ensures) (c .before .if1 .left))
+add-result c = omega (arith, end-in _ _ _ _ (c .end-at .ensures) (c .before .if1 .left))
 
 returns-2 : tie.Need-returns-2
 unfolding afterOf
-returns-2 c = simp (le-ltb _ _ (c .before .if1 .left), ← c .end-of .ensures)
+returns-2 c = simp (le-ltb _ _ (c .before .if1 .left), ← c .end-at .ensures)
 
 pub after-spec : {M : Type 1} → statement M
-after-spec = tie.close (tie.spec returns end-of-requires add-result returns-2)
+after-spec = tie.close (tie.spec returns end-at-requires add-result returns-2)

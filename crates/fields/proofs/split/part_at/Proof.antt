@@ -19,20 +19,20 @@ returns : tie.Need-returns
 unfolding partsAt
 returns c = simp (lt-ltb _ _ (c .before .if1 .taken))
 
-end-of-requires : tie.Need-end-of-requires
-end-of-requires c κs = search needs
+end-at-requires : tie.Need-end-at-requires
+end-at-requires c κs = search needs
 
 sub-result-2 : tie.Need-sub-result-2
-sub-result-2 c = end-in _ _ _ _ (c .end-of .ensures) (c .before .if1 .left) .0
+sub-result-2 c = end-in _ _ _ _ (c .end-at .ensures) (c .before .if1 .left) .0
 
 part-result-start-2 : tie.Need-part-result-start-2
-part-result-start-2 c = let h = end-in _ _ _ _ (c .end-of .ensures) (c .before .if1 .left) in search needs
+part-result-start-2 c = let h = end-in _ _ _ _ (c .end-at .ensures) (c .before .if1 .left) in search needs
 
 part-result-end-2 : tie.Need-part-result-end-2
-part-result-end-2 c = let h = end-in _ _ _ _ (c .end-of .ensures) (c .before .if1 .left) in search needs
+part-result-end-2 c = let h = end-in _ _ _ _ (c .end-at .ensures) (c .before .if1 .left) in search needs
 
 returns-2 : tie.Need-returns-2
-returns-2 c = part-is _ _ _ _ (c .before .end-of .ensures) (c .before .before .if1 .left)
+returns-2 c = part-is _ _ _ _ (c .before .end-at .ensures) (c .before .before .if1 .left)
 
 pub part-at-spec : {M : Type 1} → statement M
 part-at-spec =
@@ -42,7 +42,7 @@ part-at-spec =
     part-result-start
     part-result-end
     returns
-    end-of-requires
+    end-at-requires
     sub-result-2
     part-result-start-2
     part-result-end-2

@@ -12,14 +12,14 @@ use Rattle.filter.proofs.sifting.refill.Statement.{statement}
 use Rattle.filter.proofs.sifting.refill.Tie as tie
 
 abbrev Inv-loop : tie.InvT-loop
-Inv-loop filter asked d work₀ values tags used t₀ i₀ work t i =
+Inv-loop filter asked d work₀ hitValues hitTags used t₀ i₀ work t i =
     (i ≤ used)
     × (length work ≡ length work₀)
     × (t .count ≤ i)
-    × (plusEach d (asMap t work) (passing filter asked (hitsFrom values tags (used - i) i)) ≡ refillOf filter asked d (length work₀) (hitsFrom values tags used 0))
+    × (plusEach d (asMap t work) (passing filter asked (hitsFrom hitValues hitTags (used - i) i)) ≡ refillOf filter asked d (length work₀) (hitsFrom hitValues hitTags used 0))
 
 abbrev μ-loop : tie.MeasureT-loop
-μ-loop filter asked d work₀ values tags used t₀ i₀ work t i = used - i
+μ-loop filter asked d work₀ hitValues hitTags used t₀ i₀ work t i = used - i
 
 clear-requires : tie.Need-clear-requires Inv-loop μ-loop
 clear-requires c κs = search needs

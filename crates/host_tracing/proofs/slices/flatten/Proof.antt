@@ -77,13 +77,13 @@ ray-val = LL.val T.the-type T′.the-laws
 record Turn (ys : List GivenRay) (s₀ : Laid) (n₀ n₁ : ℕ) : Type 0 where
   at : ℕ
   count : ℕ
-  values : List Float
-  marks : List ℕ
+  rayValues : List Float
+  rayTags : List ℕ
   within : at ≤ length ys
   small : count < 2 ^ 32
-  so : flattenOf (dropped at ys) (laid count values marks) ≡ flattenOf ys s₀
-  same₀ : length values ≡ n₀
-  same₁ : length marks ≡ n₁
+  so : flattenOf (dropped at ys) (laid count rayValues rayTags) ≡ flattenOf ys s₀
+  same₀ : length rayValues ≡ n₀
+  same₁ : length rayTags ≡ n₁
 
 by-test : {X : Type 1} (b : Bool) → (b ≡ true → X) → (b ≡ false → X) → X
 by-test true f g = f refl
@@ -138,13 +138,13 @@ module _ {M : Type 1} (𝓤 : URA M) (H : Heap 𝓤) (A : Atoms 𝓤) (W : Given
   abbrev X : Type 0
   X = Turn ys s₀ (length g₁) (length g₂)
 
-  exits : (z : X) → n ≤ z .at → ent 𝓤 (⋆ 𝓤 H A (Has (z .values) (z .marks) [])) (Post (vint w32 (z .count)))
+  exits : (z : X) → n ≤ z .at → ent 𝓤 (⋆ 𝓤 H A (Has (z .rayValues) (z .rayTags) [])) (Post (vint w32 (z .count)))
   exits z over =
-      qed W (Has (z .values) (z .marks) []) ∵
-      suffices ! _ (ends-at 𝓤 H A each.ended stayed (each.clauses 𝓤 H A mem run) W bound (vint w32 (z .count)) (z .count) (tt, (z .values, (z .marks, tt))) (tt, (z .same₀, (z .same₁, tt)))) $
-      says ! (put-end ys (laid (z .count) (z .values) (z .marks)) (flattenOf ys s₀) (z .at) over (z .so)) $
+      qed W (Has (z .rayValues) (z .rayTags) []) ∵
+      suffices ! _ (ends-at 𝓤 H A each.ended stayed (each.clauses 𝓤 H A mem run) W bound (vint w32 (z .count)) (z .count) (tt, (z .rayValues, (z .rayTags, tt))) (tt, (z .same₀, (z .same₁, tt)))) $
+      says ! (put-end ys (laid (z .count) (z .rayValues) (z .rayTags)) (flattenOf ys s₀) (z .at) over (z .so)) $
       nothing ! $ move ! (4 ∷ 0 ∷ []) $ join ! $ move ! (2 ∷ 0 ∷ []) $ join ! $ move ! (4 ∷ 0 ∷ []) $ join ! $ frame ! $
-      rewrite ! 0 (λ (m : ℕ). ‵ (MutSlice (named 1) κ₁ f64 .own (x₁ γ₁ (z .values)) (v₁ (m) ∷ []))) (z .same₀) refl $ rewrite ! 1 (λ (m : ℕ). ‵ (MutSlice (named 2) κ₂ u32 .own (x₂ γ₂ (z .marks)) (v₂ (m) ∷ []))) (z .same₁) refl $
+      rewrite ! 0 (λ (m : ℕ). ‵ (MutSlice (named 1) κ₁ f64 .own (x₁ γ₁ (z .rayValues)) (v₁ (m) ∷ []))) (z .same₀) refl $ rewrite ! 1 (λ (m : ℕ). ‵ (MutSlice (named 2) κ₂ u32 .own (x₂ γ₂ (z .rayTags)) (v₂ (m) ∷ []))) (z .same₁) refl $
       nothing ! $ move ! (2 ∷ 0 ∷ []) $ fjoin ! $ move ! (1 ∷ 0 ∷ []) $ fjoin ! $ move ! (1 ∷ 0 ∷ []) $ fjoin ! $ frame ! $ owned ! u32 (Is u32) (uint-makes 𝓤 H A W w32) (z .count) _ (refl, z .small) $ done !
 
   -- what `step`'s triple binds outside: each slice lent again for a lifetime of the call, under a name of its own
@@ -201,7 +201,7 @@ module _ {M : Type 1} (𝓤 : URA M) (H : Heap 𝓤) (A : Atoms 𝓤) (W : Given
       Locals i t f₀ f₁ = ‵ (froom Wl₁ l₁₄ 0) ∷ ‵ (fdies Wl₁ l₁₄) ∷ ‵ (froom Re₁ l₁₃ 0) ∷ ‵ (fdies Re₁ l₁₃) ∷ ‵ (froom Wl₀ l₁₂ 0) ∷ ‵ (fdies Wl₀ l₁₂) ∷ ‵ (froom Re₀ l₁₁ 0) ∷ ‵ (fdies Re₀ l₁₁) ∷ ‵ (froom T′.mir l₁₀ 0) ∷ ‵ (fdies T′.mir l₁₀) ∷ ‵ (froom tyPtr l₉ 0) ∷ ‵ (fdies tyPtr l₉) ∷ ‵ (froom tyBool l₈ 0) ∷ ‵ (fdies tyBool l₈) ∷ ‵ (froom (tyInt w64) l₇ 0) ∷ ‵ (fdies (tyInt w64) l₇) ∷ ‵ (froom T′.mir l₆ 0) ∷ ‵ (fdies T′.mir l₆) ∷ ‵ (fat fullShare (tyInt w64) l₅ 0 (vint w64 i)) ∷ ‵ (fdies (tyInt w64) l₅) ∷ ‵ (fat fullShare (tyInt w32) l₄ 0 (vint w32 t)) ∷ ‵ (fdies (tyInt w32) l₄) ∷ ‵ (fat fullShare Sl₁ l₃ 0 (v₂ (length f₁))) ∷ ‵ (fdies Sl₁ l₃) ∷ ‵ (fat fullShare Sl₀ l₂ 0 (v₁ (length f₀))) ∷ ‵ (fdies Sl₀ l₂) ∷ ‵ (fat fullShare Rays l₁ 0 v) ∷ ‵ (fdies Rays l₁) ∷ ‵ (froom (tyInt w32) l₀ 0) ∷ ‵ (fdies (tyInt w32) l₀) ∷ []
 
       abbrev I : X → List (Item 𝓤)
-      I z = Has (z .values) (z .marks) (Locals (z .at) (z .count) (z .values) (z .marks))
+      I z = Has (z .rayValues) (z .rayTags) (Locals (z .at) (z .count) (z .rayValues) (z .rayTags))
 
       abbrev left : X → ℕ
       left z = n - z .at
@@ -270,7 +270,7 @@ module _ {M : Type 1} (𝓤 : URA M) (H : Heap 𝓤) (A : Atoms 𝓤) (W : Given
           assigns-last ! (bin ! (load ! (from ! (stop !)) (look ! 24 refl)) (lit ! tt) (record { fits = next-fits })) (from ! (stop !)) (store ! 24 refl (tt, record { fits = next-fits })) $
           forget ! 22 refl $ forget ! 20 refl $ forget ! 18 refl $ forget ! 16 refl $ forget ! 14 refl $ forget ! 12 refl $ forget ! 8 refl $ forget ! 10 refl $ forget ! 6 refl $
           move ! (2 ∷ 3 ∷ 0 ∷ 1 ∷ 4 ∷ 5 ∷ []) $
-          again ! Less I z (record { at = i + 1; count = r; values = zs .1 .1 .0; marks = zs .1 .1 .1 .0; within = omega (arith, inside); small = is′ .1; so = put-turn ys (laid t f₀ f₁) (laid r (zs .1 .1 .0) (zs .1 .1 .1 .0)) (flattenOf ys s₀) i inside (z .so) e; same₀ = m₀ ∙ z .same₀; same₁ = m₁ ∙ z .same₁ }) (omega (arith, inside)))))))))))))))
+          again ! Less I z (record { at = i + 1; count = r; rayValues = zs .1 .1 .0; rayTags = zs .1 .1 .1 .0; within = omega (arith, inside); small = is′ .1; so = put-turn ys (laid t f₀ f₁) (laid r (zs .1 .1 .0) (zs .1 .1 .1 .0)) (flattenOf ys s₀) i inside (z .so) e; same₀ = m₀ ∙ z .same₀; same₁ = m₁ ∙ z .same₁ }) (omega (arith, inside)))))))))))))))
         where
           i : ℕ
           i = z .at
@@ -279,10 +279,10 @@ module _ {M : Type 1} (𝓤 : URA M) (H : Heap 𝓤) (A : Atoms 𝓤) (W : Given
           t = z .count
 
           f₀ : List Float
-          f₀ = z .values
+          f₀ = z .rayValues
 
           f₁ : List ℕ
-          f₁ = z .marks
+          f₁ = z .rayTags
 
           ray : GivenRay
           ray = getD ys i no-ray
@@ -316,7 +316,7 @@ module _ {M : Type 1} (𝓤 : URA M) (H : Heap 𝓤) (A : Atoms 𝓤) (W : Given
         assigns ! (of-opd ! (lit ! tt)) (from ! (stop !)) (init ! 18 refl (tt, record { fits = lit< tt })) $
         move ! (31 ∷ []) $ fsplit ! $ move ! (1 ∷ []) $ fsplit ! $ move ! (1 ∷ []) $ fsplit ! $ move ! (1 ∷ []) $ drop ! $
         move ! (33 ∷ []) $ split ! $ move ! (1 ∷ []) $ split ! $ move ! (1 ∷ []) $ split ! $ move ! (1 ∷ []) $ drop ! $ move ! (4 ∷ 1 ∷ 3 ∷ 0 ∷ 5 ∷ 2 ∷ []) $
-        looped l₀ l₁ l₂ l₃ l₄ l₅ l₆ l₇ l₈ l₉ l₁₀ l₁₁ l₁₂ l₁₃ l₁₄ (record { at = 0; count = 0; values = g₁; marks = g₂; within = omega arith; small = lit< tt; so = refl; same₀ = refl; same₁ = refl }))))))))))))))))
+        looped l₀ l₁ l₂ l₃ l₄ l₅ l₆ l₇ l₈ l₉ l₁₀ l₁₁ l₁₂ l₁₃ l₁₄ (record { at = 0; count = 0; rayValues = g₁; rayTags = g₂; within = omega arith; small = lit< tt; so = refl; same₀ = refl; same₁ = refl }))))))))))))))))
 
 module _ {M : Type 1} (𝓤 : URA M) (H : Heap 𝓤) (A : Atoms 𝓤) (W : Given 𝓤 H A) (mem : Memory → SProp 𝓤) (run : Routine → Fun 𝓤) (𝓣 : Tables 𝓤 H) (known : Triple 𝓤 (𝓣 .C #step) (Step 𝓤 H A mem run)) where
   each-walks : Walks 𝓤 H A each.ended stayed (WpFn 𝓤 H (𝓣 .C) (𝓣 .Λ) code.function) (each.clauses 𝓤 H A mem run)

@@ -9,17 +9,17 @@ use Rattle.host_tracing.proofs.slices.put_ray.Tie as tie
 has-room-requires : tie.Need-has-room-requires
 has-room-requires c κs = search needs
 
-mul-put-values : tie.Need-mul-put-values
-mul-put-values c = search needs
+mul-put-ray-values : tie.Need-mul-put-ray-values
+mul-put-ray-values c = search needs
 
-put-values-requires : tie.Need-put-values-requires
-put-values-requires c κs = omega (arith, room-in _ _ _ _ (c .before .before .has-room .ensures) (c .before .if1 .taken))
+put-ray-values-requires : tie.Need-put-ray-values-requires
+put-ray-values-requires c κs = omega (arith, room-in _ _ _ _ (c .before .before .has-room .ensures) (c .before .if1 .taken))
 
-mul-put-marks : tie.Need-mul-put-marks
-mul-put-marks c = search needs
+mul-put-ray-tags : tie.Need-mul-put-ray-tags
+mul-put-ray-tags c = search needs
 
-put-marks-requires : tie.Need-put-marks-requires
-put-marks-requires c κs = omega (arith, room-in _ _ _ _ (c .before .before .before .before .before .before .has-room .ensures) (c .before .before .before .before .before .if1 .taken))
+put-ray-tags-requires : tie.Need-put-ray-tags-requires
+put-ray-tags-requires c κs = omega (arith, room-in _ _ _ _ (c .before .before .before .before .before .before .has-room .ensures) (c .before .before .before .before .before .if1 .taken))
 
 add-result : tie.Need-add-result
 add-result c = omega (arith, room-in _ _ _ _ (c .before .before .before .before .before .before .before .before .before .has-room .ensures) (c .before .before .before .before .before .before .before .before .if1 .taken))
@@ -32,7 +32,7 @@ same-length-2 c = search needs
 
 returns : tie.Need-returns
 unfolding putRayOf
-returns c = simp (← c .before .before .before .before .before .before .before .before .before .has-room .ensures, c .before .before .before .before .before .before .before .before .if1 .taken, ← c .before .before .before .before .before .before .put-values .ensures, ← c .before .before .put-marks .ensures)
+returns c = simp (← c .before .before .before .before .before .before .before .before .before .has-room .ensures, c .before .before .before .before .before .before .before .before .if1 .taken, ← c .before .before .before .before .before .before .put-ray-values .ensures, ← c .before .before .put-ray-tags .ensures)
 
 returns-2 : tie.Need-returns-2
 unfolding putRayOf
@@ -43,10 +43,10 @@ put-ray-spec =
     tie.close
     (tie.spec
     has-room-requires
-    mul-put-values
-    put-values-requires
-    mul-put-marks
-    put-marks-requires
+    mul-put-ray-values
+    put-ray-values-requires
+    mul-put-ray-tags
+    put-ray-tags-requires
     add-result
     same-length
     same-length-2

@@ -5,8 +5,8 @@ use borrow.Author.Needs.{needs}
 use Rattle.host_tracing.proofs.tracing.nonseq_trace_rays.Statement.{statement}
 use Rattle.host_tracing.proofs.tracing.nonseq_trace_rays.Tie as tie
 
-config-of-requires : tie.Need-config-of-requires
-config-of-requires c κs = search needs
+trace-config-requires : tie.Need-trace-config-requires
+trace-config-requires c κs = search needs
 
 trace-rays-requires : tie.Need-trace-rays-requires
 trace-rays-requires c κs = search needs
@@ -27,7 +27,7 @@ same-length-4 : tie.Need-same-length-4
 same-length-4 c = search needs
 
 returns : tie.Need-returns
-returns c = traced-is _ _ _ _ _ _ _ (c .before .before .before .before .before .before .before .before .before .before .before .before .before .before .config-of .result) (c .before .before .before .before .before .before .before .before .before .trace-rays .result) _ _ _ _ _ _ (omega arith) (c .before .before .before .before .before .before .before .before .before .before .before .before .before .before .config-of .ensures) (c .before .before .before .before .before .before .before .before .before .trace-rays .ensures) (c .told .ensures)
+returns c = traced-is _ _ _ _ _ _ _ (c .before .before .before .before .before .before .before .before .before .before .before .before .before .before .trace-config .result) (c .before .before .before .before .before .before .before .before .before .trace-rays .result) _ _ _ _ _ _ (omega arith) (c .before .before .before .before .before .before .before .before .before .before .before .before .before .before .trace-config .ensures) (c .before .before .before .before .before .before .before .before .before .trace-rays .ensures) (c .told .ensures)
 
 no-medium-requires : tie.Need-no-medium-requires
 no-medium-requires c κs = search needs
@@ -39,7 +39,7 @@ pub nonseq-trace-rays-spec : {M : Type 1} → statement M
 nonseq-trace-rays-spec =
     tie.close
     (tie.spec
-    config-of-requires
+    trace-config-requires
     trace-rays-requires
     told-requires
     same-length

@@ -10,31 +10,31 @@ use Rattle.media.proofs.Media.left.Tie as tie
 cast-depth : tie.Need-cast-depth
 cast-depth c = search needs
 
-last-of-requires : tie.Need-last-of-requires
-last-of-requires c κs = search needs
+last-place-requires : tie.Need-last-place-requires
+last-place-requires c κs = search needs
 
 enum-known-i : tie.Need-enum-known-i
 enum-known-i c = search needs
 
 sub-move-down : tie.Need-sub-move-down
-sub-move-down c = omega (arith, found-below _ _ _ _ _ (c .before .before .before .last-of .ensures) (c .before .i .given .1))
+sub-move-down c = omega (arith, found-below _ _ _ _ _ (c .before .before .before .last-place .ensures) (c .before .i .given .1))
 
 move-down-requires : tie.Need-move-down-requires
 move-down-requires c κs = search needs
 
 sub-t11 : tie.Need-sub-t11
-sub-t11 c = omega (arith, found-below _ _ _ _ _ (c .before .before .before .before .before .last-of .ensures) (c .before .before .before .i .given .1))
+sub-t11 c = omega (arith, found-below _ _ _ _ _ (c .before .before .before .before .before .last-place .ensures) (c .before .before .before .i .given .1))
 
 enum-told : tie.Need-enum-told
 enum-told c = search needs
 
 returns : tie.Need-returns
 unfolding leftOf withoutPlace
-returns c = simp (le-leb _ _ (c .before .before .before .before .before .before .before .before .if1 .taken), ← c .before .before .before .before .before .last-of .ensures, c .before .before .before .i .given .1, ← c .before .move-down .ensures)
+returns c = simp (le-leb _ _ (c .before .before .before .before .before .before .before .before .if1 .taken), ← c .before .before .before .before .before .last-place .ensures, c .before .before .before .i .given .1, ← c .before .move-down .ensures)
 
 returns-2 : tie.Need-returns-2
 unfolding leftOf withoutPlace
-returns-2 c = simp (le-leb _ _ (c .before .before .before .before .before .if1 .taken), ← c .before .before .last-of .ensures, c .enum-told .given .1)
+returns-2 c = simp (le-leb _ _ (c .before .before .before .before .before .if1 .taken), ← c .before .before .last-place .ensures, c .enum-told .given .1)
 
 returns-3 : tie.Need-returns-3
 unfolding leftOf withoutPlace
@@ -45,7 +45,7 @@ left-spec =
     tie.close
     (tie.spec
     cast-depth
-    last-of-requires
+    last-place-requires
     enum-known-i
     sub-move-down
     move-down-requires

@@ -65,17 +65,17 @@ mul-hits-2 c = search needs
 slice-write-hits : tie.Need-slice-write-hits
 slice-write-hits c = search needs
 
-mul-put-values : tie.Need-mul-put-values
-mul-put-values c = search needs
+mul-put-hit-values : tie.Need-mul-put-hit-values
+mul-put-hit-values c = search needs
 
-put-values-requires : tie.Need-put-values-requires
-put-values-requires c κs = search needs
+put-hit-values-requires : tie.Need-put-hit-values-requires
+put-hit-values-requires c κs = search needs
 
-mul-put-tags : tie.Need-mul-put-tags
-mul-put-tags c = omega (arith, c .before .before .before .before .before .before .before .before .before .before .before .before .if1 .left, c .before .before .before .before .before .before .before .before .before .before .before .before .before .before .before .before .before .before .before .before .good)
+mul-put-hit-tags : tie.Need-mul-put-hit-tags
+mul-put-hit-tags c = omega (arith, c .before .before .before .before .before .before .before .before .before .before .before .before .if1 .left, c .before .before .before .before .before .before .before .before .before .before .before .before .before .before .before .before .before .before .before .before .good)
 
-put-tags-requires : tie.Need-put-tags-requires
-put-tags-requires c κs = search needs
+put-hit-tags-requires : tie.Need-put-hit-tags-requires
+put-hit-tags-requires c κs = search needs
 
 raise-requires : tie.Need-raise-requires
 raise-requires c κs = search needs
@@ -97,7 +97,7 @@ same-length-4 c = search needs
 
 returns-4 : tie.Need-returns-4
 returns-4 c =
-    put-done _ _ _ (c .before .before .before .before .before .before .before .before .before .before .before .before .before .before .before .before .if1 .left) (c .before .before .before .before .before .before .before .before .before .before .before .before .before .before .if2 .left) (c .before .before .before .before .before .before .before .before .before .before .before .before .if3 .left) _ _ _ (c .before .before .before .before .before .before .before .put-values .ensures) (c .before .before .before .put-tags .ensures) (c .raise .ensures)
+    put-done _ _ _ (c .before .before .before .before .before .before .before .before .before .before .before .before .before .before .before .before .if1 .left) (c .before .before .before .before .before .before .before .before .before .before .before .before .before .before .if2 .left) (c .before .before .before .before .before .before .before .before .before .before .before .before .if3 .left) _ _ _ (c .before .before .before .before .before .before .before .put-hit-values .ensures) (c .before .before .before .put-hit-tags .ensures) (c .raise .ensures)
 
 pub put-spec : {M : Type 1} → statement M
 put-spec =
@@ -123,10 +123,10 @@ put-spec =
     add-hits
     mul-hits-2
     slice-write-hits
-    mul-put-values
-    put-values-requires
-    mul-put-tags
-    put-tags-requires
+    mul-put-hit-values
+    put-hit-values-requires
+    mul-put-hit-tags
+    put-hit-tags-requires
     raise-requires
     add-t17
     same-length

@@ -13,8 +13,8 @@ enum-told-2 c = search needs
 enum-told-3 : tie.Need-enum-told-3
 enum-told-3 c = search needs
 
-enum-known-fate : tie.Need-enum-known-fate
-enum-known-fate c = search needs
+enum-known-end : tie.Need-enum-known-end
+enum-known-end c = search needs
 
 enum-told-4 : tie.Need-enum-told-4
 enum-told-4 c = search needs
@@ -39,7 +39,7 @@ returns-3 c = simp (c .enum-told3 .given .1)
 
 returns-4 : tie.Need-returns-4
 unfolding hitInOf
-returns-4 c = simp (c .before .fate .given .1)
+returns-4 c = simp (c .before .end .given .1)
 
 returns-5 : tie.Need-returns-5
 unfolding hitInOf
@@ -60,7 +60,7 @@ hit-in-spec =
     enum-told
     enum-told-2
     enum-told-3
-    enum-known-fate
+    enum-known-end
     enum-told-4
     enum-told-5
     enum-told-6

@@ -22,8 +22,8 @@ enum-told-5 c = search needs
 enum-told-6 : tie.Need-enum-told-6
 enum-told-6 c = search needs
 
-enum-known-fate : tie.Need-enum-known-fate
-enum-known-fate c = search needs
+enum-known-end : tie.Need-enum-known-end
+enum-known-end c = search needs
 
 returns : tie.Need-returns
 unfolding refusalInOf
@@ -51,7 +51,7 @@ returns-6 c = simp (c .enum-told6 .given .1)
 
 returns-7 : tie.Need-returns-7
 unfolding refusalInOf
-returns-7 c = simp (c .before .fate .given .1)
+returns-7 c = simp (c .before .end .given .1)
 
 pub refusal-in-spec : {M : Type 1} → statement M
 refusal-in-spec =
@@ -63,7 +63,7 @@ refusal-in-spec =
     enum-told-4
     enum-told-5
     enum-told-6
-    enum-known-fate
+    enum-known-end
     returns
     returns-2
     returns-3

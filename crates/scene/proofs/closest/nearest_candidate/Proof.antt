@@ -11,12 +11,12 @@ use Rattle.scene.proofs.closest.nearest_candidate.Statement.{statement}
 use Rattle.scene.proofs.closest.nearest_candidate.Tie as tie
 
 abbrev Inv-loop : tie.InvT-loop
-Inv-loop values tags count ray strict best₀ i₀ best i =
+Inv-loop solidValues solidTags count ray strict best₀ i₀ best i =
     (i ≤ count)
-    × (nearestFrom Candidate candidateDistance (candidatesIn strict (objectAtOf values tags) ray) (count - i) i (asCandidate best) ≡ nearestAmong Candidate candidateDistance (candidatesIn strict (objectAtOf values tags) ray) count)
+    × (nearestFrom Candidate candidateDistance (candidatesIn strict (objectAtOf solidValues solidTags) ray) (count - i) i (asCandidate best) ≡ nearestAmong Candidate candidateDistance (candidatesIn strict (objectAtOf solidValues solidTags) ray) count)
 
 abbrev μ-loop : tie.MeasureT-loop
-μ-loop values tags count ray strict best₀ i₀ best i = count - i
+μ-loop solidValues solidTags count ray strict best₀ i₀ best i = count - i
 
 loop-holds : tie.Need-loop-holds Inv-loop μ-loop
 loop-holds c = (search needs, nearest-start _ _ _ _)

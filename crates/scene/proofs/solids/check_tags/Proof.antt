@@ -9,10 +9,10 @@ use Rattle.scene.proofs.solids.check_tags.Statement.{statement}
 use Rattle.scene.proofs.solids.check_tags.Tie as tie
 
 abbrev Inv-loop : tie.InvT-loop
-Inv-loop tags count i₀ i = (i ≤ count) × (checkTagsOf tags (count - i) i ≡ checkTagsOf tags count 0)
+Inv-loop solidTags count i₀ i = (i ≤ count) × (checkTagsOf solidTags (count - i) i ≡ checkTagsOf solidTags count 0)
 
 abbrev μ-loop : tie.MeasureT-loop
-μ-loop tags count i₀ i = count - i
+μ-loop solidTags count i₀ i = count - i
 
 loop-holds : tie.Need-loop-holds Inv-loop μ-loop
 loop-holds c = (search needs, rw sub-zero)

@@ -20,17 +20,17 @@ abbrev μ-loop : tie.MeasureT-loop
 loop-holds : tie.Need-loop-holds Inv-loop μ-loop
 loop-holds c = (search needs, refl)
 
-end-of-requires : tie.Need-end-of-requires Inv-loop μ-loop
-end-of-requires c κs = search needs
+end-at-requires : tie.Need-end-at-requires Inv-loop μ-loop
+end-at-requires c κs = search needs
 
 sub-read-whole : tie.Need-sub-read-whole Inv-loop μ-loop
-sub-read-whole c = end-in _ _ _ _ (c .end-of .ensures) (c .before .loop-test .taken) .0
+sub-read-whole c = end-in _ _ _ _ (c .end-at .ensures) (c .before .loop-test .taken) .0
 
 part-read-whole-start : tie.Need-part-read-whole-start Inv-loop μ-loop
-part-read-whole-start c = let h = end-in _ _ _ _ (c .end-of .ensures) (c .before .loop-test .taken) in search needs
+part-read-whole-start c = let h = end-in _ _ _ _ (c .end-at .ensures) (c .before .loop-test .taken) in search needs
 
 part-read-whole-end : tie.Need-part-read-whole-end Inv-loop μ-loop
-part-read-whole-end c = let h = end-in _ _ _ _ (c .end-of .ensures) (c .before .loop-test .taken) in search needs
+part-read-whole-end c = let h = end-in _ _ _ _ (c .end-at .ensures) (c .before .loop-test .taken) in search needs
 
 read-whole-requires : tie.Need-read-whole-requires Inv-loop μ-loop
 read-whole-requires c κs = search needs
@@ -45,18 +45,18 @@ enum-told-2 : tie.Need-enum-told-2 Inv-loop μ-loop
 enum-told-2 c = search needs
 
 returns : tie.Need-returns Inv-loop μ-loop
-returns c = count-bad _ (c .before .before .before .before .before .before .loop .at) _ (c .before .before .before .before .end-of .ensures) (c .before .before .before .before .before .loop-test .taken) _ _ _ (c .before .before .read-whole .ensures) (c .enum-told2 .given .1) (c .before .before .before .before .before .before .loop .inv .1)
+returns c = count-bad _ (c .before .before .before .before .before .before .loop .at) _ (c .before .before .before .before .end-at .ensures) (c .before .before .before .before .before .loop-test .taken) _ _ _ (c .before .before .read-whole .ensures) (c .enum-told2 .given .1) (c .before .before .before .before .before .before .loop .inv .1)
 
 add-at : tie.Need-add-at Inv-loop μ-loop
-add-at c = let h = end-in _ _ _ _ (c .before .before .before .before .before .end-of .ensures) (c .before .before .before .before .before .before .loop-test .taken) in search needs
+add-at c = let h = end-in _ _ _ _ (c .before .before .before .before .before .end-at .ensures) (c .before .before .before .before .before .before .loop-test .taken) in search needs
 
 loop-less : tie.Need-loop-less Inv-loop μ-loop
-loop-less c = let h = end-in _ _ _ _ (c .before .before .before .before .before .end-of .ensures) (c .before .before .before .before .before .before .loop-test .taken) in omega (arith, h .0, h .1, c .before .before .before .before .before .before .loop-test .taken)
+loop-less c = let h = end-in _ _ _ _ (c .before .before .before .before .before .end-at .ensures) (c .before .before .before .before .before .before .loop-test .taken) in omega (arith, h .0, h .1, c .before .before .before .before .before .before .loop-test .taken)
 
 loop-again : tie.Need-loop-again Inv-loop μ-loop
 loop-again c =
-    let h = end-in _ _ _ _ (c .before .before .before .before .before .end-of .ensures) (c .before .before .before .before .before .before .loop-test .taken) in
-    (omega (arith, h .1), rw (c .one-more .ensures) (count-turn _ (c .before .before .before .before .before .before .before .loop .at) _ (c .before .before .before .before .before .end-of .ensures) (c .before .before .before .before .before .before .loop-test .taken) _ _ _ _ (c .before .before .before .read-whole .ensures) (c .before .enum-told .given .1) (c .before .before .before .before .before .before .before .loop .inv .1)))
+    let h = end-in _ _ _ _ (c .before .before .before .before .before .end-at .ensures) (c .before .before .before .before .before .before .loop-test .taken) in
+    (omega (arith, h .1), rw (c .one-more .ensures) (count-turn _ (c .before .before .before .before .before .before .before .loop .at) _ (c .before .before .before .before .before .end-at .ensures) (c .before .before .before .before .before .before .loop-test .taken) _ _ _ _ (c .before .before .before .read-whole .ensures) (c .before .enum-told .given .1) (c .before .before .before .before .before .before .before .loop .inv .1)))
 
 returns-2 : tie.Need-returns-2 Inv-loop μ-loop
 returns-2 c = count-done _ (c .before .loop .at) _ _ (c .loop-test .left) (c .before .loop .inv .1)
@@ -68,7 +68,7 @@ count-media-spec =
     Inv-loop
     μ-loop
     loop-holds
-    end-of-requires
+    end-at-requires
     sub-read-whole
     part-read-whole-start
     part-read-whole-end

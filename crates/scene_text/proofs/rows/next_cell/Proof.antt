@@ -5,14 +5,14 @@ use borrow.Author.Needs.{needs}
 use Rattle.scene_text.proofs.rows.next_cell.Statement.{statement}
 use Rattle.scene_text.proofs.rows.next_cell.Tie as tie
 
-end-of-requires : tie.Need-end-of-requires
-end-of-requires c κs = search needs
+end-at-requires : tie.Need-end-at-requires
+end-at-requires c κs = search needs
 
 sub-read-cell : tie.Need-sub-read-cell
-sub-read-cell c = end-in _ _ _ _ (c .before .end-of .ensures) (search needs) .0
+sub-read-cell c = end-in _ _ _ _ (c .before .end-at .ensures) (search needs) .0
 
 part-read-cell-start : tie.Need-part-read-cell-start
-part-read-cell-start c = let h = end-in _ _ _ _ (c .before .end-of .ensures) (search needs) in search needs
+part-read-cell-start c = let h = end-in _ _ _ _ (c .before .end-at .ensures) (search needs) in search needs
 
 part-read-cell-end : tie.Need-part-read-cell-end
 part-read-cell-end c = search needs
@@ -30,10 +30,10 @@ same-length-2 : tie.Need-same-length-2
 same-length-2 c = search needs
 
 returns : tie.Need-returns
-returns c = ((λ form. cell-turn _ _ _ _ (c .before .before .before .before .before .before .before .before .before .end-of .ensures) (search needs) _ _ _ _ _ _ _ form (c .before .before .before .before .before .before .before .before .if2 .taken) (c .before .before .before .before .before .before .before .before .before .before .if1 .taken) (c .before .before .before .before .read-cell .ensures)), search needs)
+returns c = ((λ form. cell-turn _ _ _ _ (c .before .before .before .before .before .before .before .before .before .end-at .ensures) (search needs) _ _ _ _ _ _ _ form (c .before .before .before .before .before .before .before .before .if2 .taken) (c .before .before .before .before .before .before .before .before .before .before .if1 .taken) (c .before .before .before .before .read-cell .ensures)), search needs)
 
 returns-2 : tie.Need-returns-2
-returns-2 c = ((λ form. cell-none _ _ _ _ (c .before .end-of .ensures) (search needs) _ _ _ _ _ _ form (c .if2 .left) (c .before .before .if1 .taken)), search needs)
+returns-2 c = ((λ form. cell-none _ _ _ _ (c .before .end-at .ensures) (search needs) _ _ _ _ _ _ form (c .if2 .left) (c .before .before .if1 .taken)), search needs)
 
 returns-3 : tie.Need-returns-3
 returns-3 c = ((λ form. cell-past _ _ _ _ _ form (c .if1 .left)), search needs)
@@ -42,7 +42,7 @@ pub next-cell-spec : {M : Type 1} → statement M
 next-cell-spec =
     tie.close
     (tie.spec
-    end-of-requires
+    end-at-requires
     sub-read-cell
     part-read-cell-start
     part-read-cell-end

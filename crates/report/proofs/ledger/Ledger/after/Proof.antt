@@ -28,14 +28,14 @@ enum-told-4 c = search needs
 detect-requires : tie.Need-detect-requires
 detect-requires c κs = search needs
 
-enum-known-fate : tie.Need-enum-known-fate
-enum-known-fate c = search needs
+enum-known-end : tie.Need-enum-known-end
+enum-known-end c = search needs
 
 absorb-requires-3 : tie.Need-absorb-requires-3
 absorb-requires-3 c κs = search needs
 
-enum-known-fate-2 : tie.Need-enum-known-fate-2
-enum-known-fate-2 c = search needs
+enum-known-end-2 : tie.Need-enum-known-end-2
+enum-known-end-2 c = search needs
 
 unless-made-requires : tie.Need-unless-made-requires
 unless-made-requires c κs = search needs
@@ -64,7 +64,7 @@ returns-4 c = simp (c .before .enum-told4 .given .1, ← c .detect .ensures)
 
 returns-5 : tie.Need-returns-5
 unfolding ledgerAfterOf
-returns-5 c = simp (c .before .before .fate .given .1, ← c .absorb3 .ensures)
+returns-5 c = simp (c .before .before .end .given .1, ← c .absorb3 .ensures)
 
 returns-6 : tie.Need-returns-6
 unfolding ledgerAfterOf
@@ -86,9 +86,9 @@ after-spec =
     escape-requires
     enum-told-4
     detect-requires
-    enum-known-fate
+    enum-known-end
     absorb-requires-3
-    enum-known-fate-2
+    enum-known-end-2
     unless-made-requires
     unless-made-requires-2
     enum-told-5

@@ -34,8 +34,8 @@ enum-told-5 c = search needs
 add-surface-requires : tie.Need-add-surface-requires
 add-surface-requires c κs = search needs
 
-enum-known-fate : tie.Need-enum-known-fate
-enum-known-fate c = search needs
+enum-known-end : tie.Need-enum-known-end
+enum-known-end c = search needs
 
 opposite-requires : tie.Need-opposite-requires
 opposite-requires c κs = search needs
@@ -71,7 +71,7 @@ returns-5 c = simp (c .before .enum-told5 .given .1, ← c .add-surface .ensures
 
 returns-6 : tie.Need-returns-6
 unfolding talliesAfterOf
-returns-6 c = simp (c .before .before .before .before .fate .given .1, ← c .before .before .opposite .ensures, ← c .before .faint .ensures, ← c .add-surface2 .ensures)
+returns-6 c = simp (c .before .before .before .before .end .given .1, ← c .before .before .opposite .ensures, ← c .before .faint .ensures, ← c .add-surface2 .ensures)
 
 returns-7 : tie.Need-returns-7
 unfolding talliesAfterOf
@@ -91,7 +91,7 @@ after-spec =
     add-caught-requires
     enum-told-5
     add-surface-requires
-    enum-known-fate
+    enum-known-end
     opposite-requires
     faint-requires
     add-surface-requires-2

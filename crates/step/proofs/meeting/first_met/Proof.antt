@@ -1,0 +1,58 @@
+-- `step::meeting::first_met` meets its contract. Assumes nothing.
+use Rattle.step.specs.Turn.{firstMetOf}
+use borrow.Author.Needs.{needs}
+use Rattle.step.proofs.meeting.first_met.Statement.{statement}
+use Rattle.step.proofs.meeting.first_met.Tie as tie
+
+enum-known-seen : tie.Need-enum-known-seen
+enum-known-seen c = search needs
+
+enum-known-met : tie.Need-enum-known-met
+enum-known-met c = search needs
+
+nearer-requires : tie.Need-nearer-requires
+nearer-requires c κs = search needs
+
+enum-told : tie.Need-enum-told
+enum-told c = search needs
+
+enum-told-2 : tie.Need-enum-told-2
+enum-told-2 c = search needs
+
+enum-known-met-2 : tie.Need-enum-known-met-2
+enum-known-met-2 c = search needs
+
+enum-told-3 : tie.Need-enum-told-3
+enum-told-3 c = search needs
+
+returns : tie.Need-returns
+unfolding firstMetOf
+returns c = simp (c .before .before .before .before .before .seen .given .1, c .before .before .met .given .1, ← c .nearer .ensures)
+
+returns-2 : tie.Need-returns-2
+unfolding firstMetOf
+returns-2 c = simp (c .before .before .before .seen .given .1, c .enum-told .given .1)
+
+returns-3 : tie.Need-returns-3
+unfolding firstMetOf
+returns-3 c = simp (c .before .before .before .enum-told2 .given .1, c .before .met2 .given .1)
+
+returns-4 : tie.Need-returns-4
+unfolding firstMetOf
+returns-4 c = simp (c .before .before .enum-told2 .given .1, c .enum-told3 .given .1)
+
+pub first-met-spec : {M : Type 1} → statement M
+first-met-spec =
+    tie.close
+    (tie.spec
+    enum-known-seen
+    enum-known-met
+    nearer-requires
+    enum-told
+    enum-told-2
+    enum-known-met-2
+    enum-told-3
+    returns
+    returns-2
+    returns-3
+    returns-4)

@@ -1,0 +1,15 @@
+-- `step::meeting::nearer` meets its contract. Assumes nothing.
+use Rattle.step.specs.Turn.{nearerOf}
+use Rattle.step.proofs.meeting.nearer.Statement.{statement}
+use Rattle.step.proofs.meeting.nearer.Tie as tie
+
+returns : tie.Need-returns
+unfolding nearerOf
+returns c = simp (c .if1 .taken)
+
+returns-2 : tie.Need-returns-2
+unfolding nearerOf
+returns-2 c = simp (c .if1 .left)
+
+pub nearer-spec : {M : Type 1} → statement M
+nearer-spec = tie.close (tie.spec returns returns-2)
