@@ -1,9 +1,9 @@
--- `faces::face-count` meets its contract. Assumes nothing.
+-- `faces::face_count` meets its contract. Assumes nothing.
 use native.Mathlib.Omega.{arith}
 use borrow.Author.Tests.{le-leb, lt-leb}
 use Rattle.faces.specs.Faces.{faceCountOf}
-use Rattle.faces.proofs.face-count.Statement.{statement}
-use Rattle.faces.proofs.face-count.Tie as tie
+use Rattle.faces.proofs.face_count.Statement.{statement}
+use Rattle.faces.proofs.face_count.Tie as tie
 
 returns : tie.Need-returns
 unfolding faceCountOf

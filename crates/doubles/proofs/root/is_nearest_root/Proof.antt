@@ -1,10 +1,10 @@
--- `doubles::root::is-nearest-root` meets its contract. Assumes nothing.
+-- `doubles::root::is_nearest_root` meets its contract. Assumes nothing.
 use borrow.Author.Needs.{needs}
 use Prim.Native.Nat.{_/_, _%_, _^_}
 use native.Mathlib.Omega.{arith}
 use Rattle.doubles.proofs.Squares.{Halves, halves, pinned, fails-1, fails-2, fails-3, fails-4, fails-5, fails-6}
-use Rattle.doubles.proofs.root.is-nearest-root.Statement.{statement}
-use Rattle.doubles.proofs.root.is-nearest-root.Tie as tie
+use Rattle.doubles.proofs.root.is_nearest_root.Statement.{statement}
+use Rattle.doubles.proofs.root.is_nearest_root.Tie as tie
 
 split : (c : tie.Start) → Halves (c .args .q) (c .args .q / 2 ^ 27) (c .args .q % 2 ^ 27)
 split c = halves (c .args .q) (c .pre .1)
