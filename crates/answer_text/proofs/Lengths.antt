@@ -20,31 +20,33 @@ use Rattle.detectors.specs.Detectors.{maxDetectors, detectorAt, firstPixelOf, a
 use Rattle.detectors.proofs.Passed.{asked-there, part-in}
 use Rattle.detectors.proofs.Lists.{first-more}
 use Rattle.detector.specs.declared.DetectorHit.{DetectorHit}
-use Rattle.memory.specs.Memory.{hitsFrom, isHitListOf}
+use Rattle.memory.specs.Memory.{hitsFrom, isHitListOf, textPixels}
 use Rattle.filter.specs.declared.RayPathFilter.{RayPathFilter}
 use Rattle.filter.specs.declared.RayPathFilter.the-variants.{SignalOnly, StrayLight}
-use Rattle.filter.specs.Filters.{#0, Map, isAllOf, zeros, addAtOf, addHitOf, plusEach, passing, refillOf}
+use Rattle.filter.specs.Filters.{Map, isAllOf, zeros, addAtOf, addHitOf, plusEach, passing, refillOf}
 use Rattle.filter.specs.Handed.{handed, fromMap, checkPlaced, checkFilterOf, refilterPlaced, storedPartOf, partPlaced, filteredPlaced, filteredPixelFluxOf}
 use Rattle.report.specs.declared.NonSeqTraceReport.{NonSeqTraceReport}
 use Rattle.report.specs.declared.tallies.Tallies.{Tallies}
 use Rattle.printing.specs.Rows.{rowText}
 use Rattle.printing.proofs.Lengths.{decimal-few, row-short, three-short}
-use Rattle.answer_text.specs.Answer.{Held, bytesOf, ledgerText, talliesText, maxPixels, gridAtOf, shownOf, detectorText, pixelText, pixelsFrom, mapText, eachFrom, detectorCountOf, countIn, detectorsText, mapsText, answerText, refusalText}
+use Rattle.answer_text.specs.Answer.{Held, ledgerText, talliesText, gridAtOf, shownOf, detectorText, pixelText, pixelsFrom, mapText, eachFrom, detectorCountOf, countIn, detectorsText, mapsText, answerText, refusalText}
+use Rattle.doubles.specs.Doubles.{#0}
+use Rattle.fields.specs.Split.{bytes}
 
 -- ---- lines
 
 ledger-short : (r : NonSeqTraceReport) → length (ledgerText r) ≤ 163
-unfolding ledgerText bytesOf
+unfolding ledgerText bytes
 ledger-short r =
     let l = r .ledger in
     omega (arith, row-short (r .«total_rays_traced» ∷ r .«total_interactions» ∷ []) (l .«launched_flux_watts» ∷ l .«detected_flux_watts» ∷ l .«absorbed_flux_watts» ∷ l .«escaped_flux_watts» ∷ []))
 
 tallies-short : (t : Tallies) → length (talliesText t) ≤ 187
-unfolding talliesText bytesOf
+unfolding talliesText bytes
 tallies-short t = omega (arith, row-short (t .made ∷ t .dim ∷ t .spent ∷ t .caught ∷ t .gone ∷ t .surface ∷ t .weak ∷ []) [])
 
 pub refusal-short : (n place : ℕ) → length (refusalText n place) ≤ 56
-unfolding refusalText bytesOf
+unfolding refusalText bytes
 refusal-short n place = omega (arith, row-short (n ∷ place ∷ []) [])
 
 detector-short : (m : Held) (f : RayPathFilter) (d : ℕ) → length (detectorText m f d) ≤ 101
@@ -138,7 +140,7 @@ module _ (ds : Detectors) (d : ℕ) (f : RayPathFilter) (stored work : List Floa
 pub held-part : (m : Held) (f : RayPathFilter) (d : ℕ) → PartOrNone (m .detectors) d (length (m .flux)) (length (shownOf m f d .map))
 unfolding shownOf filteredPixelFluxOf checkFilterOf
 held-part m f d =
-    found-part (m .detectors) d f (m .flux) (take (gridAtOf (m .detectors) d .pixels) (replicate maxPixels #0)) (hitsFrom (m .hitValues) (m .hitTags) (m .used) 0) (length (m .hitValues)) (length (m .hitTags)) (m .used)
+    found-part (m .detectors) d f (m .flux) (take (gridAtOf (m .detectors) d .pixels) (replicate textPixels #0)) (hitsFrom (m .hitValues) (m .hitTags) (m .used) 0) (length (m .hitValues)) (length (m .hitTags)) (m .used)
     (findOf (m .detectors) (record { 0 = d })) refl
 
 map-short : (m : Held) (f : RayPathFilter) (d : ℕ) → d < 10 → length (shownOf m f d .map) ≤ 10000 → length (mapText m f d) ≤ length (shownOf m f d .map) * 29
@@ -169,7 +171,7 @@ count-most n = go (leb n 8) refl
     go false e = omega arith
 
 detectors-short : (f : RayPathFilter) (m : Held) → length (detectorsText f m) ≤ 840
-unfolding detectorsText bytesOf
+unfolding detectorsText bytes
 detectors-short f m =
     let c = count-most (m .detectors .count) in
     let e = each-most (detectorText m f) (λ i. i * 101) 8 (λ i h. omega (arith, detector-short m f i)) (countIn m) 0 (omega arith) in
@@ -184,7 +186,7 @@ first-all ds = go (leb (ds .count) maxDetectors)
     go true = refl
     go false = refl
 
-module _ (f : RayPathFilter) (m : Held) (few : length (m .flux) ≤ maxPixels) where
+module _ (f : RayPathFilter) (m : Held) (few : length (m .flux) ≤ textPixels) where
   abbrev list : List Detector2D
   list = m .detectors .list
 
@@ -224,12 +226,12 @@ module _ (f : RayPathFilter) (m : Held) (few : length (m .flux) ≤ maxPixels) w
           omega arith
 
   maps-short : length (mapsText f m) ≤ 118804
-  unfolding mapsText bytesOf
+  unfolding mapsText bytes
   maps-short = omega (arith, lines-short)
 
 -- ---- all of it
 
-pub answer-short : (r : NonSeqTraceReport) (f : RayPathFilter) (m : Held) → length (m .flux) ≤ maxPixels → length (answerText r f m) ≤ 119994
+pub answer-short : (r : NonSeqTraceReport) (f : RayPathFilter) (m : Held) → length (m .flux) ≤ textPixels → length (answerText r f m) ≤ 119994
 unfolding answerText
 answer-short r f m few =
     let a = ledger-short r in

@@ -7,12 +7,13 @@ use lib.ListN.{take, replicate}
 use borrow.Author.Tests.{eq-eqb, ne-eqb}
 use Rattle.error.specs.Refusals.{Checked, passed, refusedAt}
 use Rattle.filter.specs.declared.RayPathFilter.{RayPathFilter}
-use Rattle.filter.specs.Filters.{#0}
 use Rattle.filter.specs.declared.filtering.Filtered.{Filtered}
 use Rattle.filter.specs.Handed.{Handed, Numbered, asHanded, refilterOf, filteredPixelFluxOf, filteredPlaced, inNumbers, withNumbers}
 use Rattle.printing.specs.Printing.{Out, out, putAll}
 use Rattle.answer_text.specs.declared.maps.Grid.{Grid}
-use Rattle.answer_text.specs.Answer.{Held, maxPixels, gridAtOf, shownOf, pixelsFrom, mapText}
+use Rattle.answer_text.specs.Answer.{Held, gridAtOf, shownOf, pixelsFrom, mapText}
+use Rattle.memory.specs.Memory.{textPixels}
+use Rattle.doubles.specs.Doubles.{#0}
 
 same-with : (c : Checked Unit) (l : List Float) (t : Float) (n : ℕ) → withNumbers c l t n .part ≡ l
 same-with (passed u) l t n = refl
@@ -24,11 +25,11 @@ same-part h = same-with (h .check) (h .map) (h .total) (h .count)
 module _ (m : Held) (f : RayPathFilter) (d : ℕ) (g : Grid) (e : g ≡ gridAtOf (m .detectors) d) where
   -- the work map as it is lent
   abbrev work : List Float
-  work = take (g .pixels) (replicate maxPixels #0)
+  work = take (g .pixels) (replicate textPixels #0)
 
   handed-is : filteredPixelFluxOf (m .detectors) (record { 0 = d }) f (m .flux) work (m .hitValues) (m .hitTags) (m .used) ≡ shownOf m f d
   unfolding shownOf
-  handed-is = ap (λ (x : Grid). filteredPixelFluxOf (m .detectors) (record { 0 = d }) f (m .flux) (take (x .pixels) (replicate maxPixels #0)) (m .hitValues) (m .hitTags) (m .used)) e
+  handed-is = ap (λ (x : Grid). filteredPixelFluxOf (m .detectors) (record { 0 = d }) f (m .flux) (take (x .pixels) (replicate textPixels #0)) (m .hitValues) (m .hitTags) (m .used)) e
 
   module _ (r : Filtered) (l : List Float) (h : asHanded r l ≡ refilterOf (m .detectors) (record { 0 = d }) f (m .flux) work (m .hitValues) (m .hitTags) (m .used)) where
     pub total-shown : r .«total_flux_watts» ≡ shownOf m f d .total

@@ -1,7 +1,6 @@
 -- The answer of a tracing as text: ledger, tallies, detectors, pixels.
 use Prim.Native.Nat.{ℕ, zero, suc, _+_, _/_, _%_}
-use Prim.Native.Char.{code}
-use Prim.Native.String.{String, [] as none, _∷_ as _then_}
+use Prim.Native.String.{String}
 use mathlib.Core.List.{List, [], _∷_, _++_}
 use mathlib.Core.Bool.{cond}
 use mathlib.Core.Option.{Option, none as nothing, some}
@@ -14,20 +13,18 @@ use Rattle.detectors.specs.declared.Placed.{Placed}
 use Rattle.detectors.specs.Detectors.{maxDetectors, atOf}
 use Rattle.filter.specs.declared.RayPathFilter.{RayPathFilter}
 use Rattle.filter.specs.declared.RayPathFilter.the-variants.{SignalOnly, StrayLight}
-use Rattle.filter.specs.Filters.{#0}
 use Rattle.filter.specs.Handed.{Handed, filteredPixelFluxOf}
 use Rattle.report.specs.declared.NonSeqTraceReport.{NonSeqTraceReport}
 use Rattle.report.specs.declared.tallies.Tallies.{Tallies}
 use Rattle.printing.specs.Rows.{rowText}
 use Rattle.answer_text.specs.declared.maps.Grid.{Grid}
-
-unfoldable pub bytesOf : String → List ℕ
-bytesOf none = []
-bytesOf (c then s) = code c ∷ bytesOf s
+use Rattle.memory.specs.Memory.{textPixels}
+use Rattle.doubles.specs.Doubles.{#0}
+use Rattle.fields.specs.Split.{bytes}
 
 -- a line of names
 abbrev named : String → List ℕ
-named s = bytesOf s ++ 10 ∷ []
+named s = bytes s ++ 10 ∷ []
 
 -- ---- ledger and tallies
 
@@ -54,13 +51,9 @@ pub record Held : Type 0 where
 abbrev pub held : Detectors → List Float → List Float → List ℕ → ℕ → Held
 held ds f v t n = record { detectors = ds; flux = f; hitValues = v; hitTags = t; used = n }
 
--- the most pixels for which there is room
-abbrev pub maxPixels : ℕ
-maxPixels = 4096
-
 -- as many pixels as there is room for
 unfoldable pub fewOf : ℕ → ℕ
-fewOf n = cond (leb n maxPixels) n maxPixels
+fewOf n = cond (leb n textPixels) n textPixels
 
 -- how many pixels a detector has, and how many columns; none if it is not there
 unfoldable pub gridFrom : Option Placed → Grid
@@ -73,7 +66,7 @@ gridAtOf ds d = gridFrom (atOf ds (record { 0 = d }))
 -- what a filter hands back of detector d: map, total and count
 unfoldable pub shownOf : Held → RayPathFilter → ℕ → Handed
 shownOf m f d =
-    filteredPixelFluxOf (m .detectors) (record { 0 = d }) f (m .flux) (take (gridAtOf (m .detectors) d .pixels) (replicate maxPixels #0)) (m .hitValues) (m .hitTags) (m .used)
+    filteredPixelFluxOf (m .detectors) (record { 0 = d }) f (m .flux) (take (gridAtOf (m .detectors) d .pixels) (replicate textPixels #0)) (m .hitValues) (m .hitTags) (m .used)
 
 -- hits and flux are under the filter, signal and stray are always the full counts
 unfoldable pub detectorText : Held → RayPathFilter → ℕ → List ℕ

@@ -5,10 +5,12 @@ use detectors::Detectors;
 use detectors::Spot;
 use filter::Filtered;
 use filter::RayPathFilter;
+use memory::TEXT_PIXELS;
 ghost use mathlib.Core.Path.{_≡_};
 ghost use Prim.Native.Nat.{_≤_};
 ghost use Rattle.printing.specs.Printing.{out, putAll};
 ghost use Rattle.answer_text.specs.Answer.{held, fewOf, gridAtOf, shownOf, detectorText, mapText};
+ghost use Rattle.memory.specs.Memory.{textPixels};
 
 // How many pixels a detector has, and how many columns.
 pub struct Grid {
@@ -18,16 +20,16 @@ pub struct Grid {
 
 // As many pixels as there is room for.
 pub fn few(n: usize) -> usize
-    ensures { λ r. ⌜ (r ≡ fewOf n) × (r ≤ 4096) ⌝ }
+    ensures { λ r. ⌜ (r ≡ fewOf n) × (r ≤ textPixels) ⌝ }
 {
-    if n <= 4096 {
+    if n <= TEXT_PIXELS {
         return n;
     }
-    4096
+    TEXT_PIXELS
 }
 
 fn grid_at(detectors: Detectors, d: u32) -> Grid
-    ensures { λ r. ⌜ (r ≡ gridAtOf detectors d) × (r .pixels ≤ 4096) ⌝ }
+    ensures { λ r. ⌜ (r ≡ gridAtOf detectors d) × (r .pixels ≤ textPixels) ⌝ }
 {
     match detectors.at(DetectorNo(d)) {
         Spot::There(p) => {
@@ -59,7 +61,7 @@ fn shown(
 {
     let g = grid_at(detectors, d);
     let n = g.pixels;
-    let mut work = [0.0f64; 4096];
+    let mut work = [0.0f64; TEXT_PIXELS];
     filter::refilter(
         detectors,
         DetectorNo(d),
@@ -134,7 +136,7 @@ pub(crate) fn put_map(
     let g = grid_at(detectors, d);
     let n = g.pixels;
     let w = g.columns;
-    let mut work = [0.0f64; 4096];
+    let mut work = [0.0f64; TEXT_PIXELS];
     let mut refusal: u32 = 0;
     let mut place: u32 = 0;
     let mut total: f64 = 0.0;

@@ -6,9 +6,7 @@ use Rattle.rays.specs.declared.Ray.{Ray}
 use Rattle.rays.specs.Vectors.{vec3}
 use Rattle.scene.specs.declared.NonSeqHit.{NonSeqHit}
 use Rattle.bench.specs.declared.BenchHit.{BenchHit}
-
-abbrev #0 : Float
-#0 = ofBits binary64 0
+use Rattle.doubles.specs.Doubles.{#0}
 
 -- 550 nm and 1 W
 unfoldable pub benchRay : Float → Float → Float → Float → Float → Float → Ray

@@ -4,15 +4,16 @@ use mathlib.Core.Bool.{cond, _&&_}
 use lib.Dec.{leb}
 use lib.IntN.{pos}
 use lib.Ieee.{Float, binary64, ofBits, ofInt, toUnsigned, add, mul, div, le}
-use Rattle.doubles.specs.Doubles.{clampOf}
+use Rattle.doubles.specs.Doubles.{clampOf, #0}
 use Rattle.error.specs.Refusals.{numberOf, Checked, passed, refusedAt, after}
 use Rattle.detector.specs.declared.Detector2D.{Detector2D}
 use Rattle.detector.specs.declared.pixels.Reading.{Reading}
 use Rattle.detector.specs.declared.pixels.Reading.the-variants.{Value, Refused}
 use Rattle.detector.specs.Checks.{maxRes, checkDetectorOf}
 
-abbrev #0 : Float
-#0 = ofBits binary64 0
+-- the largest count
+abbrev pub maxCount : ℕ
+maxCount = 4294967295
 
 -- a whole number as a double
 abbrev real : ℕ → Float

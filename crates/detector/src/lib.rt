@@ -46,6 +46,9 @@ pub struct DetectorHit {
     pub tir_count: u32,
 }
 
+// The largest count: none is raised past it (13).
+pub const MAX_COUNT: u32 = 4294967295;
+
 impl Detector2D {
     // The largest resolution.
     pub const MAX_RES: u32 = 4096;

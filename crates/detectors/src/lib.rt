@@ -10,11 +10,14 @@ pub use reading::irradiance_at;
 ghost use mathlib.Core.Path.{_≡_};
 ghost use Prim.Native.Nat.{_≤_, _<_};
 ghost use Rattle.error.specs.Refusals.{asChecked};
-ghost use Rattle.detectors.specs.Detectors.{firstPixelOf, allPixelsOf, placedOf, checkListOf, checkDetectorsOf, findOf, asFound, atOf, asSpot};
+ghost use Rattle.detectors.specs.Detectors.{firstPixelOf, allPixelsOf, placedOf, checkListOf, checkDetectorsOf, findOf, asFound, atOf, asSpot, maxDetectors};
+
+// Places of a list of detectors.
+pub const DETECTOR_PLACES: usize = 8;
 
 #[repr(C)]
 pub struct Detectors {
-    pub list: [Detector2D; 8],
+    pub list: [Detector2D; DETECTOR_PLACES],
     pub count: u32,
 }
 
@@ -36,8 +39,8 @@ pub enum Spot {
 }
 
 // The first detector that is refused, by 5 to 8.
-fn check_list(list: [Detector2D; 8], count: u32) -> Check
-    requires { ⌜ count ≤ 8 ⌝ }
+fn check_list(list: [Detector2D; DETECTOR_PLACES], count: u32) -> Check
+    requires { ⌜ count ≤ maxDetectors ⌝ }
     ensures { λ r. ⌜ asChecked r ≡ checkListOf list count 0 ⌝ }
 {
     let mut i: u32 = 0;
@@ -56,8 +59,8 @@ fn check_list(list: [Detector2D; 8], count: u32) -> Check
 }
 
 // The pixels of the first n detectors, which is the place of the first pixel of detector n.
-fn first_pixel(list: [Detector2D; 8], n: usize) -> usize
-    requires { ⌜ n ≤ 8 ⌝ }
+fn first_pixel(list: [Detector2D; DETECTOR_PLACES], n: usize) -> usize
+    requires { ⌜ n ≤ maxDetectors ⌝ }
     ensures { λ r. ⌜ r ≡ firstPixelOf list n ⌝ }
 {
     let mut sum: usize = 0;
@@ -72,7 +75,7 @@ fn first_pixel(list: [Detector2D; 8], n: usize) -> usize
 
 impl Detectors {
     // The most detectors.
-    pub const MAX: u32 = 8;
+    pub const MAX: u32 = DETECTOR_PLACES as u32;
 
     // 3 for more than 8, then 5 to 8 of each in list order.
     pub fn check(self) -> Check
@@ -108,7 +111,7 @@ impl Detectors {
 
     // Detector d with the place of its first pixel.
     fn placed(self, d: usize) -> Placed
-        requires { ⌜ d < 8 ⌝ }
+        requires { ⌜ d < maxDetectors ⌝ }
         ensures { λ r. ⌜ r ≡ placedOf (self .list) d ⌝ }
     {
         let list = self.list;

@@ -3,6 +3,29 @@
 use mathlib.Core.Bool.{Bool, true, false, cond}
 use lib.Ieee.{Float, nan, inf, fin, lt, ofBits, binary64}
 
+-- doubles that are written often
+
+abbrev pub #0 : Float
+#0 = ofBits binary64 0
+
+abbrev pub #½ : Float
+#½ = ofBits binary64 0x3fe0000000000000
+
+abbrev pub #1 : Float
+#1 = ofBits binary64 0x3ff0000000000000
+
+abbrev pub #2 : Float
+#2 = ofBits binary64 0x4000000000000000
+
+abbrev pub #4 : Float
+#4 = ofBits binary64 0x4010000000000000
+
+abbrev pub #5 : Float
+#5 = ofBits binary64 0x4014000000000000
+
+abbrev pub #10 : Float
+#10 = ofBits binary64 0x4024000000000000
+
 -- IEEE 754 `abs`: the sign cleared
 unfoldable pub absOf : Float → Float
 absOf nan = nan

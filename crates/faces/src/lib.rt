@@ -4,6 +4,7 @@ use detector::Crossed;
 use detector::Crossing;
 use detector::DetectorNo;
 use detector::Face;
+use detectors::DETECTOR_PLACES;
 use detectors::Detectors;
 use rays::Ray;
 ghost use mathlib.Core.Path.{_≡_};
@@ -12,9 +13,10 @@ ghost use Rattle.nearest.specs.Nearest.{distanceOf, nearerOf};
 ghost use Rattle.detector.specs.Faces.{faceIntersectRayOf};
 ghost use Rattle.faces.specs.declared.Sight.{Sight};
 ghost use Rattle.faces.specs.Faces.{newFacesOf, sightDistance, sightFrom, seenOf, faceCountOf, nearestDetectorOf, asSight};
+ghost use Rattle.detectors.specs.Detectors.{maxDetectors};
 
 pub struct Faces {
-    pub list: [Face; 8],
+    pub list: [Face; DETECTOR_PLACES],
     pub count: u32,
 }
 
@@ -69,7 +71,7 @@ fn seen(face: Face, i: u32, n: u32, ray: Ray, best: Sighting) -> Sighting
 
 // At most the 8 that the list has.
 fn face_count(count: u32) -> u32
-    ensures { λ r. ⌜ (r ≡ faceCountOf count) × (r ≤ 8) ⌝ }
+    ensures { λ r. ⌜ (r ≡ faceCountOf count) × (r ≤ maxDetectors) ⌝ }
 {
     if count <= Detectors::MAX {
         return count;

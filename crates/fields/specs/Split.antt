@@ -1,9 +1,20 @@
 -- The parts of a text between the places where a byte stands. A text is the list of its bytes.
 use Prim.Native.Nat.{ℕ, suc, _+_}
 use mathlib.Core.List.{List, [], _∷_}
+use Prim.Native.Char.{code}
+use Prim.Native.String.{String, [] as none, _∷_ as _then_}
 use mathlib.Core.Bool.{Bool, cond, _&&_}
-use lib.Dec.{eqb, ltb}
-use lib.ListN.{length, drop, getD}
+use lib.Dec.{eqb, ltb, leb}
+use lib.ListN.{length, drop, getD, take}
+
+-- the bytes of a text in quotes
+unfoldable pub bytes : String → List ℕ
+bytes none = []
+bytes (c then s) = code c ∷ bytes s
+
+-- the first n of a list, or all
+unfoldable pub frontOf : {A : Type 0} → ℕ → List A → List A
+frontOf n l = cond (leb n (length l)) (take n l) l
 
 -- l up to its first b, or all of it
 unfoldable pub before : ℕ → List ℕ → List ℕ

@@ -19,13 +19,13 @@ pub enum ReadWhole {
 fn digit(b: u8) -> u64
     ensures { λ r. ⌜ r ≡ digitOf b ⌝ }
 {
-    if b < 48 {
+    if b < b'0' {
         return 16;
     }
     if b < 58 {
-        return (b - 48) as u64;
+        return (b - b'0') as u64;
     }
-    if b < 97 {
+    if b < b'a' {
         return 16;
     }
     if b < 103 {
@@ -95,7 +95,7 @@ fn is_led_by_zero(t: &[u8]) -> bool
     if t.len() < 2 {
         return false;
     }
-    t[0] == 48
+    t[0] == b'0'
 }
 
 // A decimal below 2^32 without leading zeros.

@@ -18,7 +18,8 @@ use Rattle.memory.specs.Plain.{Empty, View, partIn, viewIn, plusHit, plusAll}
 use Rattle.memory.proofs.Booked.{Booked, booked-view, booked-pixels, booked-pixel}
 use Rattle.filter.specs.declared.RayPathFilter.{RayPathFilter}
 use Rattle.filter.specs.declared.RayPathFilter.the-variants.{All}
-use Rattle.filter.specs.Filters.{#0, Map, zeros, addAtOf, addHitOf, plusEach, passesOf, passing, refillOf}
+use Rattle.filter.specs.Filters.{Map, zeros, addAtOf, addHitOf, plusEach, passesOf, passing, refillOf}
+use Rattle.doubles.specs.Doubles.{#0}
 
 -- ---- a detector's view without its hit counts
 

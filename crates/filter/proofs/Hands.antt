@@ -23,8 +23,9 @@ use Rattle.detectors.specs.Detectors.{allPixelsOf, placedOf, findOf, asFound}
 use Rattle.memory.specs.Memory.{hitsFrom, isHitListOf}
 use Rattle.detectors.proofs.Passed.{asked-there, part-in}
 use Rattle.filter.specs.declared.RayPathFilter.{RayPathFilter}
-use Rattle.filter.specs.Filters.{#0, Map, isAllOf, refillOf}
+use Rattle.filter.specs.Filters.{Map, isAllOf, refillOf}
 use Rattle.filter.specs.Handed.{handed, fromMap, checkPlaced, checkFilterOf, refilterPlaced, refilterOf, storedPartOf, partPlaced, filteredPartOf, filteredPlaced, filteredPixelFluxOf, numbered, inNumbers}
+use Rattle.doubles.specs.Doubles.{#0}
 
 -- ---- which of the two slices is handed back: what cannot be where a return stands
 

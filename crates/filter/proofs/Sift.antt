@@ -15,7 +15,8 @@ use Rattle.detector.specs.Pixels.{pixelAtOf}
 use Rattle.detector.specs.declared.DetectorHit.{DetectorHit}
 use Rattle.memory.specs.Memory.{hitAtOf, hitsFrom}
 use Rattle.filter.specs.declared.RayPathFilter.{RayPathFilter}
-use Rattle.filter.specs.Filters.{#0, Map, addAtOf, addHitOf, plusEach, passesOf, passing, siftHitOf, refillOf}
+use Rattle.filter.specs.Filters.{Map, addAtOf, addHitOf, plusEach, passesOf, passing, siftHitOf, refillOf}
+use Rattle.doubles.specs.Doubles.{#0}
 
 -- ---- clearing
 

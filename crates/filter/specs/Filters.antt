@@ -12,6 +12,7 @@ use Rattle.detector.specs.declared.DetectorHit.{DetectorHit}
 use Rattle.filter.specs.declared.RayPathFilter.{RayPathFilter}
 use Rattle.filter.specs.declared.RayPathFilter.the-variants.{All, SignalOnly, GhostsOnly, TirOnly, StrayLight}
 use Rattle.filter.specs.declared.sifting.Tally.{Tally}
+use Rattle.doubles.specs.Doubles.{#0}
 
 abbrev pub lastFilter : ℕ
 lastFilter = 4
@@ -34,9 +35,6 @@ letsOf SignalOnly r t = eqb r 0 && eqb t 0
 letsOf GhostsOnly r t = leb 1 r
 letsOf TirOnly r t = ltb 0 t
 letsOf StrayLight r t = ltb 0 r || ltb 0 t
-
-abbrev pub #0 : Float
-#0 = ofBits binary64 0
 
 -- a map with its total and its count
 pub record Map : Type 0 where

@@ -15,7 +15,8 @@ use Rattle.detectors.specs.Detectors.{allPixelsOf, findOf}
 use Rattle.memory.specs.Memory.{hitsFrom, isHitListOf}
 use Rattle.filter.specs.declared.RayPathFilter.{RayPathFilter}
 use Rattle.filter.specs.declared.filtering.Filtered.{Filtered}
-use Rattle.filter.specs.Filters.{#0, Map, isAllOf, refillOf}
+use Rattle.filter.specs.Filters.{Map, isAllOf, refillOf}
+use Rattle.doubles.specs.Doubles.{#0}
 
 -- ---- the checks: 3, 5 to 8, 4, then 9, also for All
 

@@ -8,7 +8,8 @@ ghost use mathlib.Core.Path.{_≡_};
 ghost use Prim.Native.Nat.{_+_, _^_, _<_};
 ghost use lib.ListN.{length, replicate};
 ghost use Rattle.memory.specs.Memory.{hitsFrom};
-ghost use Rattle.filter.specs.Filters.{#0, asMap, addAtOf, passesOf, addHitOf, siftHitOf, refillOf};
+ghost use Rattle.filter.specs.Filters.{asMap, addAtOf, passesOf, addHitOf, siftHitOf, refillOf};
+ghost use Rattle.doubles.specs.Doubles.{#0};
 
 // The sum of the fluxes that were added to a map, in their order, and their number.
 pub struct Tally {

@@ -11,7 +11,7 @@ use lib.Ieee.{Float, nan, inf, fin, binary64, up, down, round, sub, mul, div, ne
 use lib.Ieee.Fits.{div-fits}
 use lib.Ieee.Positive.{positive}
 use Rattle.doubles.proofs.Floats.{clash}
-use Rattle.doubles.specs.Doubles.{absOf, isFiniteOf}
+use Rattle.doubles.specs.Doubles.{absOf, isFiniteOf, #0, #1}
 use Rattle.error.specs.Refusals.{Answer, value, refusal}
 use Rattle.rays.specs.declared.vector.Vec3.{Vec3}
 use Rattle.rays.specs.declared.matrix.Mat4.{Mat4}
@@ -26,7 +26,7 @@ use Rattle.geometry.specs.declared.flat.Distance.{Distance}
 use Rattle.geometry.specs.declared.flat.Distance.the-variants.{At, Nowhere}
 use Rattle.geometry.specs.declared.slab.Side.{Side}
 use Rattle.geometry.specs.declared.meeting.Meeting.{Meeting}
-use Rattle.geometry.specs.Hits.{#0, #1, parallel}
+use Rattle.geometry.specs.Hits.{parallel}
 use Rattle.geometry.specs.Flat.{flatDistanceOf, planeFrom, diskFrom, intersectPlaneOf, intersectDiskOf}
 use Rattle.geometry.specs.Slabs.{Interval, movedNear, movedFar, cutBy, wholeRay, outsideOf, insideOf, sideHitOf, hitWithin, intersectBoxOf}
 use Rattle.geometry.specs.declared.slab.Side.the-variants.{MinusX, PlusX, MinusY, PlusY, MinusZ, PlusZ}

@@ -2,23 +2,17 @@
 use mathlib.Core.Path.{_≡_, refl}
 use mathlib.Core.Option.{none}
 use lib.Ieee.{Float, binary64, add, sub, mul, div, neg, lt, le, ofBits, toBits}
-use Rattle.doubles.specs.Doubles.{absOf}
+use Rattle.doubles.specs.Doubles.{absOf, #4, #5, #0, #1}
 use Rattle.doubles.specs.Root.{sqrtOf}
 use Rattle.rays.specs.declared.Ray.{Ray}
 use Rattle.rays.specs.Rays.{atOf}
 use Rattle.rays.specs.Vectors.{vec3, dotOf, plusOf, scaleOf, divideOf}
 use Rattle.geometry.specs.declared.PrimitiveGeometry.the-variants.{Plane, Sphere, Box}
-use Rattle.geometry.specs.Hits.{#0, #1, hitAt, firstThere}
+use Rattle.geometry.specs.Hits.{hitAt, firstThere}
 use Rattle.geometry.specs.Flat.{intersectPlaneOf, planeFrom, flatDistanceOf, planeAtOf, flatHitOf, reachOf}
 use Rattle.geometry.specs.Round.{intersectSphereOf, sphereAmongOf, sphereAtOf, solveOf}
 use Rattle.geometry.specs.Slabs.{intersectBoxOf, insideOf, outsideOf, cutBy, movedNear, movedFar, wholeRay, hitWithin, sideHitOf, normalOf}
 use Rattle.geometry.specs.Shapes.{intersectLocalOf}
-
-abbrev #4 : Float
-#4 = ofBits binary64 0x4010000000000000
-
-abbrev #5 : Float
-#5 = ofBits binary64 0x4014000000000000
 
 -- from (0, 0, z) along +z
 abbrev pub upward : Float → Ray

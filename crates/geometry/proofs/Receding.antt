@@ -17,7 +17,7 @@ use lib.Ieee.Fits.{up-pos, down-pos, mul-fits}
 use lib.Ieee.Order.{transfer}
 use lib.Ieee.Scale.{round-same, round-val}
 use Rattle.doubles.specs.Root.{sqrtIn, sqrtOf}
-use Rattle.doubles.specs.Doubles.{absOf}
+use Rattle.doubles.specs.Doubles.{absOf, #2, #4, #0}
 use Rattle.doubles.proofs.Patterns.{normal}
 use Rattle.rays.specs.declared.vector.Vec3.{Vec3}
 use Rattle.rays.specs.declared.Ray.{Ray}
@@ -26,7 +26,7 @@ use Rattle.rays.specs.Rays.{minLocalDistance}
 use Rattle.geometry.specs.declared.LocalHit.{LocalHit}
 use Rattle.geometry.specs.declared.round.Roots.{Roots}
 use Rattle.geometry.specs.declared.round.Roots.the-variants.{Two, Nothing}
-use Rattle.geometry.specs.Hits.{#0, firstThere}
+use Rattle.geometry.specs.Hits.{firstThere}
 use Rattle.geometry.specs.Round.{solveOf, sphereAtOf, sphereAmongOf, intersectSphereOf}
 use Rattle.geometry.specs.Away.{isAwayOf}
 use Rattle.geometry.proofs.Signs.{Signed, under, round-signed, signed-under, suc-not-zero, cond-no}
@@ -192,12 +192,6 @@ pub not-ahead : (t : Float) → T (low t) → lt minLocalDistance t ≡ false
 not-ahead t h = subst (λ (x : Float). lt x t ≡ false) (sym near-is) (low-near-is t h)
 
 -- ---- the choice among the roots
-
-abbrev #2 : Float
-#2 = ofBits binary64 0x4000000000000000
-
-abbrev #4 : Float
-#4 = ofBits binary64 0x4010000000000000
 
 two-above : Above #2
 unfolding ofBits

@@ -14,8 +14,8 @@ use lib.Ieee.Fits.{up-pos, down-pos, round-is, and-l, and-r}
 use lib.Ieee.Order.{round-mono}
 use lib.Ieee.Positive.{positive, between}
 use Rattle.doubles.proofs.Floats.{clash}
-use Rattle.doubles.specs.Doubles.{absOf, isFiniteOf}
-use Rattle.geometry.specs.Hits.{#0, #1, parallel}
+use Rattle.doubles.specs.Doubles.{absOf, isFiniteOf, #0, #1}
+use Rattle.geometry.specs.Hits.{parallel}
 
 -- a number of the sign s, true for negative; a zero has its sign too
 abbrev pub Signed : Bool → Float → Type 0

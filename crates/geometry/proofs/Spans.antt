@@ -3,13 +3,13 @@ use mathlib.Core.Path.{_≡_, refl, sym, ap, _∙_}
 use mathlib.Core.Bool.{Bool, true, false, cond}
 use mathlib.Core.Option.{Option}
 use lib.Ieee.{Float, nan, inf, fin, binary64, sub, mul, div, neg, lt, le}
-use Rattle.doubles.specs.Doubles.{absOf}
+use Rattle.doubles.specs.Doubles.{absOf, #0, #1}
 use Rattle.rays.specs.declared.Ray.{Ray}
 use Rattle.geometry.specs.declared.LocalHit.{LocalHit}
 use Rattle.geometry.specs.declared.slab.Side.{Side}
 use Rattle.geometry.specs.declared.slab.Side.the-variants.{MinusX, PlusX, MinusY, PlusY, MinusZ, PlusZ}
 use Rattle.geometry.specs.declared.slab.Span.{Span}
-use Rattle.geometry.specs.Hits.{#0, #1, parallel}
+use Rattle.geometry.specs.Hits.{parallel}
 use Rattle.geometry.specs.Slabs.{Interval, wholeRay, movedNear, movedFar, cutBy, insideOf, hitWithin}
 use Rattle.geometry.specs.Spans.{firstFaceOf, alongOf, laterOf, soonerOf, nearEndsOf, farEndsOf, sideForOf, nearSideOf, farSideOf, hitBetweenOf}
 

@@ -3,7 +3,7 @@ use Prim.Native.Nat.{ℕ}
 use lib.Dec.{leb, ltb}
 use lib.Ieee.{Float, binary64, lt, toBits}
 use mathlib.Core.Bool.{Bool, _&&_}
-use Rattle.geometry.specs.Hits.{#0}
+use Rattle.doubles.specs.Doubles.{#0}
 
 -- from outside the sphere, with a b above 0 whose square neither overflows nor loses digits; false says nothing
 unfoldable pub isAwayOf : Float → Float → Bool

@@ -1,11 +1,10 @@
 -- Rays that surely miss a shape by the signs of their coordinates. d is a direction of any length.
 use lib.Ieee.{Float, binary64, mul, lt}
 use mathlib.Core.Bool.{Bool, false, _&&_, _||_}
-use Rattle.doubles.specs.Doubles.{absOf}
+use Rattle.doubles.specs.Doubles.{absOf, #0}
 use Rattle.rays.specs.declared.vector.Vec3.{Vec3}
 use Rattle.geometry.specs.declared.PrimitiveGeometry.{PrimitiveGeometry}
 use Rattle.geometry.specs.declared.PrimitiveGeometry.the-variants.{Plane, Disk, Sphere, Cylinder, Box}
-use Rattle.geometry.specs.Hits.{#0}
 
 -- along one axis: away from 0
 unfoldable pub recedesOf : Float → Float → Bool

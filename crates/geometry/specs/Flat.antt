@@ -2,14 +2,14 @@
 use lib.Ieee.{Float, binary64, add, mul, div, neg, lt, le}
 use mathlib.Core.Bool.{cond, _&&_}
 use mathlib.Core.Option.{Option, none}
-use Rattle.doubles.specs.Doubles.{absOf}
+use Rattle.doubles.specs.Doubles.{absOf, #0, #1}
 use Rattle.rays.specs.declared.Ray.{Ray}
 use Rattle.rays.specs.Rays.{minLocalDistance}
 use Rattle.rays.specs.Vectors.{vec3}
 use Rattle.geometry.specs.declared.LocalHit.{LocalHit}
 use Rattle.geometry.specs.declared.flat.Distance.{Distance}
 use Rattle.geometry.specs.declared.flat.Distance.the-variants.{At, Nowhere}
-use Rattle.geometry.specs.Hits.{#0, #1, parallel, hitAt}
+use Rattle.geometry.specs.Hits.{parallel, hitAt}
 
 -- one coordinate at a distance: o + t * d
 unfoldable pub reachOf : Float → Float → Float → Float

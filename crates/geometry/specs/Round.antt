@@ -2,7 +2,7 @@
 use lib.Ieee.{Float, binary64, add, sub, mul, div, neg, lt, le, ofBits}
 use mathlib.Core.Bool.{cond, _&&_}
 use mathlib.Core.Option.{Option, none}
-use Rattle.doubles.specs.Doubles.{absOf}
+use Rattle.doubles.specs.Doubles.{absOf, #2, #4, #0}
 use Rattle.doubles.specs.Root.{sqrtOf}
 use Rattle.rays.specs.declared.Ray.{Ray}
 use Rattle.rays.specs.Rays.{minLocalDistance, atOf}
@@ -10,14 +10,8 @@ use Rattle.rays.specs.Vectors.{vec3, dotOf, divideOf}
 use Rattle.geometry.specs.declared.LocalHit.{LocalHit}
 use Rattle.geometry.specs.declared.round.Roots.{Roots}
 use Rattle.geometry.specs.declared.round.Roots.the-variants.{Two, Nothing}
-use Rattle.geometry.specs.Hits.{#0, parallel, hitAt, firstThere}
+use Rattle.geometry.specs.Hits.{parallel, hitAt, firstThere}
 use Rattle.geometry.specs.Flat.{reachOf}
-
-abbrev #2 : Float
-#2 = ofBits binary64 0x4000000000000000
-
-abbrev #4 : Float
-#4 = ofBits binary64 0x4010000000000000
 
 unfoldable pub solveOf : Float → Float → Float → Roots
 solveOf a b c =

@@ -2,7 +2,7 @@
 use lib.Ieee.{Float, inf, binary64, sub, mul, div, neg, lt, le}
 use mathlib.Core.Bool.{Bool, false, cond, _||_}
 use mathlib.Core.Option.{Option, none}
-use Rattle.doubles.specs.Doubles.{absOf}
+use Rattle.doubles.specs.Doubles.{absOf, #0, #1}
 use Rattle.rays.specs.declared.vector.Vec3.{Vec3}
 use Rattle.rays.specs.declared.Ray.{Ray}
 use Rattle.rays.specs.Rays.{minLocalDistance}
@@ -10,7 +10,7 @@ use Rattle.rays.specs.Vectors.{vec3}
 use Rattle.geometry.specs.declared.LocalHit.{LocalHit}
 use Rattle.geometry.specs.declared.slab.Side.{Side}
 use Rattle.geometry.specs.declared.slab.Side.the-variants.{MinusX, PlusX, MinusY, PlusY, MinusZ, PlusZ, Unset}
-use Rattle.geometry.specs.Hits.{#0, #1, parallel, hitAt}
+use Rattle.geometry.specs.Hits.{parallel, hitAt}
 
 abbrev #-1 : Float
 #-1 = neg #1

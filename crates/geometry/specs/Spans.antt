@@ -3,7 +3,7 @@
 use lib.Ieee.{Float, inf, binary64, sub, mul, div, neg, lt, le}
 use mathlib.Core.Bool.{false, cond}
 use mathlib.Core.Option.{Option, none}
-use Rattle.doubles.specs.Doubles.{absOf}
+use Rattle.doubles.specs.Doubles.{absOf, #0, #1}
 use Rattle.rays.specs.declared.vector.Vec3.{Vec3}
 use Rattle.rays.specs.Rays.{minLocalDistance}
 use Rattle.geometry.specs.declared.LocalHit.{LocalHit}
@@ -11,7 +11,7 @@ use Rattle.geometry.specs.declared.slab.Side.{Side}
 use Rattle.geometry.specs.declared.slab.Side.the-variants.{MinusX, PlusX, MinusY, PlusY, MinusZ, PlusZ, Unset}
 use Rattle.geometry.specs.declared.slab.Span.{Span}
 use Rattle.geometry.specs.declared.slab.Ends.{Ends}
-use Rattle.geometry.specs.Hits.{#0, #1, parallel}
+use Rattle.geometry.specs.Hits.{parallel}
 use Rattle.geometry.specs.Slabs.{sideHitOf}
 
 -- the place of the plane that a ray comes to first, i being 1 over its direction

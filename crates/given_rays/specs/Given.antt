@@ -11,15 +11,29 @@ use Rattle.rays.specs.Vectors.{vec3}
 use Rattle.rays.specs.Rays.{isValidRayOf}
 use Rattle.scene.specs.declared.SolidNo.{SolidNo}
 use Rattle.media.specs.declared.Media.{Media}
-use Rattle.media.specs.Media.{noSolid, solidIn}
+use Rattle.media.specs.Media.{noSolid, solidIn, maxMedia}
 use Rattle.step.specs.declared.ActiveRay.{ActiveRay}
+
+-- doubles and whole numbers of a ray
+abbrev pub rayDoubles : ℕ
+rayDoubles = 8
+
+abbrev pub rayWholes : ℕ
+rayWholes = 10
+
+-- the most rays (else 3), and room for one more, so that 3 comes in its order
+abbrev pub maxRays : ℕ
+maxRays = 4096
+
+abbrev pub rayRoom : ℕ
+rayRoom = maxRays + 1
 
 -- double j and whole number j of ray i
 abbrev valueAt : List Float → ℕ → ℕ → Float
-valueAt v i j = getD v (i * 8 + j) nan
+valueAt v i j = getD v (i * rayDoubles + j) nan
 
 abbrev tagAt : List ℕ → ℕ → ℕ → ℕ
-tagAt t i j = getD t (i * 10 + j) 0
+tagAt t i j = getD t (i * rayWholes + j) 0
 
 abbrev solidNoAt : List ℕ → ℕ → ℕ → SolidNo
 solidNoAt t i j = record { 0 = tagAt t i j }
@@ -27,7 +41,7 @@ solidNoAt t i j = record { 0 = tagAt t i j }
 unfoldable pub readRayOf : List Float → ℕ → Ray
 readRayOf v i =
     record {
-      origin = vec3 (getD v (i * 8) nan) (valueAt v i 1) (valueAt v i 2);
+      origin = vec3 (getD v (i * rayDoubles) nan) (valueAt v i 1) (valueAt v i 2);
       direction = vec3 (valueAt v i 3) (valueAt v i 4) (valueAt v i 5);
       «wavelength_nm» = valueAt v i 6;
       energy = valueAt v i 7;
@@ -52,16 +66,16 @@ noRayOf =
       «bounce_count» = 0;
       «reflection_count» = 0;
       «tir_count» = 0;
-      media = record { list = replicate 24 noSolid; depth = 0 };
+      media = record { list = replicate maxMedia noSolid; depth = 0 };
     }
 
 -- given ray i
 unfoldable pub givenAtOf : List Float → List ℕ → ℕ → ActiveRay
 givenAtOf v t i =
-    cond (leb (i * 8 + 8) (length v) && leb (i * 10 + 10) (length t))
+    cond (leb (i * rayDoubles + rayDoubles) (length v) && leb (i * rayWholes + rayWholes) (length t))
     (record {
       ray = readRayOf v i;
-      «bounce_count» = getD t (i * 10) 0;
+      «bounce_count» = getD t (i * rayWholes) 0;
       «reflection_count» = 0;
       «tir_count» = 0;
       media = readMediaOf t i;
@@ -70,7 +84,7 @@ givenAtOf v t i =
 
 -- 17 for lists of another length than so many rays need
 unfoldable pub checkListsOf : ℕ → ℕ → ℕ → Checked Unit
-checkListsOf nv nt rays = cond (eqb nv (rays * 8) && eqb nt (rays * 10)) (passed tt) (refusedAt 17 0)
+checkListsOf nv nt rays = cond (eqb nv (rays * rayDoubles) && eqb nt (rays * rayWholes)) (passed tt) (refusedAt 17 0)
 
 -- whether the n places from i on hold solids
 unfoldable pub allSolidsOf : List SolidNo → ℕ → ℕ → ℕ → Bool

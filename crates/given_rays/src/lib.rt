@@ -3,6 +3,7 @@
 // numbers: bounce, number of media, 8 media.
 use error::Check;
 use error::NonSeqError;
+use media::MEDIA_PLACES;
 use media::Media;
 use rays::Ray;
 use rays::Vec3;
@@ -12,13 +13,31 @@ ghost use mathlib.Core.Path.{_≡_};
 ghost use Prim.Native.Nat.{_+_, _*_, _≤_};
 ghost use lib.ListN.{length};
 ghost use Rattle.error.specs.Refusals.{asChecked};
-ghost use Rattle.given_rays.specs.Given.{readRayOf, readMediaOf, noRayOf, givenAtOf, checkListsOf, allSolidsOf, validMediaOf, checkRayOf, checkRaysOf, launchedOf};
+ghost use Rattle.given_rays.specs.Given.{readRayOf, readMediaOf, noRayOf, givenAtOf, checkListsOf, allSolidsOf, validMediaOf, checkRayOf, checkRaysOf, launchedOf, rayDoubles, rayWholes};
+ghost use Rattle.media.specs.Media.{maxMedia};
+
+// Doubles and whole numbers of each ray in the two lists of rays.
+pub const RAY_DOUBLES: usize = 8;
+
+pub const RAY_WHOLES: usize = 10;
+
+// The most rays (else 3), and the most media on one (else 11).
+pub const MAX_RAYS: u32 = 4096;
+
+pub const MAX_GIVEN_MEDIA: u32 = 8;
+
+// Room for one ray more than the most, so that 3 comes in its order.
+pub const RAY_ROOM: u32 = MAX_RAYS + 1;
+
+pub const RAY_ROOM_DOUBLES: usize = RAY_ROOM as usize * RAY_DOUBLES;
+
+pub const RAY_ROOM_WHOLES: usize = RAY_ROOM as usize * RAY_WHOLES;
 
 fn read_ray(ray_values: &[f64], i: u32) -> Ray
-    requires { ⌜ i * 8 + 8 ≤ length (now «ray_values») ⌝ }
+    requires { ⌜ i * rayDoubles + rayDoubles ≤ length (now «ray_values») ⌝ }
     ensures { λ r. ⌜ r ≡ readRayOf (now («ray_values» .entry)) i ⌝ }
 {
-    let a = i as usize * 8;
+    let a = i as usize * RAY_DOUBLES;
     Ray {
         origin: Vec3 {
             x: ray_values[a],
@@ -36,11 +55,11 @@ fn read_ray(ray_values: &[f64], i: u32) -> Ray
 }
 
 fn read_media(ray_tags: &[u32], i: u32) -> Media
-    requires { ⌜ i * 10 + 10 ≤ length (now «ray_tags») ⌝ }
+    requires { ⌜ i * rayWholes + rayWholes ≤ length (now «ray_tags») ⌝ }
     ensures { λ r. ⌜ r ≡ readMediaOf (now («ray_tags» .entry)) i ⌝ }
 {
-    let a = i as usize * 10;
-    let mut list = [SolidNo(0); 24];
+    let a = i as usize * RAY_WHOLES;
+    let mut list = [SolidNo(0); MEDIA_PLACES];
     list[0] = SolidNo(ray_tags[a + 2]);
     list[1] = SolidNo(ray_tags[a + 3]);
     list[2] = SolidNo(ray_tags[a + 4]);
@@ -65,7 +84,7 @@ pub fn no_ray() -> ActiveRay
         y: nan,
         z: nan,
     };
-    let list = [SolidNo(0); 24];
+    let list = [SolidNo(0); MEDIA_PLACES];
     ActiveRay {
         ray: Ray {
             origin: v,
@@ -85,11 +104,11 @@ pub fn given_at(ray_values: &[f64], ray_tags: &[u32], i: u32) -> ActiveRay
     ensures { λ r. ⌜ r ≡ givenAtOf (now («ray_values» .entry)) (now («ray_tags» .entry)) i ⌝ }
 {
     let none = no_ray();
-    if i as usize * 8 + 8 <= ray_values.len() {
-        if i as usize * 10 + 10 <= ray_tags.len() {
+    if i as usize * RAY_DOUBLES + RAY_DOUBLES <= ray_values.len() {
+        if i as usize * RAY_WHOLES + RAY_WHOLES <= ray_tags.len() {
             return ActiveRay {
                 ray: read_ray(ray_values, i),
-                bounce_count: ray_tags[i as usize * 10],
+                bounce_count: ray_tags[i as usize * RAY_WHOLES],
                 reflection_count: 0,
                 tir_count: 0,
                 media: read_media(ray_tags, i),
@@ -103,8 +122,8 @@ pub fn given_at(ray_values: &[f64], ray_tags: &[u32], i: u32) -> ActiveRay
 pub fn check_lists(ray_values: usize, ray_tags: usize, rays: u32) -> Check
     ensures { λ r. ⌜ asChecked r ≡ checkListsOf «ray_values» «ray_tags» rays ⌝ }
 {
-    if ray_values == rays as usize * 8 {
-        if ray_tags == rays as usize * 10 {
+    if ray_values == rays as usize * RAY_DOUBLES {
+        if ray_tags == rays as usize * RAY_WHOLES {
             return Check::Passed;
         }
     }
@@ -115,8 +134,8 @@ pub fn check_lists(ray_values: usize, ray_tags: usize, rays: u32) -> Check
 }
 
 // Whether the first n places hold solids.
-fn all_solids(list: [SolidNo; 24], n: usize, solids: u32) -> bool
-    requires { ⌜ n ≤ 24 ⌝ }
+fn all_solids(list: [SolidNo; MEDIA_PLACES], n: usize, solids: u32) -> bool
+    requires { ⌜ n ≤ maxMedia ⌝ }
     ensures { λ r. ⌜ r ≡ allSolidsOf list solids n 0 ⌝ }
 {
     let mut i: usize = 0;
@@ -136,7 +155,7 @@ fn valid_media(media: Media, solids: u32) -> bool
     ensures { λ r. ⌜ r ≡ validMediaOf media solids ⌝ }
 {
     let list = media.list;
-    if media.depth <= 8 {
+    if media.depth <= MAX_GIVEN_MEDIA {
         return all_solids(list, media.depth as usize, solids);
     }
     false

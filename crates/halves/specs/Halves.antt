@@ -9,6 +9,8 @@ use Rattle.memory.specs.Memory.{Memory, lentMemory, Outcome, asOutcome}
 use Rattle.trace.specs.declared.Traced.{Traced}
 use Rattle.theorems_calls.specs.Parts.{Part}
 use Rattle.halves.specs.declared.Halved.{Halved}
+use Rattle.detector.specs.Pixels.{maxCount}
+use Rattle.given_rays.specs.Given.{rayDoubles, rayWholes}
 
 -- at most all rays
 unfoldable pub cutAtOf : ℕ → ℕ → ℕ
@@ -16,14 +18,14 @@ cutAtOf cut given = cond (leb cut given) cut given
 
 -- a place n further on; no batch comes near the largest
 unfoldable pub furtherOf : ℕ → ℕ → ℕ
-furtherOf place n = cond (leb place (4294967295 - n)) (n + place) place
+furtherOf place n = cond (leb place (maxCount - n)) (n + place) place
 
 -- the rays from n on, and those before
 abbrev pub laterPart : List Float → List ℕ → ℕ → ℕ → Part
-laterPart v t given n = record { rayValues = take (length v - n * 8) (drop (n * 8) v); rayTags = take (length t - n * 10) (drop (n * 10) t); rays = given - n }
+laterPart v t given n = record { rayValues = take (length v - n * rayDoubles) (drop (n * rayDoubles) v); rayTags = take (length t - n * rayWholes) (drop (n * rayWholes) t); rays = given - n }
 
 abbrev pub formerPart : List Float → List ℕ → ℕ → Part
-formerPart v t n = record { rayValues = take (n * 8) v; rayTags = take (n * 10) t; rays = n }
+formerPart v t n = record { rayValues = take (n * rayDoubles) v; rayTags = take (n * rayWholes) t; rays = n }
 
 -- what the code's answers say
 abbrev pub answerOf : Traced → Halved

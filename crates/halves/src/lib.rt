@@ -1,6 +1,9 @@
 // A batch traced in two parts (letter, demand 3): what it leaves is what the batch traced whole leaves.
+use detector::MAX_COUNT;
 use detectors::Detectors;
 use error::Check;
+use given_rays::RAY_DOUBLES;
+use given_rays::RAY_WHOLES;
 use step::NonSeqTraceConfig;
 use trace::Traced;
 ghost use mathlib.Core.Path.{_≡_};
@@ -11,6 +14,7 @@ ghost use Rattle.memory.specs.Memory.{lentMemory};
 ghost use Rattle.trace.specs.Trace.{lentBatch, checkBatch, traceRaysOf, asTraced};
 ghost use Rattle.theorems_calls.specs.Parts.{withRays};
 ghost use Rattle.halves.specs.Halves.{cutAtOf, furtherOf, laterPart, formerPart, answerOf, asHalved};
+ghost use Rattle.given_rays.specs.Given.{rayDoubles, rayWholes};
 
 // The refusal or none, and what goes on. The ledger and tallies of a split batch are those of its parts.
 pub struct Halved {
@@ -33,7 +37,7 @@ fn cut_at(cut: u32, given: u32) -> u32
 fn further(place: u32, n: u32) -> u32
     ensures { λ r. ⌜ r ≡ furtherOf place n ⌝ }
 {
-    if place <= 4294967295 - n {
+    if place <= MAX_COUNT - n {
         return n + place;
     }
     place
@@ -56,14 +60,14 @@ fn later(
     hit_tags: &mut [u32],
     used: usize,
 ) -> Traced
-    requires { ⌜ (n ≤ given) × (given * 8 ≤ length (now «ray_values»)) × (given * 10 ≤ length (now «ray_tags»)) ⌝ }
+    requires { ⌜ (n ≤ given) × (given * rayDoubles ≤ length (now «ray_values»)) × (given * rayWholes ≤ length (now «ray_tags»)) ⌝ }
     ensures { λ r. ⌜ asTraced r (now (flux .exit)) (now (hits .exit)) (now («hit_values» .exit)) (now («hit_tags» .exit))
         ≡ traceRaysOf (withRays (lentBatch config (now («solid_values» .entry)) (now («solid_tags» .entry)) count (now («ray_values» .entry)) (now («ray_tags» .entry)) given)
         (laterPart (now («ray_values» .entry)) (now («ray_tags» .entry)) given n))
         (lentMemory detectors (now (flux .entry)) (now (hits .entry)) (now («hit_values» .entry)) (now («hit_tags» .entry)) used) ⌝ }
 {
-    let a = n as usize * 8;
-    let b = n as usize * 10;
+    let a = n as usize * RAY_DOUBLES;
+    let b = n as usize * RAY_WHOLES;
     let left = given - n;
     let r = &ray_values[a..];
     let m = &ray_tags[b..];
@@ -101,14 +105,14 @@ fn former(
     hit_tags: &mut [u32],
     used: usize,
 ) -> Traced
-    requires { ⌜ (n ≤ given) × (given * 8 ≤ length (now «ray_values»)) × (given * 10 ≤ length (now «ray_tags»)) ⌝ }
+    requires { ⌜ (n ≤ given) × (given * rayDoubles ≤ length (now «ray_values»)) × (given * rayWholes ≤ length (now «ray_tags»)) ⌝ }
     ensures { λ r. ⌜ asTraced r (now (flux .exit)) (now (hits .exit)) (now («hit_values» .exit)) (now («hit_tags» .exit))
         ≡ traceRaysOf (withRays (lentBatch config (now («solid_values» .entry)) (now («solid_tags» .entry)) count (now («ray_values» .entry)) (now («ray_tags» .entry)) given)
         (formerPart (now («ray_values» .entry)) (now («ray_tags» .entry)) n))
         (lentMemory detectors (now (flux .entry)) (now (hits .entry)) (now («hit_values» .entry)) (now («hit_tags» .entry)) used) ⌝ }
 {
-    let a = n as usize * 8;
-    let b = n as usize * 10;
+    let a = n as usize * RAY_DOUBLES;
+    let b = n as usize * RAY_WHOLES;
     let r = &ray_values[..a];
     let m = &ray_tags[..b];
     trace::trace_rays(

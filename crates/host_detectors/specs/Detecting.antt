@@ -8,7 +8,7 @@ use Rattle.detector.specs.declared.Detector2D.{Detector2D}
 use Rattle.detector.specs.declared.face.Crossing.{Crossing}
 use Rattle.host_detectors.specs.declared.detecting.HostDetector.{HostDetector}
 use Rattle.host_detectors.specs.declared.detecting.HostCrossing.{HostCrossing}
-use Rattle.host_numbers.specs.Numbers.{#0}
+use Rattle.doubles.specs.Doubles.{#0}
 
 -- all zeros
 unfoldable pub noDetectorOf : Detector2D

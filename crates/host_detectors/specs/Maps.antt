@@ -14,7 +14,7 @@ use Rattle.filter.specs.Handed.{Handed, handed, refilterOf}
 use Rattle.host_detectors.specs.declared.maps.HostRecorded.{HostRecorded}
 use Rattle.host_detectors.specs.declared.maps.HostFiltered.{HostFiltered}
 use Rattle.host_detectors.specs.declared.maps.HostPart.{HostPart}
-use Rattle.host_numbers.specs.Numbers.{#0}
+use Rattle.doubles.specs.Doubles.{#0}
 
 -- ---- what a recording answers and leaves
 

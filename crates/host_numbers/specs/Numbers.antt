@@ -4,9 +4,7 @@ use lib.Ieee.{Float, binary64, ofBits}
 use Rattle.error.specs.Refusals.{Checked, passed, refusedAt}
 use Rattle.host_numbers.specs.declared.HostChecked.{HostChecked}
 use Rattle.host_numbers.specs.declared.HostReading.{HostReading}
-
-abbrev pub #0 : Float
-#0 = ofBits binary64 0
+use Rattle.doubles.specs.Doubles.{#0}
 
 abbrev pub checkedOf : Checked Unit → HostChecked
 checkedOf (passed u) = record { refusal = 0; place = 0 }

@@ -13,9 +13,11 @@ use Rattle.detectors.specs.Detectors.{checkDetectorsOf}
 use Rattle.filter.specs.Filters.{numberedFilterOf}
 use Rattle.printing.specs.Printing.{Out, out, putAll}
 use Rattle.printing.proofs.Writing.{written, length-put}
-use Rattle.answer_text.specs.Answer.{Held, answerText, refusalText, maxPixels}
+use Rattle.answer_text.specs.Answer.{Held, answerText, refusalText}
 use Rattle.answer_text.proofs.Lengths.{refusal-short, answer-short}
-use Rattle.host_texts.specs.Texts.{frontOf, putWholeOf, isHeldOf, heldText, textAfter, hostAnswerText}
+use Rattle.host_texts.specs.Texts.{putWholeOf, isHeldOf, heldText, textAfter, hostAnswerText}
+use Rattle.memory.specs.Memory.{textPixels}
+use Rattle.fields.specs.Split.{frontOf}
 
 front-is : (l left t : List ℕ) (n : ℕ) → length t ≤ length l → out left n ≡ putAll l 0 t → frontOf n left ≡ t
 unfolding frontOf
@@ -45,7 +47,7 @@ short n place = omega (arith, refusal-short n place)
 held-short : (r : NonSeqTraceReport) (f : ℕ) (m : Held) → length (heldText r f m) ≤ 131072
 unfolding heldText
 held-short r f m =
-    if-short (leb (length (m .flux)) maxPixels) _ _ 131072
+    if-short (leb (length (m .flux)) textPixels) _ _ 131072
     (λ e. if-short (isHeldOf (m .detectors) (length (m .flux)) (length (m .hitValues)) (length (m .hitTags)) (m .used)) _ _ 131072 (λ g. omega (arith, answer-short r (numberedFilterOf f) m (leb-true _ _ e))) (short 9 0))
     (short 9 0)
 

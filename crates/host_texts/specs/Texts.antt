@@ -9,9 +9,9 @@ use Rattle.filter.specs.Filters.{numberedFilterOf}
 use Rattle.report.specs.declared.NonSeqTraceReport.{NonSeqTraceReport}
 use Rattle.detectors.specs.declared.Detectors.{Detectors}
 use Rattle.detectors.specs.Detectors.{allPixelsOf, checkDetectorsOf}
-use Rattle.memory.specs.Memory.{isHitListOf}
+use Rattle.memory.specs.Memory.{isHitListOf, textPixels}
 use Rattle.printing.specs.Printing.{Out, out, putAll}
-use Rattle.answer_text.specs.Answer.{Held, answerText, refusalText, maxPixels}
+use Rattle.answer_text.specs.Answer.{Held, answerText, refusalText}
 use Rattle.scene_text.specs.Scene.{Slices, Answer}
 use Rattle.host_texts.specs.declared.HostScene.{HostScene}
 
@@ -32,10 +32,6 @@ sceneFrom a = sceneWith (a .check) (a .solids) (a .detectors) (a .rays) (a .left
 
 -- ---- what is written
 
--- the first n bytes, or all
-unfoldable pub frontOf : ℕ → List ℕ → List ℕ
-frontOf n t = cond (leb n (length t)) (take n t) t
-
 -- a text from the start of a buffer on, or nothing where it does not fit, and its length
 unfoldable pub putWholeOf : List ℕ → List ℕ → Out
 putWholeOf buf t = cond (leb (length t) (length buf)) (putAll buf 0 t) (out buf (length t))
@@ -49,7 +45,7 @@ isHeldOf ds nf nv nt used = cond (eqb nf (allPixelsOf ds)) (isHitListOf nv nt us
 -- 9 for more pixels than there is room for, or other slices
 unfoldable pub heldText : NonSeqTraceReport → ℕ → Held → List ℕ
 heldText r f m =
-    cond (leb (length (m .flux)) maxPixels)
+    cond (leb (length (m .flux)) textPixels)
     (cond (isHeldOf (m .detectors) (length (m .flux)) (length (m .hitValues)) (length (m .hitTags)) (m .used)) (answerText r (numberedFilterOf f) m) (refusalText 9 0))
     (refusalText 9 0)
 

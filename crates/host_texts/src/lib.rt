@@ -10,7 +10,8 @@ ghost use Rattle.report.specs.Report.{energyConservationRatioOf};
 ghost use Rattle.answer_text.specs.Answer.{held, refusalText};
 ghost use Rattle.scene_text.specs.Scene.{slices, readSceneOf};
 ghost use Rattle.map_text.specs.StrayMap.{strayMapText};
-ghost use Rattle.host_texts.specs.Texts.{frontOf, putWholeOf, isHeldOf, heldText, hostAnswerText, sceneFrom, sceneRead};
+ghost use Rattle.host_texts.specs.Texts.{putWholeOf, isHeldOf, heldText, hostAnswerText, sceneFrom, sceneRead};
+ghost use Rattle.fields.specs.Split.{frontOf};
 
 // How many lines of values the blocks have.
 #[repr(C)]
@@ -190,7 +191,7 @@ pub extern "C" fn nonseq_put_answer(
     ensures { λ r. ⌜ out (now (buf .exit)) r ≡ putWholeOf (now (buf .entry))
         (hostAnswerText report filter (held detectors (now (flux .entry)) (now («hit_values» .entry)) (now («hit_tags» .entry)) used)) ⌝ }
 {
-    let mut t = [0u8; 131072];
+    let mut t = [0u8; map_text::MAX_ANSWER];
     let n = put_text(
         &mut t,
         report,
@@ -220,7 +221,7 @@ pub extern "C" fn nonseq_put_refusal(buf: &mut [u8], refusal: u32, place: u32) -
 pub extern "C" fn nonseq_stray_map(buf: &mut [u8], text: &[u8]) -> usize
     ensures { λ r. ⌜ out (now (buf .exit)) r ≡ putWholeOf (now (buf .entry)) (strayMapText (now (text .entry))) ⌝ }
 {
-    let mut t = [0u8; 131072];
+    let mut t = [0u8; map_text::MAX_ANSWER];
     let n = map_text::put_stray_map(&mut t, 0, text);
     put_whole(buf, front(&t, n))
 }

@@ -19,8 +19,9 @@ use Rattle.trace.specs.Trace.{Batch, lentBatch, checkFlatOf, checkConfigOf, che
 use Rattle.host_tracing.specs.declared.answers.HostConfig.{HostConfig}
 use Rattle.host_tracing.specs.declared.slices.GivenRay.{GivenRay}
 use Rattle.host_tracing.specs.Tracing.{Left, hostTraceRaysOf}
-use Rattle.host_tracing.specs.Flat.{valuesRow, tagsRow, flatValues, flatTags, frontOf, laid, flattenOf}
+use Rattle.host_tracing.specs.Flat.{valuesRow, tagsRow, flatValues, flatTags, laid, flattenOf}
 use Rattle.host_tracing.proofs.Laying.{zeros, nones, long-f, long-h, LaidOut, out}
+use Rattle.fields.specs.Split.{frontOf}
 
 -- ---- the lists of the rays are as long as 17 asks
 

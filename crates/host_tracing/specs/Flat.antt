@@ -1,4 +1,4 @@
--- Rays that come as structs, laid out in the two flat lists of `given`: of each ray 8 doubles and 10 whole numbers.
+-- Rays that come as structs, laid out in the two flat lists of `given_rays`: of each ray 8 doubles and 10 whole numbers.
 use Prim.Native.Nat.{ℕ, _+_, _*_}
 use mathlib.Core.Bool.{Bool, cond, _&&_}
 use mathlib.Core.List.{List, [], _∷_, _++_}
@@ -8,6 +8,7 @@ use lib.ListN.{length, take}
 use lib.Seq.{sets}
 use Rattle.media.specs.Media.{solidIn}
 use Rattle.host_tracing.specs.declared.slices.GivenRay.{GivenRay}
+use Rattle.given_rays.specs.Given.{rayDoubles, rayWholes, rayRoom}
 
 -- origin, direction, wavelength, power
 unfoldable pub valuesRow : GivenRay → List Float
@@ -40,19 +41,15 @@ laid n v m = record { count = n; rayValues = v; rayTags = m }
 
 -- whether there is room for ray n in lists of these lengths
 unfoldable pub hasRoomOf : ℕ → ℕ → ℕ → Bool
-hasRoomOf n nv nm = ltb n 4097 && (leb 32776 nv && leb 40970 nm)
+hasRoomOf n nv nt = ltb n rayRoom && (leb (rayRoom * rayDoubles) nv && leb (rayRoom * rayWholes) nt)
 
 -- a ray more, while there is room: its numbers stored one after the other, behind those of the rays before it
 unfoldable pub putRayOf : GivenRay → Laid → Laid
 putRayOf r s =
     cond (hasRoomOf (s .count) (length (s .rayValues)) (length (s .rayTags)))
-    (laid (s .count + 1) (sets (s .rayValues) (s .count * 8) (valuesRow r)) (sets (s .rayTags) (s .count * 10) (tagsRow r)))
+    (laid (s .count + 1) (sets (s .rayValues) (s .count * rayDoubles) (valuesRow r)) (sets (s .rayTags) (s .count * rayWholes) (tagsRow r)))
     s
 
 unfoldable pub flattenOf : List GivenRay → Laid → Laid
 flattenOf [] s = s
 flattenOf (r ∷ rs) s = flattenOf rs (putRayOf r s)
-
--- the first n numbers of a list, or all
-unfoldable pub frontOf : {A : Type 0} → ℕ → List A → List A
-frontOf n l = cond (leb n (length l)) (take n l) l

@@ -9,12 +9,13 @@ use Rattle.material.specs.Media.{numberedMediumOf}
 use Rattle.detectors.specs.declared.Detectors.{Detectors}
 use Rattle.memory.specs.Memory.{Memory, Outcome, done, refused, memoryLeft}
 use Rattle.step.specs.declared.NonSeqTraceConfig.{NonSeqTraceConfig}
-use Rattle.report.specs.Report.{startReportOf, #0}
+use Rattle.report.specs.Report.{startReportOf}
 use Rattle.trace.specs.declared.Traced.{Traced}
 use Rattle.trace.specs.Trace.{lentBatch, Trace, traceRaysOf}
 use Rattle.host_numbers.specs.Numbers.{checkedOf}
 use Rattle.host_tracing.specs.declared.answers.HostConfig.{HostConfig}
 use Rattle.host_tracing.specs.declared.answers.HostTraced.{HostTraced}
+use Rattle.doubles.specs.Doubles.{#0}
 
 -- the rules that a host's numbers mean
 unfoldable pub traceConfigOf : HostConfig → NonSeqTraceConfig

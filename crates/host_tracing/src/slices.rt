@@ -4,6 +4,11 @@ use crate::HostConfig;
 use crate::HostTraced;
 use crate::tracing::nonseq_trace_rays;
 use detectors::Detectors;
+use given_rays::RAY_DOUBLES;
+use given_rays::RAY_ROOM;
+use given_rays::RAY_ROOM_DOUBLES;
+use given_rays::RAY_ROOM_WHOLES;
+use given_rays::RAY_WHOLES;
 use rays::Vec3;
 use scene::SolidNo;
 ghost use mathlib.Core.Path.{_≡_};
@@ -12,7 +17,9 @@ ghost use lib.ListN.{length};
 ghost use lib.Seq.{sets};
 ghost use Rattle.memory.specs.Memory.{lentMemory};
 ghost use Rattle.host_tracing.specs.Tracing.{left, hostTraceRaysOf};
-ghost use Rattle.host_tracing.specs.Flat.{valuesRow, tagsRow, hasRoomOf, laid, putRayOf, flattenOf, flatValues, flatTags, frontOf};
+ghost use Rattle.host_tracing.specs.Flat.{valuesRow, tagsRow, hasRoomOf, laid, putRayOf, flattenOf, flatValues, flatTags};
+ghost use Rattle.given_rays.specs.Given.{rayDoubles, rayWholes};
+ghost use Rattle.fields.specs.Split.{frontOf};
 
 // A ray as a host gives it: `media_count` of the eight media count.
 #[repr(C)]
@@ -30,16 +37,16 @@ pub struct GivenRay {
 fn has_room(n: u32, ray_values: usize, ray_tags: usize) -> bool
     ensures { λ r. ⌜ r ≡ hasRoomOf n «ray_values» «ray_tags» ⌝ }
 {
-    if n < 4097 {
-        if 32776 <= ray_values {
-            return 40970 <= ray_tags;
+    if n < RAY_ROOM {
+        if RAY_ROOM_DOUBLES <= ray_values {
+            return RAY_ROOM_WHOLES <= ray_tags;
         }
     }
     false
 }
 
 fn put_ray_values(ray: GivenRay, at: usize, ray_values: &mut [f64])
-    requires { ⌜ at + 8 ≤ length (now «ray_values») ⌝ }
+    requires { ⌜ at + rayDoubles ≤ length (now «ray_values») ⌝ }
     ensures { λ _. ⌜ now («ray_values» .exit) ≡ sets (now («ray_values» .entry)) at (valuesRow ray) ⌝ }
 {
     let origin = ray.origin;
@@ -55,7 +62,7 @@ fn put_ray_values(ray: GivenRay, at: usize, ray_values: &mut [f64])
 }
 
 fn put_ray_tags(ray: GivenRay, at: usize, ray_tags: &mut [u32])
-    requires { ⌜ at + 10 ≤ length (now «ray_tags») ⌝ }
+    requires { ⌜ at + rayWholes ≤ length (now «ray_tags») ⌝ }
     ensures { λ _. ⌜ now («ray_tags» .exit) ≡ sets (now («ray_tags» .entry)) at (tagsRow ray) ⌝ }
 {
     let media = ray.media;
@@ -76,8 +83,8 @@ fn put_ray(ray: GivenRay, n: u32, ray_values: &mut [f64], ray_tags: &mut [u32]) 
     ensures { λ r. ⌜ laid r (now («ray_values» .exit)) (now («ray_tags» .exit)) ≡ putRayOf ray (laid n (now («ray_values» .entry)) (now («ray_tags» .entry))) ⌝ }
 {
     if has_room(n, ray_values.len(), ray_tags.len()) {
-        put_ray_values(ray, n as usize * 8, ray_values);
-        put_ray_tags(ray, n as usize * 10, ray_tags);
+        put_ray_values(ray, n as usize * RAY_DOUBLES, ray_values);
+        put_ray_tags(ray, n as usize * RAY_WHOLES, ray_tags);
         return n + 1;
     }
     n
@@ -133,11 +140,11 @@ fn trace_flat(
     used: usize,
 ) -> HostTraced
     ensures { λ r. ⌜ left r (now (flux .exit)) (now (hits .exit)) (now («hit_values» .exit)) (now («hit_tags» .exit))
-        ≡ hostTraceRaysOf config (now («solid_values» .entry)) (now («solid_tags» .entry)) count (frontOf (given * 8) (now («ray_values» .entry))) (frontOf (given * 10) (now («ray_tags» .entry))) given
+        ≡ hostTraceRaysOf config (now («solid_values» .entry)) (now («solid_tags» .entry)) count (frontOf (given * rayDoubles) (now («ray_values» .entry))) (frontOf (given * rayWholes) (now («ray_tags» .entry))) given
         (lentMemory detectors (now (flux .entry)) (now (hits .entry)) (now («hit_values» .entry)) (now («hit_tags» .entry)) used) ⌝ }
 {
-    let a = given as usize * 8;
-    let b = given as usize * 10;
+    let a = given as usize * RAY_DOUBLES;
+    let b = given as usize * RAY_WHOLES;
     nonseq_trace_rays(
         config,
         solid_values,
@@ -175,8 +182,8 @@ pub extern "C" fn nonseq_trace_given_rays(
         ≡ hostTraceRaysOf config (now («solid_values» .entry)) (now («solid_tags» .entry)) count (flatValues (now (rays .entry))) (flatTags (now (rays .entry))) (length (now (rays .entry)))
         (lentMemory detectors (now (flux .entry)) (now (hits .entry)) (now («hit_values» .entry)) (now («hit_tags» .entry)) used) ⌝ }
 {
-    let mut ray_values = [0.0; 32776];
-    let mut ray_tags = [0u32; 40970];
+    let mut ray_values = [0.0; RAY_ROOM_DOUBLES];
+    let mut ray_tags = [0u32; RAY_ROOM_WHOLES];
     let given = flatten(rays, &mut ray_values, &mut ray_tags);
     trace_flat(
         config,

@@ -1,17 +1,24 @@
 -- A scene text and its answer.
-use Prim.Native.Nat.{ℕ}
+use Prim.Native.Nat.{ℕ, _*_}
 use mathlib.Core.List.{List}
 use lib.Ieee.{Float}
 use lib.ListN.{replicate}
 use Rattle.error.specs.Refusals.{Checked, passed, refusedAt}
-use Rattle.filter.specs.Filters.{#0}
 use Rattle.answer_text.specs.Answer.{refusalText}
 use Rattle.scene_text.specs.Scene.{Slices, slices, Answer, readSceneOf}
-use Rattle.map_text.specs.Tables.{tables, tablesText}
+use Rattle.map_text.specs.Tables.{tables, tablesText, runDoubles, runWholes, detectorDoubles, detectorWholes, solidRoom}
+use Rattle.scene.specs.Solids.{solidDoubles, solidWholes}
+use Rattle.given_rays.specs.Given.{rayDoubles, rayWholes, rayRoom}
+use Rattle.detectors.specs.Detectors.{maxDetectors}
+use Rattle.doubles.specs.Doubles.{#0}
 
--- room for one solid, detector and ray more than the limits 32, 8 and 4,096, but for the detectors, which are counted
+-- room for one solid and one ray more than the most, so that 3 comes in its order, and for all detectors, which are counted
 unfoldable pub room : Slices
-room = slices (replicate 7 #0) (replicate 3 0) (replicate 1386 #0) (replicate 132 0) (replicate 88 #0) (replicate 16 0) (replicate 32776 #0) (replicate 40970 0)
+room =
+    slices (replicate runDoubles #0) (replicate runWholes 0)
+    (replicate (solidRoom * solidDoubles) #0) (replicate (solidRoom * solidWholes) 0)
+    (replicate (maxDetectors * detectorDoubles) #0) (replicate (maxDetectors * detectorWholes) 0)
+    (replicate (rayRoom * rayDoubles) #0) (replicate (rayRoom * rayWholes) 0)
 
 abbrev pub readText : Checked Unit → Answer → List ℕ
 readText (passed u) a =

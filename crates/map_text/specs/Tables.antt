@@ -10,13 +10,35 @@ use Rattle.material.specs.Media.{numberedMediumOf}
 use Rattle.detector.specs.declared.Detector2D.{Detector2D}
 use Rattle.detectors.specs.declared.Detectors.{Detectors}
 use Rattle.detectors.specs.Detectors.{allPixelsOf}
-use Rattle.memory.specs.Memory.{Memory, lentMemory, Outcome, done, refused}
+use Rattle.memory.specs.Memory.{Memory, lentMemory, Outcome, done, refused, textPixels, textHits, hitDoubles, hitWholes}
 use Rattle.filter.specs.declared.RayPathFilter.{RayPathFilter}
-use Rattle.filter.specs.Filters.{numberedFilterOf, #0}
+use Rattle.filter.specs.Filters.{numberedFilterOf}
 use Rattle.step.specs.declared.NonSeqTraceConfig.{NonSeqTraceConfig}
 use Rattle.report.specs.declared.NonSeqTraceReport.{NonSeqTraceReport}
 use Rattle.trace.specs.Trace.{Batch, lentBatch, Trace, traceRaysOf}
-use Rattle.answer_text.specs.Answer.{held, answerText, refusalText, fewOf, maxPixels}
+use Rattle.answer_text.specs.Answer.{held, answerText, refusalText, fewOf}
+use Rattle.scene.specs.Solids.{solidDoubles, solidWholes, maxSolids}
+use Rattle.given_rays.specs.Given.{rayDoubles, rayWholes, rayRoom}
+use Rattle.scene_text.specs.Cells.{noFilter}
+use Rattle.doubles.specs.Doubles.{#0}
+use Rattle.fields.specs.Split.{frontOf}
+
+-- doubles and whole numbers of the run and of a detector
+abbrev pub runDoubles : ℕ
+runDoubles = 7
+
+abbrev pub runWholes : ℕ
+runWholes = 3
+
+abbrev pub detectorDoubles : ℕ
+detectorDoubles = 11
+
+abbrev pub detectorWholes : ℕ
+detectorWholes = 2
+
+-- room for one solid more than the most, so that 3 comes in its order
+abbrev pub solidRoom : ℕ
+solidRoom = maxSolids + 1
 
 -- The numbers of a scene text, block by block: the run's, those of the solids, detectors and rays, and how many lines each of these blocks has
 pub record Tables : Type 0 where
@@ -53,23 +75,23 @@ configOf v w =
       «ambient_medium» = numberedMediumOf (wholeOf w 2) (valueOf v 1) (valueOf v 2) (valueOf v 3) (valueOf v 4) (valueOf v 5) (valueOf v 6);
     }
 
--- `-`, kept as 5, means All
+-- `-` means All
 unfoldable pub meantOf : ℕ → RayPathFilter
-meantOf n = numberedFilterOf (cond (eqb n 5) 0 n)
+meantOf n = numberedFilterOf (cond (eqb n noFilter) 0 n)
 
 -- ---- the detectors, which have caught nothing
 
 unfoldable pub detectorOf : List Float → List ℕ → ℕ → Detector2D
 detectorOf v w i =
-    let j = i * 11 in
+    let j = i * detectorDoubles in
     record {
       center = vec3 (valueOf v j) (valueOf v (j + 1)) (valueOf v (j + 2));
       normal = vec3 (valueOf v (j + 3)) (valueOf v (j + 4)) (valueOf v (j + 5));
       up = vec3 (valueOf v (j + 6)) (valueOf v (j + 7)) (valueOf v (j + 8));
       «width_mm» = valueOf v (j + 9);
       «height_mm» = valueOf v (j + 10);
-      «res_x» = wholeOf w (i * 2);
-      «res_y» = wholeOf w (i * 2 + 1);
+      «res_x» = wholeOf w (i * detectorWholes);
+      «res_y» = wholeOf w (i * detectorWholes + 1);
       «total_flux_watts» = #0;
       «total_rays_hit» = 0;
     }
@@ -85,21 +107,17 @@ detectorsOf v w n =
 unfoldable pub atMostOf : ℕ → ℕ → ℕ
 atMostOf most n = cond (leb n most) n most
 
--- the first n numbers of a list, or all
-unfoldable pub frontOf : {A : Type 0} → ℕ → List A → List A
-frontOf n l = cond (leb n (length l)) (take n l) l
-
 unfoldable pub batchIn : Tables → Batch
 batchIn t =
-    let n = atMostOf 33 (t .solids) in
-    let k = atMostOf 4097 (t .rays) in
-    lentBatch (configOf (t .runValues) (t .runTags)) (frontOf (n * 42) (t .solidValues)) (frontOf (n * 4) (t .solidTags)) n (frontOf (k * 8) (t .rayValues)) (frontOf (k * 10) (t .rayTags)) k
+    let n = atMostOf solidRoom (t .solids) in
+    let k = atMostOf rayRoom (t .rays) in
+    lentBatch (configOf (t .runValues) (t .runTags)) (frontOf (n * solidDoubles) (t .solidValues)) (frontOf (n * solidWholes) (t .solidTags)) n (frontOf (k * rayDoubles) (t .rayValues)) (frontOf (k * rayWholes) (t .rayTags)) k
 
 -- room for 1,024 hits
 unfoldable pub memoryIn : Detectors → Memory
 memoryIn ds =
     let p = fewOf (allPixelsOf ds) in
-    lentMemory ds (take p (replicate maxPixels #0)) (take p (replicate maxPixels 0)) (replicate 4096 #0) (replicate 4096 0) 0
+    lentMemory ds (take p (replicate textPixels #0)) (take p (replicate textPixels 0)) (replicate (textHits * hitDoubles) #0) (replicate (textHits * hitWholes) 0) 0
 
 -- ---- the answer
 

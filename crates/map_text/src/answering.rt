@@ -1,21 +1,33 @@
 // From a scene text to its answer (document 01, `straymap`).
+use crate::parts::RUN_DOUBLES;
+use crate::parts::RUN_WHOLES;
 use error::Check;
+use given_rays::RAY_ROOM_DOUBLES;
+use given_rays::RAY_ROOM_WHOLES;
 ghost use mathlib.Core.Path.{_≡_};
 ghost use Rattle.printing.specs.Printing.{out, putAll};
 ghost use Rattle.map_text.specs.StrayMap.{strayMapText};
+
+const SOLID_ROOM_DOUBLES: usize = crate::parts::SOLID_ROOM as usize * scene::SOLID_DOUBLES;
+
+const SOLID_ROOM_WHOLES: usize = crate::parts::SOLID_ROOM as usize * scene::SOLID_WHOLES;
+
+const DETECTORS_DOUBLES: usize = detectors::DETECTOR_PLACES * crate::parts::DETECTOR_DOUBLES;
+
+const DETECTORS_WHOLES: usize = detectors::DETECTOR_PLACES * crate::parts::DETECTOR_WHOLES;
 
 // The answer to a text, or its refusal, written from place `at` on; what has no place is dropped.
 pub fn put_stray_map(buf: &mut [u8], at: usize, text: &[u8]) -> usize
     ensures { λ r. ⌜ out (now (buf .exit)) r ≡ putAll (now (buf .entry)) at (strayMapText (now (text .entry))) ⌝ }
 {
-    let mut run_values = [0.0f64; 7];
-    let mut run_tags = [0u32; 3];
-    let mut solid_values = [0.0f64; 1386];
-    let mut solid_tags = [0u32; 132];
-    let mut detector_values = [0.0f64; 88];
-    let mut detector_tags = [0u32; 16];
-    let mut ray_values = [0.0f64; 32776];
-    let mut ray_tags = [0u32; 40970];
+    let mut run_values = [0.0f64; RUN_DOUBLES];
+    let mut run_tags = [0u32; RUN_WHOLES];
+    let mut solid_values = [0.0f64; SOLID_ROOM_DOUBLES];
+    let mut solid_tags = [0u32; SOLID_ROOM_WHOLES];
+    let mut detector_values = [0.0f64; DETECTORS_DOUBLES];
+    let mut detector_tags = [0u32; DETECTORS_WHOLES];
+    let mut ray_values = [0.0f64; RAY_ROOM_DOUBLES];
+    let mut ray_tags = [0u32; RAY_ROOM_WHOLES];
     let r = scene_text::read_scene(
         text,
         &mut run_values,

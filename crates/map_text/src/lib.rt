@@ -6,3 +6,6 @@ mod parts;
 
 pub use answering::put_stray_map;
 pub use mapping::put_map;
+
+// Room for every answer: no text has a longer one (crates/theorems_room).
+pub const MAX_ANSWER: usize = 131072;

@@ -3,12 +3,23 @@ use crate::parts;
 use detectors::Detectors;
 use error::Check;
 use filter::RayPathFilter;
+use given_rays::RAY_DOUBLES;
+use given_rays::RAY_ROOM;
+use given_rays::RAY_WHOLES;
+use memory::TEXT_PIXELS;
+use scene::SOLID_DOUBLES;
+use scene::SOLID_WHOLES;
 use step::NonSeqTraceConfig;
 ghost use mathlib.Core.Path.{_≡_};
 ghost use Rattle.memory.specs.Memory.{lentMemory};
 ghost use Rattle.trace.specs.Trace.{lentBatch, traceRaysOf};
 ghost use Rattle.printing.specs.Printing.{out, putAll};
-ghost use Rattle.map_text.specs.Tables.{frontOf, tables, traceText, tablesText};
+ghost use Rattle.map_text.specs.Tables.{tables, traceText, tablesText};
+ghost use Rattle.fields.specs.Split.{frontOf};
+
+const HIT_ROOM_DOUBLES: usize = memory::TEXT_HITS * memory::HIT_DOUBLES;
+
+const HIT_ROOM_WHOLES: usize = memory::TEXT_HITS * memory::HIT_WHOLES;
 
 // The first n numbers, or all.
 fn front(l: &[f64], n: usize) -> &[f64]
@@ -110,22 +121,22 @@ pub fn put_map(
         (tablesText (tables (now («run_values» .entry)) (now («run_tags» .entry)) (now («solid_values» .entry)) (now («solid_tags» .entry)) solids (now («detector_values» .entry)) (now («detector_tags» .entry)) detectors (now («ray_values» .entry)) (now («ray_tags» .entry)) given)) ⌝ }
 {
     let ds = parts::detectors(detector_values, detector_tags, detectors);
-    let n = parts::at_most(33, solids);
-    let k = parts::at_most(4097, given);
+    let n = parts::at_most(parts::SOLID_ROOM, solids);
+    let k = parts::at_most(RAY_ROOM, given);
     let p = answer_text::few(ds.all_pixels());
-    let mut flux = [0.0f64; 4096];
-    let mut hits = [0u32; 4096];
-    let mut hit_values = [0.0f64; 4096];
-    let mut hit_tags = [0u32; 4096];
+    let mut flux = [0.0f64; TEXT_PIXELS];
+    let mut hits = [0u32; TEXT_PIXELS];
+    let mut hit_values = [0.0f64; HIT_ROOM_DOUBLES];
+    let mut hit_tags = [0u32; HIT_ROOM_WHOLES];
     put_traced(
         buf,
         at,
         parts::config(run_values, run_tags),
-        front(solid_values, n as usize * 42),
-        front_wholes(solid_tags, n as usize * 4),
+        front(solid_values, n as usize * SOLID_DOUBLES),
+        front_wholes(solid_tags, n as usize * SOLID_WHOLES),
         n,
-        front(ray_values, k as usize * 8),
-        front_wholes(ray_tags, k as usize * 10),
+        front(ray_values, k as usize * RAY_DOUBLES),
+        front_wholes(ray_tags, k as usize * RAY_WHOLES),
         k,
         ds,
         parts::meant(parts::whole(run_tags, 1)),

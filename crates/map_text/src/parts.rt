@@ -4,11 +4,25 @@ use detectors::Detectors;
 use filter::RayPathFilter;
 use material::OpticalMedium;
 use rays::Vec3;
+use scene::MAX_SOLIDS;
+use scene_text::NO_FILTER;
 use step::NonSeqTraceConfig;
 ghost use mathlib.Core.Path.{_≡_};
 ghost use Prim.Native.Nat.{_≤_};
 ghost use Rattle.rays.specs.Vectors.{vec3};
 ghost use Rattle.map_text.specs.Tables.{valueOf, wholeOf, configOf, meantOf, detectorOf, detectorsOf, atMostOf};
+
+// Doubles and whole numbers of the run and of each detector in their lists.
+pub const RUN_DOUBLES: usize = 7;
+
+pub const RUN_WHOLES: usize = 3;
+
+pub const DETECTOR_DOUBLES: usize = 11;
+
+pub const DETECTOR_WHOLES: usize = 2;
+
+// Room for one solid more than the most, so that 3 comes in its order.
+pub const SOLID_ROOM: u32 = MAX_SOLIDS + 1;
 
 // The double at a place; NaN past the end.
 fn value(l: &[f64], i: usize) -> f64
@@ -49,11 +63,11 @@ pub(crate) fn config(run_values: &[f64], run_tags: &[u32]) -> NonSeqTraceConfig
     }
 }
 
-// The filter of a number; `-`, kept as 5, means All.
+// The filter of a number; `-` means All.
 pub(crate) fn meant(number: u32) -> RayPathFilter
     ensures { λ r. ⌜ r ≡ meantOf number ⌝ }
 {
-    if number == 5 {
+    if number == NO_FILTER {
         return RayPathFilter::numbered(0);
     }
     RayPathFilter::numbered(number)
@@ -83,8 +97,8 @@ fn vector(l: &[f64], i: usize, j: usize, k: usize) -> Vec3
 fn detector(detector_values: &[f64], detector_tags: &[u32], i: u32) -> Detector2D
     ensures { λ r. ⌜ r ≡ detectorOf (now («detector_values» .entry)) (now («detector_tags» .entry)) i ⌝ }
 {
-    let j = i as usize * 11;
-    let k = i as usize * 2;
+    let j = i as usize * DETECTOR_DOUBLES;
+    let k = i as usize * DETECTOR_WHOLES;
     Detector2D {
         center: vector(detector_values, j, j + 1, j + 2),
         normal: vector(detector_values, j + 3, j + 4, j + 5),

@@ -3,7 +3,7 @@ use Prim.Native.Nat.{ℕ}
 use lib.Dec.{eqb}
 use lib.Ieee.{Float, binary64, add, sub, mul, div, lt, le, ofBits}
 use mathlib.Core.Bool.{cond}
-use Rattle.doubles.specs.Doubles.{isFiniteOf}
+use Rattle.doubles.specs.Doubles.{isFiniteOf, #0, #1}
 use Rattle.doubles.specs.Root.{sqrtOf}
 use Rattle.error.specs.Refusals.{numberOf, Answer, value, refusal}
 use Rattle.material.specs.declared.OpticalMedium.{OpticalMedium}
@@ -12,12 +12,6 @@ use Rattle.material.specs.declared.SurfaceFinish.{SurfaceFinish}
 use Rattle.material.specs.declared.SurfaceFinish.the-variants.{Specular, Mirror, Absorber}
 use Rattle.material.specs.declared.RefractiveIndex.{RefractiveIndex}
 use Rattle.material.specs.declared.RefractiveIndex.the-variants.{Index, Refused}
-
-abbrev #0 : Float
-#0 = ofBits binary64 0
-
-abbrev #1 : Float
-#1 = ofBits binary64 0x3ff0000000000000
 
 -- finishes 0 to 2 in document 01's order; rho is the mirror's reflectance
 abbrev pub lastFinish : ℕ

@@ -3,11 +3,14 @@
 use scene::SolidNo;
 ghost use mathlib.Core.Path.{_≡_};
 ghost use Prim.Native.Nat.{_-_, _≤_, _<_};
-ghost use Rattle.media.specs.Media.{newestOf, enteredOf, lastPlaceOf, moveDownOf, leftOf, asMedium, asPlace};
+ghost use Rattle.media.specs.Media.{newestOf, enteredOf, lastPlaceOf, moveDownOf, leftOf, asMedium, asPlace, maxMedia};
+
+// Places for the media of a ray.
+pub const MEDIA_PLACES: usize = 24;
 
 // The first `depth` of the places are used.
 pub struct Media {
-    pub list: [SolidNo; 24],
+    pub list: [SolidNo; MEDIA_PLACES],
     pub depth: u32,
 }
 
@@ -22,8 +25,8 @@ pub enum Place {
 }
 
 // The last of the first `depth` places that holds a solid.
-fn last_place(list: [SolidNo; 24], depth: usize, solid: SolidNo) -> Place
-    requires { ⌜ depth ≤ 24 ⌝ }
+fn last_place(list: [SolidNo; MEDIA_PLACES], depth: usize, solid: SolidNo) -> Place
+    requires { ⌜ depth ≤ maxMedia ⌝ }
     ensures { λ r. ⌜ asPlace r ≡ lastPlaceOf list depth solid ⌝ }
 {
     let mut i = depth;
@@ -39,8 +42,8 @@ fn last_place(list: [SolidNo; 24], depth: usize, solid: SolidNo) -> Place
 }
 
 // The places from `at` to `end`, each with what stood in the next.
-fn move_down(list: [SolidNo; 24], at: usize, end: usize) -> [SolidNo; 24]
-    requires { ⌜ end < 24 ⌝ }
+fn move_down(list: [SolidNo; MEDIA_PLACES], at: usize, end: usize) -> [SolidNo; MEDIA_PLACES]
+    requires { ⌜ end < maxMedia ⌝ }
     ensures { λ r. ⌜ r ≡ moveDownOf (end - at) at list ⌝ }
 {
     let mut r = list;
@@ -55,7 +58,7 @@ fn move_down(list: [SolidNo; 24], at: usize, end: usize) -> [SolidNo; 24]
 
 impl Media {
     // The most places.
-    pub const MAX: u32 = 24;
+    pub const MAX: u32 = MEDIA_PLACES as u32;
 
     pub fn newest(self) -> Newest
         ensures { λ r. ⌜ asMedium r ≡ newestOf self ⌝ }

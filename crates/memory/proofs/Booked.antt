@@ -11,13 +11,13 @@ use lib.ListN.{length}
 use borrow.Author.Tests.{lt-ltb, eq-eqb, eqb-true}
 use Rattle.error.specs.Refusals.{Checked, passed, refusedAt}
 use Rattle.detector.specs.declared.Detector2D.{Detector2D}
-use Rattle.detector.specs.Pixels.{pixelsOf, pixelAtOf}
+use Rattle.detector.specs.Pixels.{pixelsOf, pixelAtOf, maxCount}
 use Rattle.detector.proofs.Grid.{Gridded, pixel-in}
 use Rattle.detectors.specs.declared.Detectors.{Detectors}
 use Rattle.detectors.specs.declared.Placed.{Placed}
 use Rattle.detector.specs.declared.DetectorHit.{DetectorHit}
 use Rattle.detectors.specs.Detectors.{detectorAt, firstPixelOf, allPixelsOf, placedOf, findOf}
-use Rattle.memory.specs.Memory.{Memory, done, refused, memoryLeft, listed, hitsFrom, cellOf, cellIn, inMapsOf, hasPixel, judged, capacity, maxCount, raised, putOf, recordOf, isHitListOf, areLengthsOf, isMemory, unless, recordHitClassifiedOf, writtenAt}
+use Rattle.memory.specs.Memory.{Memory, done, refused, memoryLeft, listed, hitsFrom, cellOf, cellIn, inMapsOf, hasPixel, judged, capacity, raised, putOf, recordOf, isHitListOf, areLengthsOf, isMemory, unless, recordHitClassifiedOf, writtenAt}
 use Rattle.memory.specs.Plain.{Empty, added, viewIn, plusAll, bookHit, sharing, numberIn}
 use Rattle.detectors.proofs.Passed.{Sound, asked-there, part-in}
 use Rattle.memory.proofs.Records.{both}

@@ -17,11 +17,12 @@ use Rattle.detector.specs.declared.DetectorHit.{DetectorHit}
 use Rattle.error.specs.Refusals.{Checked, passed, refusedAt}
 use Rattle.detectors.specs.declared.Placed.{Placed}
 use Rattle.detectors.specs.Detectors.{noDetector, detectorAt, findOf}
-use Rattle.memory.specs.Memory.{Memory, Outcome, done, refused, raised, writtenAt, judged, putOf, recordOf, cellIn, capacity, hasPixel, maxCount, hitDetector, listed, hitsFrom, memoryLeft, unless, isMemory, recordHitClassifiedOf}
+use Rattle.memory.specs.Memory.{Memory, Outcome, done, refused, raised, writtenAt, judged, putOf, recordOf, cellIn, capacity, hasPixel, hitDetector, listed, hitsFrom, memoryLeft, unless, isMemory, recordHitClassifiedOf}
 use Rattle.memory.specs.Plain.{sharing, numberIn, bookHit, added, Empty}
 use Rattle.memory.proofs.Records.{both, told-lengths}
 use Rattle.memory.proofs.Keeps.{written-cell, written-hits, written-list, added-cell, added-holds, added-capacity}
 use Rattle.memory.proofs.Listed.{listed-added}
+use Rattle.detector.specs.Pixels.{maxCount}
 
 -- ---- one more at the end
 

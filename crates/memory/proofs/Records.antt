@@ -22,7 +22,8 @@ use Rattle.detectors.specs.declared.Spot.the-variants.{Nowhere}
 use Rattle.detectors.specs.Detectors.{placedOf, atOf, asSpot, findOf, asFound}
 use Rattle.detectors.proofs.Lists.{there, nowhere}
 use Rattle.memory.specs.declared.recording.Recorded.{Recorded}
-use Rattle.memory.specs.Memory.{asRecorded, refusedOf, Memory, Outcome, done, refused, lentMemory, capacity, hitDetector, raised, four, writtenAt, maxCount, judged, putOf, cellOf, cellIn, inMapsOf, hasPixel, recordOf, areLengthsOf, isMemory, recordHitClassifiedOf}
+use Rattle.memory.specs.Memory.{asRecorded, refusedOf, Memory, Outcome, done, refused, lentMemory, capacity, hitDetector, raised, four, writtenAt, judged, putOf, cellOf, cellIn, inMapsOf, hasPixel, recordOf, areLengthsOf, isMemory, recordHitClassifiedOf}
+use Rattle.detector.specs.Pixels.{maxCount}
 
 module _ (s : Memory) (p : ℕ) (h : DetectorHit) where
   pub put-full : length (s .hitValues) / 4 ≤ s .used → (r : Recorded) → r ≡ refusedOf HitListFull (s .detectors) (s .used) → asRecorded r (s .flux) (s .hits) (s .hitValues) (s .hitTags) ≡ putOf s p h

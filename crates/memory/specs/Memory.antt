@@ -10,7 +10,7 @@ use Rattle.error.specs.declared.Check.the-variants.{Passed, Refused}
 use Rattle.error.specs.declared.NonSeqError.{NonSeqError}
 use Rattle.error.specs.Refusals.{numberOf, Checked, passed, refusedAt}
 use Rattle.detector.specs.declared.Detector2D.{Detector2D}
-use Rattle.detector.specs.Pixels.{pixelAtOf}
+use Rattle.detector.specs.Pixels.{pixelAtOf, maxCount}
 use Rattle.detectors.specs.declared.Detectors.{Detectors}
 use Rattle.detectors.specs.declared.Placed.{Placed}
 use Rattle.detectors.specs.Detectors.{maxDetectors, detectorAt, allPixelsOf, placedOf, findOf}
@@ -40,17 +40,24 @@ memoryLeft (refused n place m) = m
 
 -- ---- the hit list: x, y, flux, wavelength, and detector, bounce, reflections, total reflections
 
+-- doubles and whole numbers of a hit
+abbrev pub hitDoubles : ℕ
+hitDoubles = 4
+
+abbrev pub hitWholes : ℕ
+hitWholes = 4
+
 abbrev pub readHitOf : List Float → List ℕ → ℕ → DetectorHit
 readHitOf v t i =
     record {
-      «local_x» = getD v (4 * i) nan;
-      «local_y» = getD v (4 * i + 1) nan;
-      «flux_watts» = getD v (4 * i + 2) nan;
-      «wavelength_nm» = getD v (4 * i + 3) nan;
-      detector = record { 0 = getD t (4 * i) 0 };
-      «bounce_count» = getD t (4 * i + 1) 0;
-      «reflection_count» = getD t (4 * i + 2) 0;
-      «tir_count» = getD t (4 * i + 3) 0;
+      «local_x» = getD v (hitDoubles * i) nan;
+      «local_y» = getD v (hitDoubles * i + 1) nan;
+      «flux_watts» = getD v (hitDoubles * i + 2) nan;
+      «wavelength_nm» = getD v (hitDoubles * i + 3) nan;
+      detector = record { 0 = getD t (hitWholes * i) 0 };
+      «bounce_count» = getD t (hitWholes * i + 1) 0;
+      «reflection_count» = getD t (hitWholes * i + 2) 0;
+      «tir_count» = getD t (hitWholes * i + 3) 0;
     }
 
 -- what stands for a hit that the slices do not hold
@@ -69,7 +76,7 @@ noHitOf =
 
 -- hit i of the list
 unfoldable pub hitAtOf : List Float → List ℕ → ℕ → DetectorHit
-hitAtOf v t i = cond (ltb i (length v / 4) && ltb i (length t / 4)) (readHitOf v t i) noHitOf
+hitAtOf v t i = cond (ltb i (length v / hitDoubles) && ltb i (length t / hitWholes)) (readHitOf v t i) noHitOf
 
 -- the n hits from place i on
 unfoldable pub hitsFrom : List Float → List ℕ → ℕ → ℕ → List DetectorHit
@@ -80,11 +87,18 @@ abbrev pub listed : Memory → List DetectorHit
 listed s = hitsFrom (s .hitValues) (s .hitTags) (s .used) 0
 
 unfoldable pub capacity : Memory → ℕ
-capacity s = length (s .hitValues) / 4
+capacity s = length (s .hitValues) / hitDoubles
 
 -- four values stored from a place on
 unfoldable pub four : (A : Type 0) → List A → ℕ → A → A → A → A → List A
 four A l i a b c d = set (set (set (set l i a) (i + 1) b) (i + 2) c) (i + 3) d
+
+-- pixels and hits of the memory that a scene text is traced into
+abbrev pub textPixels : ℕ
+textPixels = 4096
+
+abbrev pub textHits : ℕ
+textHits = 1024
 
 -- ---- recording
 
@@ -116,18 +130,14 @@ raised d f =
 -- the hit added to its pixel, at place p, and to its detector, and written behind the list
 unfoldable pub writtenAt : Memory → ℕ → DetectorHit → Memory
 writtenAt s p h =
-    let i = 4 * s .used in
     record {
       detectors = record { list = set (s .detectors .list) (h .detector .0) (raised (hitDetector s h) (h .«flux_watts»)); count = s .detectors .count };
       flux = set (s .flux) p (add binary64 (getD (s .flux) p nan) (h .«flux_watts»));
       hits = set (s .hits) p (getD (s .hits) p 0 + 1);
-      hitValues = four Float (s .hitValues) i (h .«local_x») (h .«local_y») (h .«flux_watts») (h .«wavelength_nm»);
-      hitTags = four ℕ (s .hitTags) i (h .detector .0) (h .«bounce_count») (h .«reflection_count») (h .«tir_count»);
+      hitValues = four Float (s .hitValues) (hitDoubles * s .used) (h .«local_x») (h .«local_y») (h .«flux_watts») (h .«wavelength_nm»);
+      hitTags = four ℕ (s .hitTags) (hitWholes * s .used) (h .detector .0) (h .«bounce_count») (h .«reflection_count») (h .«tir_count»);
       used = s .used + 1;
     }
-
-abbrev pub maxCount : ℕ
-maxCount = 4294967295
 
 -- 12 where the list is full, else 13 where a count cannot be raised, else done; the memory and the plain book share it
 unfoldable pub judged : {M : Type 0} → Bool → Bool → M → M → Outcome M
@@ -155,7 +165,7 @@ recordOf s h = cond (hasPixel s h) (putOf s (cellIn (s .detectors .list) h) h) (
 
 -- equal, a multiple of four, and no fewer than those used
 unfoldable pub isHitListOf : ℕ → ℕ → ℕ → Bool
-isHitListOf nv nt used = eqb nv nt && (eqb (nv % 4) 0 && leb used (nv / 4))
+isHitListOf nv nt used = eqb nv nt && (eqb (nv % hitDoubles) 0 && leb used (nv / hitDoubles))
 
 -- 9 unless every slice is as long as it must be
 unfoldable pub areLengthsOf : Detectors → ℕ → ℕ → ℕ → ℕ → ℕ → Bool

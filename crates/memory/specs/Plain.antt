@@ -7,10 +7,11 @@ use lib.Dec.{leb, eqb}
 use lib.Ieee.{Float, nan, binary64, ofBits, add}
 use lib.ListN.{length, getD, set, take, drop}
 use Rattle.detector.specs.declared.Detector2D.{Detector2D}
-use Rattle.detector.specs.Pixels.{pixelsOf, pixelAtOf}
+use Rattle.detector.specs.Pixels.{pixelsOf, pixelAtOf, maxCount}
 use Rattle.detector.specs.declared.DetectorHit.{DetectorHit}
-use Rattle.detectors.specs.Detectors.{detectorAt, firstPixelOf}
-use Rattle.memory.specs.Memory.{Memory, Outcome, refused, judged, cellIn, capacity, hasPixel, maxCount, writtenAt}
+use Rattle.detectors.specs.Detectors.{detectorAt, firstPixelOf, maxDetectors}
+use Rattle.memory.specs.Memory.{Memory, Outcome, refused, judged, cellIn, capacity, hasPixel, writtenAt}
+use Rattle.doubles.specs.Doubles.{#0}
 
 -- how many of the listed hits have the key x
 unfoldable pub sharing : (DetectorHit → ℕ) → ℕ → List DetectorHit → ℕ
@@ -33,16 +34,13 @@ unfoldable pub added : Memory → List DetectorHit → Memory
 added s [] = s
 added s (h ∷ b) = added (writtenAt s (cellIn (s .detectors .list) h) h) b
 
-abbrev pub #0 : Float
-#0 = ofBits binary64 0
-
 -- the empty memory: zero bits, no hits used
 pub record Empty (s : Memory) : Type 0 where
   pub used : s .used ≡ 0
   pub flux : (p : ℕ) → p < length (s .flux) → getD (s .flux) p nan ≡ #0
   pub hits : (p : ℕ) → p < length (s .hits) → getD (s .hits) p 0 ≡ 0
-  pub totals : (d : ℕ) → d < 8 → detectorAt (s .detectors .list) d .«total_flux_watts» ≡ #0
-  pub counts : (d : ℕ) → d < 8 → detectorAt (s .detectors .list) d .«total_rays_hit» ≡ 0
+  pub totals : (d : ℕ) → d < maxDetectors → detectorAt (s .detectors .list) d .«total_flux_watts» ≡ #0
+  pub counts : (d : ℕ) → d < maxDetectors → detectorAt (s .detectors .list) d .«total_rays_hit» ≡ 0
 
 -- ---- one detector's own maps, total and count
 

@@ -1,18 +1,20 @@
 // The places of a hit in the hit list.
+use crate::HIT_DOUBLES;
+use crate::HIT_WHOLES;
 use detector::DetectorHit;
 use detector::DetectorNo;
 ghost use mathlib.Core.Path.{_≡_};
 ghost use Prim.Native.Nat.{ℕ, _+_, _*_, _≤_};
 ghost use lib.Ieee.{Float};
 ghost use lib.ListN.{length};
-ghost use Rattle.memory.specs.Memory.{readHitOf, noHitOf, hitAtOf, four};
+ghost use Rattle.memory.specs.Memory.{readHitOf, noHitOf, hitAtOf, four, hitDoubles, hitWholes};
 
 // Hit i of slices that hold it.
 fn read_hit(hit_values: &[f64], hit_tags: &[u32], i: usize) -> DetectorHit
-    requires { ⌜ (4 * i + 4 ≤ length (now «hit_values»)) × (4 * i + 4 ≤ length (now «hit_tags»)) ⌝ }
+    requires { ⌜ (hitDoubles * i + hitDoubles ≤ length (now «hit_values»)) × (hitWholes * i + hitWholes ≤ length (now «hit_tags»)) ⌝ }
     ensures { λ r. ⌜ r ≡ readHitOf (now («hit_values» .entry)) (now («hit_tags» .entry)) i ⌝ }
 {
-    let at = 4 * i;
+    let at = HIT_DOUBLES * i;
     DetectorHit {
         local_x: hit_values[at],
         local_y: hit_values[at + 1],
@@ -47,8 +49,8 @@ pub fn hit_at(hit_values: &[f64], hit_tags: &[u32], i: usize) -> DetectorHit
     ensures { λ r. ⌜ r ≡ hitAtOf (now («hit_values» .entry)) (now («hit_tags» .entry)) i ⌝ }
 {
     let none = no_hit();
-    if i < hit_values.len() / 4 {
-        if i < hit_tags.len() / 4 {
+    if i < hit_values.len() / HIT_DOUBLES {
+        if i < hit_tags.len() / HIT_WHOLES {
             return read_hit(hit_values, hit_tags, i);
         }
     }
@@ -56,7 +58,7 @@ pub fn hit_at(hit_values: &[f64], hit_tags: &[u32], i: usize) -> DetectorHit
 }
 
 pub(crate) fn put_hit_values(hit_values: &mut [f64], at: usize, h: DetectorHit)
-    requires { ⌜ at + 4 ≤ length (now «hit_values») ⌝ }
+    requires { ⌜ at + hitDoubles ≤ length (now «hit_values») ⌝ }
     ensures { λ _. ⌜ now («hit_values» .exit) ≡ four Float (now («hit_values» .entry)) at (h .«local_x») (h .«local_y») (h .«flux_watts») (h .«wavelength_nm») ⌝ }
 {
     hit_values[at] = h.local_x;
@@ -66,7 +68,7 @@ pub(crate) fn put_hit_values(hit_values: &mut [f64], at: usize, h: DetectorHit)
 }
 
 pub(crate) fn put_hit_tags(hit_tags: &mut [u32], at: usize, h: DetectorHit)
-    requires { ⌜ at + 4 ≤ length (now «hit_tags») ⌝ }
+    requires { ⌜ at + hitWholes ≤ length (now «hit_tags») ⌝ }
     ensures { λ _. ⌜ now («hit_tags» .exit) ≡ four ℕ (now («hit_tags» .entry)) at (h .detector .0) (h .«bounce_count») (h .«reflection_count») (h .«tir_count») ⌝ }
 {
     hit_tags[at] = h.detector.0;

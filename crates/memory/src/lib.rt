@@ -10,3 +10,13 @@ pub use recording::are_lengths;
 pub use recording::is_hit_list;
 pub use recording::record;
 pub use recording::record_hit_classified;
+
+// Doubles and whole numbers of each hit in the two slices of the hit list.
+pub const HIT_DOUBLES: usize = 4;
+
+pub const HIT_WHOLES: usize = 4;
+
+// Pixels and hits of the memory that a scene text is traced into.
+pub const TEXT_PIXELS: usize = 4096;
+
+pub const TEXT_HITS: usize = 1024;

@@ -1,8 +1,12 @@
 // Recording: one hit added to its pixel, to its detector and to the hit list, wholly or not at all.
+use crate::HIT_DOUBLES;
+use crate::HIT_WHOLES;
 use crate::hits::put_hit_tags;
 use crate::hits::put_hit_values;
 use detector::Detector2D;
 use detector::DetectorHit;
+use detector::MAX_COUNT;
+use detectors::DETECTOR_PLACES;
 use detectors::Detectors;
 use detectors::Found;
 use detectors::Placed;
@@ -12,8 +16,9 @@ use error::NonSeqError;
 ghost use mathlib.Core.Path.{_≡_};
 ghost use Prim.Native.Nat.{_*_, _^_, _≤_, _<_};
 ghost use lib.ListN.{length, set};
-ghost use Rattle.detectors.specs.Detectors.{detectorAt};
-ghost use Rattle.memory.specs.Memory.{lentMemory, asRecorded, refusedOf, cellOf, inMapsOf, raised, maxCount, putOf, recordOf, isHitListOf, areLengthsOf, recordHitClassifiedOf};
+ghost use Rattle.detectors.specs.Detectors.{detectorAt, maxDetectors};
+ghost use Rattle.memory.specs.Memory.{lentMemory, asRecorded, refusedOf, cellOf, inMapsOf, raised, putOf, recordOf, isHitListOf, areLengthsOf, recordHitClassifiedOf};
+ghost use Rattle.detector.specs.Pixels.{maxCount};
 
 // The refusal or none, and what goes on: the detectors' records and the number of hits used.
 pub struct Recorded {
@@ -35,7 +40,7 @@ fn refused(error: NonSeqError, detectors: Detectors, used: usize) -> Recorded
 
 // The place of a hit's pixel among the pixels of all detectors; p is the hit's detector.
 fn cell(p: Placed, h: DetectorHit) -> usize
-    requires { ⌜ p .first ≤ 8 * 2 ^ 24 ⌝ }
+    requires { ⌜ p .first ≤ maxDetectors * 2 ^ 24 ⌝ }
     ensures { λ r. ⌜ r ≡ cellOf p h ⌝ }
 {
     let d = p.detector;
@@ -55,8 +60,8 @@ fn in_maps(p: usize, flux: usize, hits: usize, hit_values: usize, hit_tags: usiz
 }
 
 // The records with a flux more caught by detector d.
-fn raise(list: [Detector2D; 8], d: usize, flux: f64) -> [Detector2D; 8]
-    requires { ⌜ (d < 8) × (detectorAt list d .«total_rays_hit» < maxCount) ⌝ }
+fn raise(list: [Detector2D; DETECTOR_PLACES], d: usize, flux: f64) -> [Detector2D; DETECTOR_PLACES]
+    requires { ⌜ (d < maxDetectors) × (detectorAt list d .«total_rays_hit» < maxCount) ⌝ }
     ensures { λ r. ⌜ r ≡ set list d (raised (detectorAt list d) flux) ⌝ }
 {
     let mut next = list;
@@ -78,26 +83,26 @@ fn put(
     h: DetectorHit,
     p: usize,
 ) -> Recorded
-    requires { ⌜ (h .detector .0 < 8) × (p < length (now flux)) × (p < length (now hits)) × (length (now «hit_values») ≡ length (now «hit_tags»)) ⌝ }
+    requires { ⌜ (h .detector .0 < maxDetectors) × (p < length (now flux)) × (p < length (now hits)) × (length (now «hit_values») ≡ length (now «hit_tags»)) ⌝ }
     ensures { λ r. ⌜ asRecorded r (now (flux .exit)) (now (hits .exit)) (now («hit_values» .exit)) (now («hit_tags» .exit))
         ≡ putOf (lentMemory detectors (now (flux .entry)) (now (hits .entry)) (now («hit_values» .entry)) (now («hit_tags» .entry)) used) p h ⌝ }
 {
     let list = detectors.list;
     let d = h.detector.0 as usize;
     let e = list[d];
-    if hit_values.len() / 4 <= used {
+    if hit_values.len() / HIT_DOUBLES <= used {
         return refused(NonSeqError::HitListFull, detectors, used);
     }
-    if hits[p] == 4294967295 {
+    if hits[p] == MAX_COUNT {
         return refused(NonSeqError::HitCountFull, detectors, used);
     }
-    if e.total_rays_hit == 4294967295 {
+    if e.total_rays_hit == MAX_COUNT {
         return refused(NonSeqError::HitCountFull, detectors, used);
     }
     flux[p] = flux[p] + h.flux_watts;
     hits[p] = hits[p] + 1;
-    put_hit_values(hit_values, 4 * used, h);
-    put_hit_tags(hit_tags, 4 * used, h);
+    put_hit_values(hit_values, HIT_DOUBLES * used, h);
+    put_hit_tags(hit_tags, HIT_WHOLES * used, h);
     let next = Detectors {
         list: raise(list, d, h.flux_watts),
         count: detectors.count,
@@ -139,8 +144,8 @@ pub fn is_hit_list(hit_values: usize, hit_tags: usize, used: usize) -> bool
     ensures { λ r. ⌜ r ≡ isHitListOf «hit_values» «hit_tags» used ⌝ }
 {
     if hit_values == hit_tags {
-        if hit_values % 4 == 0 {
-            return used <= hit_values / 4;
+        if hit_values % HIT_DOUBLES == 0 {
+            return used <= hit_values / HIT_DOUBLES;
         }
     }
     false

@@ -36,7 +36,7 @@ fn glyph(d: u64) -> u8
     ensures { λ r. ⌜ r ≡ glyphOf d ⌝ }
 {
     if d < 10 {
-        return 48 + d as u8;
+        return b'0' + d as u8;
     }
     87 + d as u8
 }

@@ -12,7 +12,7 @@ fn behind(i: usize, n: usize, last: u8) -> u8
 {
     if i < n {
         if i + 1 < n {
-            return 32;
+            return b' ';
         }
     }
     last
@@ -51,8 +51,8 @@ pub fn put_row(buf: &mut [u8], at: usize, wholes: &[u64], doubles: &[f64]) -> us
     ensures { λ r. ⌜ out (now (buf .exit)) r ≡ putAll (now (buf .entry)) at (rowText (now (wholes .entry)) (now (doubles .entry))) ⌝ }
 {
     if doubles.len() == 0 {
-        return put_wholes(buf, at, wholes, 10);
+        return put_wholes(buf, at, wholes, b'\n');
     }
-    let p = put_wholes(buf, at, wholes, 32);
-    put_doubles(buf, p, doubles, 10)
+    let p = put_wholes(buf, at, wholes, b' ');
+    put_doubles(buf, p, doubles, b'\n')
 }

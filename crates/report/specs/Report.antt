@@ -6,9 +6,7 @@ use Rattle.step.specs.Rays.{End, dim, spent, gone, caught, stopped, parted, ref
 use Rattle.report.specs.declared.ledger.Ledger.{Ledger}
 use Rattle.report.specs.declared.tallies.Tallies.{Tallies}
 use Rattle.report.specs.declared.NonSeqTraceReport.{NonSeqTraceReport}
-
-abbrev pub #0 : Float
-#0 = ofBits binary64 0
+use Rattle.doubles.specs.Doubles.{#0}
 
 -- ---- the ledger, in step order
 

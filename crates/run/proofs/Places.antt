@@ -15,7 +15,7 @@ use Rattle.run.specs.declared.settling.Catch.{Catch}
 use Rattle.run.specs.declared.settling.Catch.the-variants.{Hit}
 use Rattle.run.specs.Run.{hitInOf, asCatch}
 use Rattle.run.proofs.Quiet.{turn-quiet}
-use Rattle.run.specs.Stack.{noRay, maxRays, loadOf, takenFrom, pushed, pushedIf, popped, stackAfter, topAtOf, takeOf, slotOf, raysComingOf, storedRays, heightOf}
+use Rattle.run.specs.Stack.{noRay, maxStack, loadOf, takenFrom, pushed, pushedIf, popped, stackAfter, topAtOf, takeOf, slotOf, raysComingOf, storedRays, heightOf}
 
 -- ---- the ray that is taken
 
@@ -25,7 +25,7 @@ taken-case false given s left = refl
 
 pub taken-is : (given : ℕ → ActiveRay) (s : Stack) (left at : ℕ) → at ≡ topAtOf (s .len) → (top : ActiveRay) → top ≡ getD (s .rays) at noRay → (t : Taken) → t ≡ takeOf given top (s .len) left → t ≡ takenFrom given s left
 unfolding takeOf takenFrom topAtOf
-taken-is given s left at ea top et t e = rw (e, et, ea) (taken-case (ltb 0 (s .len) && leb (s .len) maxRays) given s left)
+taken-is given s left at ea top et t e = rw (e, et, ea) (taken-case (ltb 0 (s .len) && leb (s .len) maxStack) given s left)
 
 -- ---- the stack after a step
 

@@ -14,8 +14,12 @@ use Rattle.run.specs.declared.stack.Taken.{Taken}
 use Rattle.run.specs.declared.stack.Coming.{Coming}
 use Rattle.run.specs.declared.stack.Coming.the-variants.{Both, Reflected, Transmitted, Nothing}
 
-abbrev pub maxRays : ℕ
-maxRays = 17
+abbrev pub maxStack : ℕ
+maxStack = 17
+
+-- a place below it has room for two rays
+abbrev pub pairRoom : ℕ
+pairRoom = 16
 
 -- what stands past the end of a list of rays
 abbrev pub noRay : ActiveRay
@@ -29,7 +33,7 @@ noRay =
     }
 
 unfoldable pub emptyStackOf : Stack
-emptyStackOf = record { rays = replicate 17 noRayOf; len = 0 }
+emptyStackOf = record { rays = replicate maxStack noRayOf; len = 0 }
 
 -- the last given ray that is left
 unfoldable pub loadOf : (ℕ → ActiveRay) → ℕ → Taken
@@ -38,7 +42,7 @@ loadOf given left = record { ray = given (left - 1); left = left - 1 }
 -- the newest ray and the given rays left: the top of the stack, or else a given ray
 unfoldable pub takenFrom : (ℕ → ActiveRay) → Stack → ℕ → Taken
 takenFrom given s left =
-    cond (ltb 0 (s .len) && leb (s .len) maxRays) (record { ray = getD (s .rays) (s .len - 1) noRay; left = left })
+    cond (ltb 0 (s .len) && leb (s .len) maxStack) (record { ray = getD (s .rays) (s .len - 1) noRay; left = left })
     (loadOf given left)
 
 unfoldable pub pushed : Stack → ActiveRay → Stack
@@ -53,21 +57,21 @@ popped s = record { rays = s .rays; len = s .len - 1 }
 -- the newest ray is gone, the reflected one is pushed, then the transmitted one; a stack without room for both takes neither, which no tracing meets
 unfoldable pub stackAfter : Stack → Step → Stack
 stackAfter s e =
-    cond (ltb (popped s .len) 16) (pushedIf (e .second) (pushedIf (e .«first») (popped s) (e .reflected)) (e .transmitted)) (popped s)
+    cond (ltb (popped s .len) pairRoom) (pushedIf (e .second) (pushedIf (e .«first») (popped s) (e .reflected)) (e .transmitted)) (popped s)
 
 -- ---- the same as the code does it
 
 unfoldable pub topAtOf : ℕ → ℕ
-topAtOf len = cond (ltb 0 len && leb len maxRays) (len - 1) 0
+topAtOf len = cond (ltb 0 len && leb len maxStack) (len - 1) 0
 
 unfoldable pub takeOf : (ℕ → ActiveRay) → ActiveRay → ℕ → ℕ → Taken
-takeOf given top len left = cond (ltb 0 len && leb len maxRays) (record { ray = top; left = left }) (loadOf given left)
+takeOf given top len left = cond (ltb 0 len && leb len maxStack) (record { ray = top; left = left }) (loadOf given left)
 
 unfoldable pub slotOf : ℕ → ℕ
-slotOf at = cond (ltb at 16) at 0
+slotOf at = cond (ltb at pairRoom) at 0
 
 unfoldable pub raysComingOf : Bool → Bool → ℕ → Coming
-raysComingOf made also at = cond (ltb at 16) (cond made (cond also Both Reflected) (cond also Transmitted Nothing)) Nothing
+raysComingOf made also at = cond (ltb at pairRoom) (cond made (cond also Both Reflected) (cond also Transmitted Nothing)) Nothing
 
 -- the places with the rays that come, from place i on
 abbrev pub storedRays : Coming → List ActiveRay → ℕ → ActiveRay → ActiveRay → List ActiveRay
@@ -77,4 +81,4 @@ storedRays Transmitted l i r t = set l i t
 storedRays Nothing l i r t = l
 
 unfoldable pub heightOf : Bool → Bool → ℕ → ℕ
-heightOf made also at = cond (ltb at 16) (cond made (cond also (at + 1 + 1) (at + 1)) (cond also (at + 1) at)) at
+heightOf made also at = cond (ltb at pairRoom) (cond made (cond also (at + 1 + 1) (at + 1)) (cond also (at + 1) at)) at

@@ -3,10 +3,15 @@ use step::ActiveRay;
 ghost use mathlib.Core.Path.{_≡_};
 ghost use Prim.Native.Nat.{_-_, _<_};
 ghost use Rattle.given_rays.specs.Given.{givenAtOf};
-ghost use Rattle.run.specs.Stack.{emptyStackOf, loadOf, topAtOf, takeOf, slotOf, raysComingOf, heightOf};
+ghost use Rattle.run.specs.Stack.{emptyStackOf, loadOf, topAtOf, takeOf, slotOf, raysComingOf, heightOf, maxStack, pairRoom};
+
+// The most rays on the stack; a place below the second has room for two.
+const MAX_STACK: usize = 17;
+
+const PAIR_ROOM: usize = MAX_STACK - 1;
 
 pub struct Stack {
-    pub rays: [ActiveRay; 17],
+    pub rays: [ActiveRay; MAX_STACK],
     pub len: usize,
 }
 
@@ -47,10 +52,10 @@ fn load(left: u32, ray_values: &[f64], ray_tags: &[u32]) -> Taken
 
 // Where the newest ray stands; 0 for a stack that holds none.
 pub(crate) fn top_at(len: usize) -> usize
-    ensures { λ r. ⌜ (r ≡ topAtOf len) × (r < 17) ⌝ }
+    ensures { λ r. ⌜ (r ≡ topAtOf len) × (r < maxStack) ⌝ }
 {
     if 0 < len {
-        if len <= 17 {
+        if len <= MAX_STACK {
             return len - 1;
         }
         return 0;
@@ -69,7 +74,7 @@ pub(crate) fn take(
     ensures { λ r. ⌜ r ≡ takeOf (givenAtOf (now («ray_values» .entry)) (now («ray_tags» .entry))) top len left ⌝ }
 {
     if 0 < len {
-        if len <= 17 {
+        if len <= MAX_STACK {
             return Taken { ray: top, left };
         }
         return load(left, ray_values, ray_tags);
@@ -89,9 +94,9 @@ pub(crate) fn under(len: usize) -> usize
 
 // The first place that a step may change.
 pub(crate) fn slot(at: usize) -> usize
-    ensures { λ r. ⌜ (r ≡ slotOf at) × (r < 16) ⌝ }
+    ensures { λ r. ⌜ (r ≡ slotOf at) × (r < pairRoom) ⌝ }
 {
-    if at < 16 {
+    if at < PAIR_ROOM {
         return at;
     }
     0
@@ -101,7 +106,7 @@ pub(crate) fn slot(at: usize) -> usize
 pub(crate) fn rays_coming(first: bool, second: bool, at: usize) -> Coming
     ensures { λ r. ⌜ r ≡ raysComingOf first second at ⌝ }
 {
-    if at < 16 {
+    if at < PAIR_ROOM {
         if first {
             if second {
                 return Coming::Both;
@@ -120,7 +125,7 @@ pub(crate) fn rays_coming(first: bool, second: bool, at: usize) -> Coming
 pub(crate) fn height(first: bool, second: bool, at: usize) -> usize
     ensures { λ r. ⌜ r ≡ heightOf first second at ⌝ }
 {
-    if at < 16 {
+    if at < PAIR_ROOM {
         if first {
             if second {
                 return at + 1 + 1;
@@ -140,7 +145,7 @@ impl Stack {
         ensures { λ r. ⌜ r ≡ emptyStackOf ⌝ }
     {
         let blank = given_rays::no_ray();
-        let rays = [blank; 17];
+        let rays = [blank; MAX_STACK];
         Stack { rays, len: 0 }
     }
 }

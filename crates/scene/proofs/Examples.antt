@@ -5,7 +5,7 @@ use mathlib.Core.Bool.{true}
 use mathlib.Core.List.{List, [], _∷_}
 use mathlib.Core.Option.{none, some}
 use lib.Ieee.{Float, binary64, add, sub, mul, div, neg, lt, le, ofBits, toBits}
-use Rattle.doubles.specs.Doubles.{absOf, isFiniteOf}
+use Rattle.doubles.specs.Doubles.{absOf, isFiniteOf, #0, #½, #1, #2, #5, #10}
 use Rattle.doubles.specs.Root.{sqrtOf}
 use Rattle.error.specs.Refusals.{passed, refusedAt}
 use Rattle.rays.specs.declared.Ray.{Ray}
@@ -24,26 +24,8 @@ use Rattle.scene.specs.Objects.{approachPoint, approachBy, approachAlong
 use Rattle.scene.specs.Solids.{tagsFitOf, checkTagsOf, checkSolidsOf}
 use Rattle.scene.specs.Closest.{closestObjectOf, intersectClosestObjectOf}
 
-abbrev #0 : Float
-#0 = ofBits binary64 0
-
-abbrev #1 : Float
-#1 = ofBits binary64 0x3ff0000000000000
-
-abbrev #2 : Float
-#2 = ofBits binary64 0x4000000000000000
-
-abbrev #½ : Float
-#½ = ofBits binary64 0x3fe0000000000000
-
-abbrev #5 : Float
-#5 = ofBits binary64 0x4014000000000000
-
 abbrev #8 : Float
 #8 = ofBits binary64 0x4020000000000000
-
-abbrev #10 : Float
-#10 = ofBits binary64 0x4024000000000000
 
 abbrev zeros : {A : Type 0} → A → ℕ → List A
 zeros a zero = []

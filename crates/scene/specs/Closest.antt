@@ -16,7 +16,7 @@ use Rattle.scene.specs.declared.object.Approach.{Approach}
 use Rattle.scene.specs.declared.closest.Candidate.{Candidate}
 use Rattle.scene.specs.declared.closest.Nearest as near
 use Rattle.scene.specs.Objects.{asHit, approachOf, arriveOf, intersectOf}
-use Rattle.scene.specs.Solids.{objectAtOf, checkSolidsOf}
+use Rattle.scene.specs.Solids.{objectAtOf, checkSolidsOf, maxSolids}
 
 abbrev pub hitDistance : NonSeqHit → Float
 hitDistance h = h .t
@@ -34,7 +34,7 @@ closestObjectOf f n r = nearestAmong NonSeqHit hitDistance (offersIn f r) n
 
 -- 17, then 3 for more than 32 solids, then the search
 unfoldable pub intersectClosestObjectOf : List Float → List ℕ → ℕ → Ray → Checked (Option NonSeqHit)
-intersectClosestObjectOf x k n r = after (checkSolidsOf x k n) (cond (leb n 32) (passed (closestObjectOf (objectAtOf x k) n r)) (refusedAt 3 0))
+intersectClosestObjectOf x k n r = after (checkSolidsOf x k n) (cond (leb n maxSolids) (passed (closestObjectOf (objectAtOf x k) n r)) (refusedAt 3 0))
 
 -- what the code's answer says
 abbrev pub asClosest : Closest → Checked (Option NonSeqHit)

@@ -20,12 +20,29 @@ use Rattle.scene.specs.declared.NonSeqObject.{NonSeqObject}
 use Rattle.scene.specs.declared.solids.Listed.{Listed}
 use Rattle.scene.specs.declared.solids.Listed.the-variants.{Object, Nothing}
 
+-- doubles and whole numbers of a solid, and where its matrix and inverse start
+abbrev pub solidDoubles : ℕ
+solidDoubles = 42
+
+abbrev pub solidWholes : ℕ
+solidWholes = 4
+
+abbrev pub matrixAt : ℕ
+matrixAt = 10
+
+abbrev pub inverseAt : ℕ
+inverseAt = 26
+
+-- the most solids (else 3)
+abbrev pub maxSolids : ℕ
+maxSolids = 32
+
 -- double j and whole number j of solid i
 abbrev valueAt : List Float → ℕ → ℕ → Float
-valueAt x i j = getD x (i * 42 + j) nan
+valueAt x i j = getD x (i * solidDoubles + j) nan
 
 abbrev tagAt : List ℕ → ℕ → ℕ → ℕ
-tagAt k i j = getD k (i * 4 + j) 0
+tagAt k i j = getD k (i * solidWholes + j) 0
 
 unfoldable pub rowAtOf : List Float → ℕ → Row
 rowAtOf x i = record { a = getD x i nan; b = getD x (i + 1) nan; c = getD x (i + 2) nan; d = getD x (i + 3) nan }
@@ -37,18 +54,18 @@ unfoldable pub readObjectOf : List Float → List ℕ → ℕ → NonSeqObject
 readObjectOf x k i =
     record {
       id = record { 0 = i };
-      geometry = numberedGeometryOf (getD k (i * 4) 0) (getD x (i * 42) nan) (valueAt x i 1) (valueAt x i 2);
-      transform = record { matrix = matAtOf x (i * 42 + 10); inverse = matAtOf x (i * 42 + 26) };
+      geometry = numberedGeometryOf (getD k (i * solidWholes) 0) (getD x (i * solidDoubles) nan) (valueAt x i 1) (valueAt x i 2);
+      transform = record { matrix = matAtOf x (i * solidDoubles + matrixAt); inverse = matAtOf x (i * solidDoubles + inverseAt) };
       «is_active» = eqb (tagAt k i 1) 1;
     }
 
 -- whether both lists reach to the end of solid i
 unfoldable pub holds : List Float → List ℕ → ℕ → Bool
-holds x k i = leb (i * 42 + 42) (length x) && leb (i * 4 + 4) (length k)
+holds x k i = leb (i * solidDoubles + solidDoubles) (length x) && leb (i * solidWholes + solidWholes) (length k)
 
 -- solid i, where the lists hold it and its shape has a number that is one
 unfoldable pub objectAtOf : List Float → List ℕ → ℕ → Option NonSeqObject
-objectAtOf x k i = cond (holds x k i && leb (getD k (i * 4) 0) lastShape) (some (readObjectOf x k i)) none
+objectAtOf x k i = cond (holds x k i && leb (getD k (i * solidWholes) 0) lastShape) (some (readObjectOf x k i)) none
 
 -- what the code's answer says
 abbrev pub asObject : Listed → Option NonSeqObject
@@ -71,8 +88,8 @@ tagsFitOf shape active finish medium = leb shape lastShape && (leb active 1 && (
 unfoldable pub checkTagsOf : List ℕ → ℕ → ℕ → Checked Unit
 checkTagsOf k zero i = passed tt
 checkTagsOf k (suc n) i =
-    cond (tagsFitOf (getD k (i * 4) 0) (tagAt k i 1) (tagAt k i 2) (tagAt k i 3)) (checkTagsOf k n (i + 1)) (refusedAt 17 i)
+    cond (tagsFitOf (getD k (i * solidWholes) 0) (tagAt k i 1) (tagAt k i 2) (tagAt k i 3)) (checkTagsOf k n (i + 1)) (refusedAt 17 i)
 
 -- 17 at 0 for lists of another length than n solids need
 unfoldable pub checkSolidsOf : List Float → List ℕ → ℕ → Checked Unit
-checkSolidsOf x k n = cond (eqb (length x) (n * 42) && eqb (length k) (n * 4)) (checkTagsOf k n 0) (refusedAt 17 0)
+checkSolidsOf x k n = cond (eqb (length x) (n * solidDoubles) && eqb (length k) (n * solidWholes)) (checkTagsOf k n 0) (refusedAt 17 0)

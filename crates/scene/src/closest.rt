@@ -1,5 +1,6 @@
 // The nearest solid of a list along a ray.
 use crate::Intersection;
+use crate::MAX_SOLIDS;
 use crate::object::Approach;
 use crate::object::Approached;
 use crate::solids;
@@ -169,7 +170,7 @@ pub fn intersect_closest_object(
     match solids::check_solids(solid_values, solid_tags, count) {
         Check::Refused { error, place } => Closest::Refused { error, place },
         Check::Passed => {
-            if count <= 32 {
+            if count <= MAX_SOLIDS {
                 return Closest::Found(closest_object(solid_values, solid_tags, count, ray));
             }
             Closest::Refused {

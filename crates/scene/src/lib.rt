@@ -16,6 +16,14 @@ pub use solids::finish_at;
 pub use solids::medium_at;
 pub use solids::object_at;
 
+// Doubles and whole numbers of each solid in the two lists of solids.
+pub const SOLID_DOUBLES: usize = 42;
+
+pub const SOLID_WHOLES: usize = 4;
+
+// The most solids (else 3).
+pub const MAX_SOLIDS: u32 = 32;
+
 // The number of a solid: its place in the list, from 0.
 #[repr(C)]
 pub struct SolidNo(pub u32);

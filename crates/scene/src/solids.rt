@@ -2,6 +2,8 @@
 // doubles: sizes p, q, r, reflectance rho, coefficients a to f, matrix and inverse row by row. Of each
 // solid 4 whole numbers: shape, active, finish, medium.
 use crate::NonSeqObject;
+use crate::SOLID_DOUBLES;
+use crate::SOLID_WHOLES;
 use crate::SolidNo;
 use crate::object;
 use crate::object::Approached;
@@ -21,7 +23,12 @@ ghost use lib.ListN.{length};
 ghost use Rattle.error.specs.Refusals.{asChecked};
 ghost use Rattle.scene.specs.Objects.{asApproach, approachOf};
 ghost use Rattle.scene.specs.Closest.{approachAtOf};
-ghost use Rattle.scene.specs.Solids.{rowAtOf, matAtOf, readObjectOf, asObject, objectAtOf, finishAtOf, mediumAtOf, tagsFitOf, checkTagsOf, checkSolidsOf};
+ghost use Rattle.scene.specs.Solids.{rowAtOf, matAtOf, readObjectOf, asObject, objectAtOf, finishAtOf, mediumAtOf, tagsFitOf, checkTagsOf, checkSolidsOf, solidDoubles, solidWholes};
+
+// Where the matrix and the inverse start among a solid's doubles.
+const MATRIX: usize = 10;
+
+const INVERSE: usize = 26;
 
 pub enum Listed {
     Object(NonSeqObject),
@@ -54,13 +61,13 @@ fn mat_at(solid_values: &[f64], i: usize) -> Mat4
 
 // Solid i of lists that hold it.
 fn read_object(solid_values: &[f64], solid_tags: &[u32], i: u32) -> NonSeqObject
-    requires { ⌜ (i * 42 + 42 ≤ length (now «solid_values»)) × (i * 4 + 4 ≤ length (now «solid_tags»)) ⌝ }
+    requires { ⌜ (i * solidDoubles + solidDoubles ≤ length (now «solid_values»)) × (i * solidWholes + solidWholes ≤ length (now «solid_tags»)) ⌝ }
     ensures { λ r. ⌜ r ≡ readObjectOf (now («solid_values» .entry)) (now («solid_tags» .entry)) i ⌝ }
 {
-    let a = i as usize * 42;
-    let b = i as usize * 4;
-    let matrix = mat_at(solid_values, a + 10);
-    let inverse = mat_at(solid_values, a + 26);
+    let a = i as usize * SOLID_DOUBLES;
+    let b = i as usize * SOLID_WHOLES;
+    let matrix = mat_at(solid_values, a + MATRIX);
+    let inverse = mat_at(solid_values, a + INVERSE);
     let geometry = PrimitiveGeometry::numbered(
         solid_tags[b],
         solid_values[a],
@@ -79,9 +86,9 @@ fn read_object(solid_values: &[f64], solid_tags: &[u32], i: u32) -> NonSeqObject
 pub fn object_at(solid_values: &[f64], solid_tags: &[u32], i: u32) -> Listed
     ensures { λ r. ⌜ asObject r ≡ objectAtOf (now («solid_values» .entry)) (now («solid_tags» .entry)) i ⌝ }
 {
-    let b = i as usize * 4;
-    if i as usize * 42 + 42 <= solid_values.len() {
-        if b + 4 <= solid_tags.len() {
+    let b = i as usize * SOLID_WHOLES;
+    if i as usize * SOLID_DOUBLES + SOLID_DOUBLES <= solid_values.len() {
+        if b + SOLID_WHOLES <= solid_tags.len() {
             if solid_tags[b] <= PrimitiveGeometry::LAST {
                 return Listed::Object(read_object(solid_values, solid_tags, i));
             }
@@ -92,13 +99,13 @@ pub fn object_at(solid_values: &[f64], solid_tags: &[u32], i: u32) -> Listed
 
 // Where a ray meets solid i of lists that hold it. The solid's matrix is read only where its shape is met.
 fn approach_in(solid_values: &[f64], solid_tags: &[u32], i: u32, ray: Ray) -> Approached
-    requires { ⌜ (i * 42 + 42 ≤ length (now «solid_values»)) × (i * 4 + 4 ≤ length (now «solid_tags»)) ⌝ }
+    requires { ⌜ (i * solidDoubles + solidDoubles ≤ length (now «solid_values»)) × (i * solidWholes + solidWholes ≤ length (now «solid_tags»)) ⌝ }
     ensures { λ r. ⌜ asApproach r ≡ approachOf (readObjectOf (now («solid_values» .entry)) (now («solid_tags» .entry)) i) ray ⌝ }
 {
-    let a = i as usize * 42;
-    let b = i as usize * 4;
+    let a = i as usize * SOLID_DOUBLES;
+    let b = i as usize * SOLID_WHOLES;
     if solid_tags[b + 1] == 1 {
-        let inverse = mat_at(solid_values, a + 26);
+        let inverse = mat_at(solid_values, a + INVERSE);
         let geometry = PrimitiveGeometry::numbered(
             solid_tags[b],
             solid_values[a],
@@ -108,7 +115,7 @@ fn approach_in(solid_values: &[f64], solid_tags: &[u32], i: u32, ray: Ray) -> Ap
         return match geometry.meet(inverse, ray) {
             LocalMeeting::At(m) => {
                 let hit = m.hit;
-                object::reached(mat_at(solid_values, a + 10), ray, m.point, hit)
+                object::reached(mat_at(solid_values, a + MATRIX), ray, m.point, hit)
             }
             LocalMeeting::Miss => Approached::Miss,
         };
@@ -120,9 +127,9 @@ fn approach_in(solid_values: &[f64], solid_tags: &[u32], i: u32, ray: Ray) -> Ap
 pub(crate) fn approach_at(solid_values: &[f64], solid_tags: &[u32], i: u32, ray: Ray) -> Approached
     ensures { λ r. ⌜ asApproach r ≡ approachAtOf (objectAtOf (now («solid_values» .entry)) (now («solid_tags» .entry)) i) ray ⌝ }
 {
-    let shape = i as usize * 4;
-    if i as usize * 42 + 42 <= solid_values.len() {
-        if shape + 4 <= solid_tags.len() {
+    let shape = i as usize * SOLID_WHOLES;
+    if i as usize * SOLID_DOUBLES + SOLID_DOUBLES <= solid_values.len() {
+        if shape + SOLID_WHOLES <= solid_tags.len() {
             if solid_tags[shape] <= PrimitiveGeometry::LAST {
                 return approach_in(solid_values, solid_tags, i, ray);
             }
@@ -136,10 +143,10 @@ pub fn finish_at(solid_values: &[f64], solid_tags: &[u32], solid: SolidNo) -> Su
     ensures { λ r. ⌜ r ≡ finishAtOf (now («solid_values» .entry)) (now («solid_tags» .entry)) solid ⌝ }
 {
     let i = solid.0;
-    let a = i as usize * 42;
-    let b = i as usize * 4;
-    if a + 42 <= solid_values.len() {
-        if b + 4 <= solid_tags.len() {
+    let a = i as usize * SOLID_DOUBLES;
+    let b = i as usize * SOLID_WHOLES;
+    if a + SOLID_DOUBLES <= solid_values.len() {
+        if b + SOLID_WHOLES <= solid_tags.len() {
             return SurfaceFinish::numbered(solid_tags[b + 2], solid_values[a + 3]);
         }
     }
@@ -151,10 +158,10 @@ pub fn medium_at(solid_values: &[f64], solid_tags: &[u32], solid: SolidNo) -> Op
     ensures { λ r. ⌜ r ≡ mediumAtOf (now («solid_values» .entry)) (now («solid_tags» .entry)) solid ⌝ }
 {
     let i = solid.0;
-    let a = i as usize * 42;
-    let b = i as usize * 4;
-    if a + 42 <= solid_values.len() {
-        if b + 4 <= solid_tags.len() {
+    let a = i as usize * SOLID_DOUBLES;
+    let b = i as usize * SOLID_WHOLES;
+    if a + SOLID_DOUBLES <= solid_values.len() {
+        if b + SOLID_WHOLES <= solid_tags.len() {
             return OpticalMedium::numbered(
                 solid_tags[b + 3],
                 solid_values[a + 4],
@@ -185,12 +192,12 @@ fn tags_fit(shape: u32, active: u32, finish: u32, medium: u32) -> bool
 
 // The first solid whose whole numbers are not in range is refused (17).
 fn check_tags(solid_tags: &[u32], count: u32) -> Check
-    requires { ⌜ count * 4 ≤ length (now «solid_tags») ⌝ }
+    requires { ⌜ count * solidWholes ≤ length (now «solid_tags») ⌝ }
     ensures { λ r. ⌜ asChecked r ≡ checkTagsOf (now («solid_tags» .entry)) count 0 ⌝ }
 {
     let mut i: u32 = 0;
     while i < count {
-        let b = i as usize * 4;
+        let b = i as usize * SOLID_WHOLES;
         if tags_fit(
             solid_tags[b],
             solid_tags[b + 1],
@@ -212,8 +219,8 @@ fn check_tags(solid_tags: &[u32], count: u32) -> Check
 pub fn check_solids(solid_values: &[f64], solid_tags: &[u32], count: u32) -> Check
     ensures { λ r. ⌜ asChecked r ≡ checkSolidsOf (now («solid_values» .entry)) (now («solid_tags» .entry)) count ⌝ }
 {
-    if solid_values.len() == count as usize * 42 {
-        if solid_tags.len() == count as usize * 4 {
+    if solid_values.len() == count as usize * SOLID_DOUBLES {
+        if solid_tags.len() == count as usize * SOLID_WHOLES {
             return check_tags(solid_tags, count);
         }
     }

@@ -7,7 +7,7 @@ use lib.ListN.{length}
 use lib.Ieee.{Float}
 use Rattle.error.specs.Refusals.{Checked, passed, refusedAt}
 use Rattle.fields.specs.Split.{split}
-use Rattle.scene_text.specs.Names.{runNames, runForm, solidNames, solidForm, detectorNames, detectorForm, rayNames, rayForm}
+use Rattle.scene_text.specs.Names.{runNames, runForm, solidNames, solidForm, detectorNames, detectorForm, rayNames, rayForm, maxText}
 use Rattle.scene_text.specs.Tables.{putAll}
 use Rattle.scene_text.specs.Blocks.{Block, readNamesOf, readOneOf, readLinesOf}
 
@@ -100,5 +100,5 @@ answered t new old = cond (t .ok) (answer (passed tt) (t .solids) (t .detectors)
 -- a text of at most 65,536 bytes
 unfoldable pub readSceneOf : List ℕ → Slices → Answer
 readSceneOf s m =
-    cond (ltb 65536 (length s)) (refused 0 m)
+    cond (ltb maxText (length s)) (refused 0 m)
     (let c = contentsIn s in answered (tallied c) (filledWith c m) m)

@@ -7,6 +7,7 @@ ghost use lib.ListN.{length};
 ghost use Rattle.fields.specs.Split.{endAtOf};
 ghost use Rattle.scene_text.specs.Blocks.{sameOf, readNamesOf, readOneOf, endsWellOf, readLinesOf};
 ghost use Rattle.scene_text.specs.Steps.{table, reading, onto, restAt, comesTo};
+ghost use Rattle.scene_text.specs.Names.{maxText};
 
 // Where the reading of a block stands: whether it goes on, whether all was well formed so far, where the next line starts and its number
 // (the first bad or missing one's where not ok), how many lines of values there were, and the places that come next.
@@ -47,7 +48,7 @@ fn read_line(
     d: &mut [f64],
     w: &mut [u32],
 ) -> Found
-    requires { ⌜ (e ≡ endAtOf (now s) (f .at) 10) × (e < length (now s)) × (length (now s) ≤ 65536) × (f .at ≤ e) × (f .line ≤ f .at + 1) × (f .rows ≤ f .at) × (f .more ≡ true) ⌝ }
+    requires { ⌜ (e ≡ endAtOf (now s) (f .at) 10) × (e < length (now s)) × (length (now s) ≤ maxText) × (f .at ≤ e) × (f .line ≤ f .at + 1) × (f .rows ≤ f .at) × (f .more ≡ true) ⌝ }
     ensures { λ r. ⌜ comesTo (now (s .entry)) (now (names .entry)) (now (form .entry)) (r .more) (r .ok) (r .at) (r .line) (r .rows) (table (r .ok) (now (d .exit)) (r .nd) (now (w .exit)) (r .nw))
         ≡ comesTo (now (s .entry)) (now (names .entry)) (now (form .entry)) (f .more) (f .ok) (f .at) (f .line) (f .rows) (table (f .ok) (now (d .entry)) (f .nd) (now (w .entry)) (f .nw)) ⌝ }
     ensures { λ r. ⌜ (r .at ≤ length (now (s .entry))) × (r .line ≤ r .at + 1) × (r .rows ≤ r .at) × (r .more ≡ true → f .at < r .at) ⌝ }
@@ -90,12 +91,12 @@ fn read_line(
 
 // The next line, or the end of the text.
 fn read_next(s: &[u8], f: Found, names: &[u8], form: &[u8], d: &mut [f64], w: &mut [u32]) -> Found
-    requires { ⌜ (length (now s) ≤ 65536) × (f .at ≤ length (now s)) × (f .line ≤ f .at + 1) × (f .rows ≤ f .at) × (f .more ≡ true) ⌝ }
+    requires { ⌜ (length (now s) ≤ maxText) × (f .at ≤ length (now s)) × (f .line ≤ f .at + 1) × (f .rows ≤ f .at) × (f .more ≡ true) ⌝ }
     ensures { λ r. ⌜ comesTo (now (s .entry)) (now (names .entry)) (now (form .entry)) (r .more) (r .ok) (r .at) (r .line) (r .rows) (table (r .ok) (now (d .exit)) (r .nd) (now (w .exit)) (r .nw))
         ≡ comesTo (now (s .entry)) (now (names .entry)) (now (form .entry)) (f .more) (f .ok) (f .at) (f .line) (f .rows) (table (f .ok) (now (d .entry)) (f .nd) (now (w .entry)) (f .nw)) ⌝ }
     ensures { λ r. ⌜ (r .at ≤ length (now (s .entry))) × (r .line ≤ r .at + 1) × (r .rows ≤ r .at) × (r .more ≡ true → f .at < r .at) ⌝ }
 {
-    let e = fields::end_at(s, f.at, 10);
+    let e = fields::end_at(s, f.at, b'\n');
     if e < s.len() {
         return read_line(s, e, f, names, form, d, w);
     }
@@ -130,7 +131,7 @@ pub(crate) fn read_lines(
     d: &mut [f64],
     w: &mut [u32],
 ) -> Found
-    requires { ⌜ (length (now s) ≤ 65536) × (from .at ≤ length (now s)) × (from .line ≤ from .at + 1) ⌝ }
+    requires { ⌜ (length (now s) ≤ maxText) × (from .at ≤ length (now s)) × (from .line ≤ from .at + 1) ⌝ }
     ensures { λ r. ⌜ reading (r .ok) (r .line) (r .rows) (table (r .ok) (now (d .exit)) (r .nd) (now (w .exit)) (r .nw)) (restAt (r .ok) (now (s .entry)) (r .at))
         ≡ onto 0 (table true (now (d .entry)) 0 (now (w .entry)) 0) (readLinesOf (now (names .entry)) (now (form .entry)) (restAt (from .ok) (now (s .entry)) (from .at)) (from .line)) ⌝ }
     ensures { λ r. ⌜ (r .at ≤ length (now (s .entry))) × (r .line ≤ r .at + 1) ⌝ }
@@ -152,7 +153,7 @@ pub(crate) fn read_lines(
 
 // The next line is this line of names: a block without lines of values, since no line has the empty form.
 pub(crate) fn read_names(s: &[u8], from: Found, names: &[u8]) -> Found
-    requires { ⌜ (length (now s) ≤ 65536) × (from .at ≤ length (now s)) × (from .line ≤ from .at + 1) ⌝ }
+    requires { ⌜ (length (now s) ≤ maxText) × (from .at ≤ length (now s)) × (from .line ≤ from .at + 1) ⌝ }
     ensures { λ r. ⌜ (let b = readNamesOf (now (names .entry)) (restAt (from .ok) (now (s .entry)) (from .at)) (from .line) in
         (r .ok ≡ b .ok) × (r .line ≡ b .line) × (restAt (r .ok) (now (s .entry)) (r .at) ≡ b .rest)) ⌝ }
     ensures { λ r. ⌜ (r .at ≤ length (now (s .entry))) × (r .line ≤ r .at + 1) ⌝ }
@@ -164,13 +165,13 @@ pub(crate) fn read_names(s: &[u8], from: Found, names: &[u8]) -> Found
 
 // The next line has this form.
 pub(crate) fn read_one(s: &[u8], from: Found, form: &[u8], d: &mut [f64], w: &mut [u32]) -> Found
-    requires { ⌜ (length (now s) ≤ 65536) × (from .at ≤ length (now s)) × (from .line ≤ from .at + 1) ⌝ }
+    requires { ⌜ (length (now s) ≤ maxText) × (from .at ≤ length (now s)) × (from .line ≤ from .at + 1) ⌝ }
     ensures { λ r. ⌜ reading (r .ok) (r .line) (r .rows) (table (r .ok) (now (d .exit)) (r .nd) (now (w .exit)) (r .nw)) (restAt (r .ok) (now (s .entry)) (r .at))
         ≡ onto 0 (table true (now (d .entry)) 0 (now (w .entry)) 0) (readOneOf (now (form .entry)) (restAt (from .ok) (now (s .entry)) (from .at)) (from .line)) ⌝ }
     ensures { λ r. ⌜ (r .at ≤ length (now (s .entry))) × (r .line ≤ r .at + 1) ⌝ }
 {
     if from.ok {
-        let e = fields::end_at(s, from.at, 10);
+        let e = fields::end_at(s, from.at, b'\n');
         if e < s.len() {
             let at = from.at;
             let r = read_row(&s[at..e + 1], form, d, 0, w, 0);

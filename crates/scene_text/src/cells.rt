@@ -12,7 +12,7 @@ ghost use Rattle.scene_text.specs.Tables.{filled, putAll};
 ghost use Rattle.scene_text.specs.Steps.{table, put};
 
 // The number of the filter `-`, which is kept apart from 0.
-const NO_FILTER: u32 = 5;
+pub const NO_FILTER: u32 = 5;
 
 // Whether a cell is well formed, and the places that come next.
 pub struct Cells {
@@ -94,7 +94,7 @@ fn read_below(f: &[u8], m: u32) -> ReadWhole
 fn read_filter(f: &[u8]) -> ReadWhole
     ensures { λ r. ⌜ asWhole r ≡ readFilterOf (now (f .entry)) ⌝ }
 {
-    if fields::is_byte(f, 45) {
+    if fields::is_byte(f, b'-') {
         return ReadWhole::Whole(NO_FILTER);
     }
     read_below(f, 5)
@@ -104,19 +104,19 @@ fn read_filter(f: &[u8]) -> ReadWhole
 fn limit(kind: u8) -> u32
     ensures { λ r. ⌜ r ≡ kind - 48 ⌝ }
 {
-    if kind < 48 {
+    if kind < b'0' {
         return 0;
     }
-    (kind - 48) as u32
+    (kind - b'0') as u32
 }
 
 fn read_number(kind: u8, f: &[u8]) -> ReadWhole
     ensures { λ r. ⌜ asWhole r ≡ readNumberOf kind (now (f .entry)) ⌝ }
 {
-    if kind == 102 {
+    if kind == b'f' {
         return read_filter(f);
     }
-    if kind == 110 {
+    if kind == b'n' {
         return fields::read_whole(f);
     }
     let m = limit(kind);
@@ -128,10 +128,10 @@ pub fn read_cell(kind: u8, f: &[u8], d: &mut [f64], nd: usize, w: &mut [u32], nw
     ensures { λ r. ⌜ table (r .ok) (now (d .exit)) (r .nd) (now (w .exit)) (r .nw)
         ≡ put (readCellOf kind (now (f .entry))) (table true (now (d .entry)) nd (now (w .entry)) nw) ⌝ }
 {
-    if kind == 100 {
+    if kind == b'd' {
         return read_double(f, d, nd, w, nw);
     }
-    if kind == 108 {
+    if kind == b'l' {
         return read_media(f, d, nd, w, nw);
     }
     let v = read_number(kind, f);

@@ -5,5 +5,7 @@ mod media;
 mod rows;
 mod scene;
 
+pub use cells::NO_FILTER;
+pub use scene::MAX_TEXT;
 pub use scene::SceneText;
 pub use scene::read_scene;

@@ -28,7 +28,7 @@ fn media_start(f: &[u8]) -> usize
     ensures { λ r. ⌜ partsAt 44 (now (f .entry)) r ≡ mediaParts (now (f .entry)) ⌝ }
     ensures { λ r. ⌜ r ≤ length (now (f .entry)) + 1 ⌝ }
 {
-    if fields::is_byte(f, 45) {
+    if fields::is_byte(f, b'-') {
         return f.len() + 1;
     }
     0
@@ -42,7 +42,7 @@ fn count_media(f: &[u8], from: usize) -> ReadWhole
     let mut at = from;
     let mut n: u32 = 0;
     while at <= f.len() {
-        let e = fields::end_at(f, at, 44);
+        let e = fields::end_at(f, at, b',');
         let v = fields::read_whole(&f[at..e]);
         match v {
             ReadWhole::Whole(_) => {
@@ -81,7 +81,7 @@ fn next_medium(f: &[u8], at: usize) -> Medium
     if f.len() < at {
         return Medium { value: 0, at };
     }
-    let e = fields::end_at(f, at, 44);
+    let e = fields::end_at(f, at, b',');
     let x = number_or_zero(&f[at..e]);
     Medium {
         value: x,

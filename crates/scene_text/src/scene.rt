@@ -11,10 +11,13 @@ ghost use Prim.Native.Nat.{_+_, _≤_};
 ghost use lib.ListN.{length};
 ghost use Rattle.error.specs.Refusals.{asChecked, refusedAt};
 ghost use Rattle.fields.specs.Split.{split};
-ghost use Rattle.scene_text.specs.Names.{solidNames, solidForm, detectorNames, detectorForm, rayNames};
+ghost use Rattle.scene_text.specs.Names.{solidNames, solidForm, detectorNames, detectorForm, rayNames, maxText};
 ghost use Rattle.scene_text.specs.Blocks.{readNamesOf, readLinesOf};
 ghost use Rattle.scene_text.specs.Steps.{table, restAt, onto, reading};
 ghost use Rattle.scene_text.specs.Scene.{readRunOf, contentsIn, tally, tallied, slices, doublesIn, wholesIn, filledWith, answer, readSceneOf};
+
+// The most bytes of a scene text (else 17).
+pub const MAX_TEXT: usize = 65536;
 
 // What reading a scene text answers: whether it was refused, and how many lines of values the blocks have.
 pub struct SceneText {
@@ -35,7 +38,7 @@ pub struct Tallied {
 
 // The run's block and the line of names behind it.
 fn read_run(s: &[u8], run_values: &mut [f64], run_tags: &mut [u32]) -> Found
-    requires { ⌜ length (now s) ≤ 65536 ⌝ }
+    requires { ⌜ length (now s) ≤ maxText ⌝ }
     ensures { λ r. ⌜ (let b = readRunOf (split 10 (now (s .entry))) in let c = readNamesOf solidNames (b .rest) (b .line) in
         (now («run_values» .exit) ≡ doublesIn (now («run_values» .entry)) b) × (now («run_tags» .exit) ≡ wholesIn (now («run_tags» .entry)) b)
         × (r .ok ≡ c .ok) × (r .line ≡ c .line) × (restAt (r .ok) (now (s .entry)) (r .at) ≡ c .rest)) ⌝ }
@@ -60,7 +63,7 @@ fn read_run(s: &[u8], run_values: &mut [f64], run_tags: &mut [u32]) -> Found
 }
 
 fn read_solids(s: &[u8], from: Found, d: &mut [f64], w: &mut [u32]) -> Found
-    requires { ⌜ (length (now s) ≤ 65536) × (from .at ≤ length (now s)) × (from .line ≤ from .at + 1) ⌝ }
+    requires { ⌜ (length (now s) ≤ maxText) × (from .at ≤ length (now s)) × (from .line ≤ from .at + 1) ⌝ }
     ensures { λ r. ⌜ reading (r .ok) (r .line) (r .rows) (table (r .ok) (now (d .exit)) (r .nd) (now (w .exit)) (r .nw)) (restAt (r .ok) (now (s .entry)) (r .at))
         ≡ onto 0 (table true (now (d .entry)) 0 (now (w .entry)) 0) (readLinesOf detectorNames solidForm (restAt (from .ok) (now (s .entry)) (from .at)) (from .line)) ⌝ }
     ensures { λ r. ⌜ (r .at ≤ length (now (s .entry))) × (r .line ≤ r .at + 1) ⌝ }
@@ -76,7 +79,7 @@ fn read_solids(s: &[u8], from: Found, d: &mut [f64], w: &mut [u32]) -> Found
 }
 
 fn read_detectors(s: &[u8], from: Found, d: &mut [f64], w: &mut [u32]) -> Found
-    requires { ⌜ (length (now s) ≤ 65536) × (from .at ≤ length (now s)) × (from .line ≤ from .at + 1) ⌝ }
+    requires { ⌜ (length (now s) ≤ maxText) × (from .at ≤ length (now s)) × (from .line ≤ from .at + 1) ⌝ }
     ensures { λ r. ⌜ reading (r .ok) (r .line) (r .rows) (table (r .ok) (now (d .exit)) (r .nd) (now (w .exit)) (r .nw)) (restAt (r .ok) (now (s .entry)) (r .at))
         ≡ onto 0 (table true (now (d .entry)) 0 (now (w .entry)) 0) (readLinesOf rayNames detectorForm (restAt (from .ok) (now (s .entry)) (from .at)) (from .line)) ⌝ }
     ensures { λ r. ⌜ (r .at ≤ length (now (s .entry))) × (r .line ≤ r .at + 1) ⌝ }
@@ -102,7 +105,7 @@ fn read_blocks(
     ray_values: &mut [f64],
     ray_tags: &mut [u32],
 ) -> Tallied
-    requires { ⌜ length (now s) ≤ 65536 ⌝ }
+    requires { ⌜ length (now s) ≤ maxText ⌝ }
     ensures { λ r. ⌜ tally (r .ok) (r .line) (r .solids) (r .detectors) (r .rays) ≡ tallied (contentsIn (now (s .entry))) ⌝ }
     ensures { λ r. ⌜ slices (now («run_values» .exit)) (now («run_tags» .exit)) (now («solid_values» .exit)) (now («solid_tags» .exit)) (now («detector_values» .exit)) (now («detector_tags» .exit)) (now («ray_values» .exit)) (now («ray_tags» .exit))
         ≡ filledWith (contentsIn (now (s .entry))) (slices (now («run_values» .entry)) (now («run_tags» .entry)) (now («solid_values» .entry)) (now («solid_tags» .entry)) (now («detector_values» .entry)) (now («detector_tags» .entry)) (now («ray_values» .entry)) (now («ray_tags» .entry))) ⌝ }
@@ -122,7 +125,7 @@ fn read_blocks(
 
 // The same with no slice of the caller's: what does not fit into a slice is dropped, whatever its length.
 fn check_text(s: &[u8]) -> Tallied
-    requires { ⌜ length (now s) ≤ 65536 ⌝ }
+    requires { ⌜ length (now s) ≤ maxText ⌝ }
     ensures { λ r. ⌜ tally (r .ok) (r .line) (r .solids) (r .detectors) (r .rays) ≡ tallied (contentsIn (now (s .entry))) ⌝ }
 {
     let mut a = [0.0f64; 1];
@@ -176,7 +179,7 @@ pub fn read_scene(
         (slices (now («run_values» .exit)) (now («run_tags» .exit)) (now («solid_values» .exit)) (now («solid_tags» .exit)) (now («detector_values» .exit)) (now («detector_tags» .exit)) (now («ray_values» .exit)) (now («ray_tags» .exit)))
         ≡ readSceneOf (now (text .entry)) (slices (now («run_values» .entry)) (now («run_tags» .entry)) (now («solid_values» .entry)) (now («solid_tags» .entry)) (now («detector_values» .entry)) (now («detector_tags» .entry)) (now («ray_values» .entry)) (now («ray_tags» .entry))) ⌝ }
 {
-    if 65536 < text.len() {
+    if MAX_TEXT < text.len() {
         return refused(0);
     }
     let found = check_text(text);

@@ -19,6 +19,7 @@ use Rattle.step.specs.declared.NonSeqTraceConfig.{NonSeqTraceConfig}
 use Rattle.step.specs.declared.ActiveRay.{ActiveRay}
 use Rattle.step.specs.declared.Step as steps
 use Rattle.step.specs.declared.End as ends
+use Rattle.detector.specs.Pixels.{maxCount}
 
 -- the solids' finishes and media, and by which rules rays are traced
 pub record Optics : Type 0 where
@@ -63,9 +64,6 @@ abbrev pub endsOf : ActiveRay → End → Step
 endsOf a e = record { end = e; «first» = false; reflected = a; second = false; transmitted = a }
 
 -- a count raised by 1; no traced ray comes near the largest
-abbrev pub maxCount : ℕ
-maxCount = 4294967295
-
 unfoldable pub moreOf : ℕ → ℕ
 moreOf n = cond (ltb n maxCount) (n + 1) n
 

@@ -22,9 +22,7 @@ use Rattle.faces.specs.Faces.{nearestDetectorOf}
 use Rattle.step.specs.declared.ActiveRay.{ActiveRay}
 use Rattle.step.specs.declared.meeting.Met as code
 use Rattle.step.specs.Rays.{Optics, Scene, Step, endsOf, dim, spent, gone, caught, stopped, parted, refusing, reflectedOf, transmittedOf}
-
-abbrev #0 : Float
-#0 = ofBits binary64 0
+use Rattle.doubles.specs.Doubles.{#0}
 
 -- ---- a clear surface
 

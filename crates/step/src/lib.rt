@@ -5,6 +5,7 @@ mod meeting;
 mod mirror;
 
 use detector::DetectorHit;
+use detector::MAX_COUNT;
 use error::NonSeqError;
 use faces::Faces;
 use faces::Sight;
@@ -69,7 +70,7 @@ pub struct Step {
 pub fn more(n: u32) -> u32
     ensures { λ r. ⌜ r ≡ moreOf n ⌝ }
 {
-    if n < 4294967295 {
+    if n < MAX_COUNT {
         return n + 1;
     }
     n

@@ -1,5 +1,8 @@
 // straymap: a scene text on standard input, its answer on standard output (document 01).
 
+// One byte more than a text may have, so that a longer one is told.
+const TEXT_ROOM: usize = scene_text::MAX_TEXT + 1;
+
 // Whether there was more to read.
 fn more() -> bool {
     let mut rest = [0u8; 65536];
@@ -19,14 +22,14 @@ fn drain() {
 }
 
 fn main() {
-    let mut text = [0u8; 65537];
+    let mut text = [0u8; TEXT_ROOM];
     let n = io::read_full(0, &mut text);
-    if n == 65537 {
+    if n == TEXT_ROOM {
         drain();
     }
-    let mut answer = [0u8; 131072];
+    let mut answer = [0u8; map_text::MAX_ANSWER];
     let m = map_text::put_stray_map(&mut answer, 0, &text[..n]);
-    if m <= 131072 {
+    if m <= map_text::MAX_ANSWER {
         io::write_all(1, &answer[..m]);
     }
 }

@@ -1,7 +1,7 @@
 -- Reflection and refraction: Snell's law and Fresnel's equations for unpolarised light (M. Born and E. Wolf, Principles of Optics, 1.5). The order of the operations is trace.rs's.
 use mathlib.Core.Bool.{cond}
 use lib.Ieee.{Float, binary64, ofBits, add, sub, mul, div, neg, le}
-use Rattle.doubles.specs.Doubles.{clampOf, maxZeroOf}
+use Rattle.doubles.specs.Doubles.{clampOf, maxZeroOf, #0, #½, #1, #2}
 use Rattle.doubles.specs.Root.{sqrtOf}
 use Rattle.error.specs.Refusals.{numberOf, Answer, value, refusal}
 use Rattle.rays.specs.declared.vector.Vec3.{Vec3}
@@ -10,18 +10,6 @@ use Rattle.rays.specs.Vectors.{dotOf, plusOf, minusOf, scaleOf, normalizeOf}
 use Rattle.rays.specs.Rays.{offset, newRayOf}
 use Rattle.scene.specs.declared.NonSeqHit.{NonSeqHit}
 use Rattle.surface.specs.declared.FresnelInteraction as code
-
-abbrev #0 : Float
-#0 = ofBits binary64 0
-
-abbrev #½ : Float
-#½ = ofBits binary64 0x3fe0000000000000
-
-abbrev #1 : Float
-#1 = ofBits binary64 0x3ff0000000000000
-
-abbrev #2 : Float
-#2 = ofBits binary64 0x4000000000000000
 
 -- a ray along d that starts 1e-6 from p, with the wavelength of r; 16 for a part that isn't finite
 unfoldable pub leavingOf : Ray → Vec3 → Vec3 → Float → Answer Ray

@@ -11,9 +11,10 @@ use Rattle.detectors.specs.declared.Detectors.{Detectors}
 use Rattle.detectors.specs.Detectors.{detectorAt}
 use Rattle.detector.specs.declared.DetectorHit.{DetectorHit}
 use Rattle.memory.specs.Memory.{Memory, isMemory, capacity}
-use Rattle.memory.specs.Plain.{Empty, viewIn, partIn, #0}
+use Rattle.memory.specs.Plain.{Empty, viewIn, partIn}
 use Rattle.trace.specs.Trace.{Batch, checkBatch}
 use Rattle.theorems_calls.specs.Calls.{bareDetector, bare, withUsed, plainHit, zeroView}
+use Rattle.doubles.specs.Doubles.{#0}
 
 -- ---- lists of one value
 

@@ -3,7 +3,7 @@ use mathlib.Core.Path.{_≡_, refl, ap, subst}
 use mathlib.Core.List.{List, [], _∷_}
 use lib.Ieee.{Float, nan, binary64, add, sub, mul, div, neg, lt, le, ofBits, toBits, ofInt, toUnsigned}
 use lib.ListN.{length, replicate, getD-replicate}
-use Rattle.doubles.specs.Doubles.{absOf, clampOf, isFiniteOf}
+use Rattle.doubles.specs.Doubles.{absOf, clampOf, isFiniteOf, #0, #1, #4, #10}
 use Rattle.doubles.specs.Root.{sqrtOf}
 use Rattle.error.specs.Refusals.{passed}
 use Rattle.rays.specs.Rays.{atOf, isFiniteRayOf, isValidRayOf}
@@ -31,18 +31,6 @@ use Rattle.theorems_calls.specs.Parts.{Part, AllExact, noRays, joinedAll
 use Rattle.theorems_calls.specs.Calls.{Call, tracing, recording, refilter, rays, wishIn, memoryAfter, bare, plainHit, bookTraced, bookRecorded, bookGranted, bookAfter, Told}
 use Rattle.theorems_calls.proofs.Split.{split}
 use Rattle.theorems_calls.proofs.Lists.{told}
-
-abbrev #0 : Float
-#0 = ofBits binary64 0
-
-abbrev #1 : Float
-#1 = ofBits binary64 0x3ff0000000000000
-
-abbrev #4 : Float
-#4 = ofBits binary64 0x4010000000000000
-
-abbrev #10 : Float
-#10 = ofBits binary64 0x4024000000000000
 
 abbrev #550 : Float
 #550 = ofBits binary64 0x4081300000000000

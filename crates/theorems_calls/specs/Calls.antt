@@ -9,12 +9,14 @@ use lib.ListN.{length, replicate}
 use Rattle.rays.specs.declared.Ray.{Ray}
 use Rattle.detector.specs.declared.Detector2D.{Detector2D}
 use Rattle.detector.specs.declared.DetectorNo.{DetectorNo}
-use Rattle.detectors.specs.Detectors.{detectorAt, findOf}
+use Rattle.detectors.specs.Detectors.{detectorAt, findOf, maxDetectors}
 use Rattle.detector.specs.declared.DetectorHit.{DetectorHit}
-use Rattle.memory.specs.Memory.{Memory, Outcome, done, refused, memoryLeft, unless, judged, maxCount, listed, cellIn, capacity, isMemory, recordHitClassifiedOf}
-use Rattle.memory.specs.Plain.{View, sharing, numberIn, added, viewIn, plusAll, #0}
+use Rattle.memory.specs.Memory.{Memory, Outcome, done, refused, memoryLeft, unless, judged, listed, cellIn, capacity, isMemory, recordHitClassifiedOf}
+use Rattle.memory.specs.Plain.{View, sharing, numberIn, added, viewIn, plusAll}
 use Rattle.filter.specs.declared.RayPathFilter.{RayPathFilter}
 use Rattle.trace.specs.Trace.{Batch, checkBatch, runOn, traceAfter, traceRaysOf}
+use Rattle.detector.specs.Pixels.{maxCount}
+use Rattle.doubles.specs.Doubles.{#0}
 
 -- ---- calls on the same detectors and memory, each with its arguments besides these
 
@@ -131,6 +133,6 @@ pub record Told (s m : Memory) (b : List DetectorHit) : Type 0 where
   pub list : listed m ≡ b
   -- each detector's maps, total and count are what zeros become when its listed hits are added in list order
   pub views :
-      (d : ℕ) → d < 8 → viewIn m d ≡ plusAll d (detectorAt (s .detectors .list) d) (zeroView (length (viewIn s d .flux)) (length (viewIn s d .hits))) b
+      (d : ℕ) → d < maxDetectors → viewIn m d ≡ plusAll d (detectorAt (s .detectors .list) d) (zeroView (length (viewIn s d .flux)) (length (viewIn s d .hits))) b
   -- and nothing else has changed
   pub memory : m ≡ added s b

@@ -6,6 +6,7 @@ use lib.Ieee.{Float}
 use lib.ListN.{length}
 use Rattle.memory.specs.Memory.{Memory, Outcome, done, refused}
 use Rattle.trace.specs.Trace.{Batch, traceRaysOf}
+use Rattle.given_rays.specs.Given.{rayDoubles, rayWholes}
 
 -- given rays as two lists of numbers, eight doubles and ten whole numbers a ray
 pub record Part : Type 0 where
@@ -15,8 +16,8 @@ pub record Part : Type 0 where
 
 -- the lists are those of just so many rays
 pub record Exact (p : Part) : Type 0 where
-  pub rayValues : length (p .rayValues) ≡ p .rays * 8
-  pub rayTags : length (p .rayTags) ≡ p .rays * 10
+  pub rayValues : length (p .rayValues) ≡ p .rays * rayDoubles
+  pub rayTags : length (p .rayTags) ≡ p .rays * rayWholes
 
 unfoldable pub AllExact : List Part → Type 0
 AllExact [] = Unit

@@ -8,7 +8,7 @@ use lib.Ieee.{Float, binary64, sub, mul, div, lt, le}
 use lib.ListN.{getD}
 use borrow.Author.Tests.{leb-true, eqb-true}
 use Rattle.doubles.proofs.Floats.{clash}
-use Rattle.doubles.specs.Doubles.{isFiniteOf}
+use Rattle.doubles.specs.Doubles.{isFiniteOf, #0, #1}
 use Rattle.doubles.specs.Root.{sqrtOf}
 use Rattle.error.specs.Refusals.{Answer, value, refusal, Checked, passed, refusedAt}
 use Rattle.rays.specs.declared.vector.Vec3.{Vec3}
@@ -23,7 +23,7 @@ use Rattle.scene.specs.declared.NonSeqHit.{NonSeqHit}
 use Rattle.surface.specs.Fresnel.{leavingOf, radicandOf, reflectedDirectionOf, refractedDirectionOf, FresnelInteraction, total, split, totalOf, bothOf, refractOf, computeSnellFresnelInteractionOf, mirroredPowerOf, mirroredOf}
 use Rattle.media.specs.declared.Media.{Media}
 use Rattle.detector.specs.declared.DetectorHit.{DetectorHit}
-use Rattle.memory.specs.Memory.{Memory, Outcome, done, refused, memoryLeft, judged, putOf, recordOf, hasPixel, capacity, cellIn, hitDetector, maxCount, writtenAt}
+use Rattle.memory.specs.Memory.{Memory, Outcome, done, refused, memoryLeft, judged, putOf, recordOf, hasPixel, capacity, cellIn, hitDetector, writtenAt}
 use Rattle.step.specs.declared.ActiveRay.{ActiveRay}
 use Rattle.step.specs.Rays.{Optics, Scene, End, dim, spent, gone, caught, stopped, parted, refusing, endsOf}
 use Rattle.step.specs.Turn.{Met, detector, solid, nothing, indexInOf, beyondOf, partedBy, partedOf, betweenOf, clearOf, mirrorFromOf, mirrorOf, surfaceBy, surfaceOf, caughtByOf, meetsWith, interactOf, takeStepOf}
@@ -32,9 +32,10 @@ use Rattle.run.specs.declared.Progress.{Progress}
 use Rattle.run.specs.Stack.{takenFrom}
 use Rattle.run.specs.Run.{Run, hitInOf, refusalInOf, putFrom, settleWith, isLeft, andThen, stepOn, drive}
 use Rattle.trace.specs.Trace.{Batch, raysIn, sceneIn, allSteps, startOf, runOn, checkBatch, traceAfter, traceRaysOf}
-use Rattle.theorems_marks.specs.Marks.{#0, #1, sentRay}
+use Rattle.theorems_marks.specs.Marks.{sentRay}
 use Rattle.theorems_marks.specs.Refused.{BadSquare, BadIndex, IndexRefused, cosineAt, rootAt, shareAt, mirroredRay, ClearRefused, HitRefused, metBy, SurfaceRefused, TurnRefused, StepRefused, Refusing, RunRefused}
 use Rattle.theorems_marks.proofs.Sent.{leaving-is}
+use Rattle.detector.specs.Pixels.{maxCount}
 
 -- ---- what an outcome says
 

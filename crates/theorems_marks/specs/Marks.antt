@@ -6,7 +6,7 @@ use mathlib.Core.Option.{none, some}
 use mathlib.Core.List.{List, [], _∷_}
 use Prim.Native.Nat.{ℕ}
 use lib.Ieee.{Float, nan, binary64, neg, lt, ofBits}
-use Rattle.doubles.specs.Doubles.{isFiniteOf}
+use Rattle.doubles.specs.Doubles.{isFiniteOf, #0, #½, #1, #2, #4, #5}
 use Rattle.doubles.specs.Root.{sqrtOf}
 use Rattle.error.specs.Refusals.{value}
 use Rattle.rays.specs.declared.vector.Vec3.{Vec3}
@@ -31,35 +31,17 @@ use Rattle.report.specs.declared.NonSeqTraceReport.{NonSeqTraceReport}
 use Rattle.report.specs.Report.{reportAfterOf}
 use Rattle.trace.specs.Trace.{Batch, runOn}
 
-abbrev pub #0 : Float
-#0 = ofBits binary64 0
-
 abbrev pub #-0 : Float
 #-0 = ofBits binary64 0x8000000000000000
 
 abbrev pub #¼ : Float
 #¼ = ofBits binary64 0x3fd0000000000000
 
-abbrev pub #½ : Float
-#½ = ofBits binary64 0x3fe0000000000000
-
 abbrev pub #¾ : Float
 #¾ = ofBits binary64 0x3fe8000000000000
 
-abbrev pub #1 : Float
-#1 = ofBits binary64 0x3ff0000000000000
-
-abbrev pub #2 : Float
-#2 = ofBits binary64 0x4000000000000000
-
 abbrev pub #3 : Float
 #3 = ofBits binary64 0x4008000000000000
-
-abbrev pub #4 : Float
-#4 = ofBits binary64 0x4010000000000000
-
-abbrev pub #5 : Float
-#5 = ofBits binary64 0x4014000000000000
 
 abbrev pub #+z : Vec3
 #+z = vec3 #0 #0 #1

@@ -5,7 +5,7 @@ use mathlib.Core.Bool.{true, false}
 use Prim.Native.Nat.{ℕ, _≤_}
 use lib.Ieee.{Float, binary64, sub, mul, div, lt, le}
 use lib.ListN.{getD}
-use Rattle.doubles.specs.Doubles.{isFiniteOf}
+use Rattle.doubles.specs.Doubles.{isFiniteOf, #0, #1, #2}
 use Rattle.doubles.specs.Root.{sqrtOf}
 use Rattle.error.specs.Refusals.{value}
 use Rattle.rays.specs.declared.Ray.{Ray}
@@ -21,7 +21,7 @@ use Rattle.surface.specs.Fresnel.{cosineOf, radicandOf, reflectedDirectionOf, r
 use Rattle.media.specs.declared.Media.{Media}
 use Rattle.media.specs.Media.{newestOf}
 use Rattle.detector.specs.declared.DetectorHit.{DetectorHit}
-use Rattle.memory.specs.Memory.{Memory, Outcome, done, refused, recordOf, hasPixel, capacity, cellIn, hitDetector, maxCount}
+use Rattle.memory.specs.Memory.{Memory, Outcome, done, refused, recordOf, hasPixel, capacity, cellIn, hitDetector}
 use Rattle.faces.specs.Faces.{nearestDetectorOf}
 use Rattle.step.specs.declared.ActiveRay.{ActiveRay}
 use Rattle.step.specs.Rays.{Optics, Scene, caught}
@@ -30,7 +30,8 @@ use Rattle.run.specs.declared.Progress.{Progress}
 use Rattle.run.specs.Stack.{takenFrom}
 use Rattle.run.specs.Run.{isLeft, stepOn, drive}
 use Rattle.trace.specs.Trace.{Batch, raysIn, sceneIn, startOf, traceRaysOf}
-use Rattle.theorems_marks.specs.Marks.{#0, #1, #2, sentRay}
+use Rattle.theorems_marks.specs.Marks.{sentRay}
+use Rattle.detector.specs.Pixels.{maxCount}
 
 -- ---- 14 and 15: an index
 

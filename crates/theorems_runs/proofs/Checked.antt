@@ -8,7 +8,7 @@ use lib.Dec.{leb}
 use borrow.Author.Tests.{leb-true}
 use lib.Ieee.{le}
 use lib.ListN.{length}
-use Rattle.doubles.specs.Doubles.{isFiniteOf}
+use Rattle.doubles.specs.Doubles.{isFiniteOf, #0}
 use Rattle.error.specs.Refusals.{Checked, passed, refusedAt, after}
 use Rattle.rays.specs.Rays.{isValidRayOf}
 use Rattle.detectors.specs.Detectors.{checkDetectorsOf}
@@ -18,7 +18,7 @@ use Rattle.nearest.proofs.Order.{and-right}
 use Rattle.step.specs.declared.ActiveRay.{ActiveRay}
 use Rattle.step.specs.declared.NonSeqTraceConfig.{NonSeqTraceConfig}
 use Rattle.report.specs.declared.tallies.Tallies.{Tallies}
-use Rattle.report.specs.Report.{#0, startReportOf}
+use Rattle.report.specs.Report.{startReportOf}
 use Rattle.given_rays.specs.Given.{validMediaOf, checkRayOf, checkRaysOf}
 use Rattle.run.specs.Run.{isLeft}
 use Rattle.trace.specs.Trace.{Batch, raysIn, checkFlatOf, checkConfigOf, checkCountsOf, checkRulesOf, checkMemoryOf, checkTraceOf, checkBatch, runOn, traceAfter, traceRaysOf}

@@ -11,10 +11,13 @@ use Rattle.run.specs.declared.stack.Stack.{Stack}
 use Rattle.run.specs.declared.Progress.{Progress}
 use Rattle.run.specs.Stack.{takenFrom, pushedIf, popped, stackAfter}
 use Rattle.theorems_runs.specs.Sums.{Full}
+use Rattle.media.specs.Media.{maxMedia}
+use Rattle.given_rays.specs.Given.{maxGivenMedia}
+use Rattle.trace.specs.Trace.{maxBounces}
 
 pub record Housed (a : ActiveRay) : Type 0 where
-  pub deep : a .media .depth ≤ a .«bounce_count» + 8
-  pub long : length (a .media .list) ≡ 24
+  pub deep : a .media .depth ≤ a .«bounce_count» + maxGivenMedia
+  pub long : length (a .media .list) ≡ maxMedia
   pub reflections : a .«reflection_count» ≤ a .«bounce_count»
   pub tirs : a .«tir_count» ≤ a .«bounce_count»
 
@@ -28,16 +31,16 @@ plainAfter s e = pushedIf (e .second) (pushedIf (e .«first») (popped s) (e .re
 
 -- a ray that goes on has room for one medium more and for one more of every count
 pub record Going (a : ActiveRay) : Type 0 where
-  pub deep : a .media .depth < 24
-  pub bounces : a .«bounce_count» < 16
-  pub reflections : a .«reflection_count» < 16
-  pub tirs : a .«tir_count» < 16
+  pub deep : a .media .depth < maxMedia
+  pub bounces : a .«bounce_count» < maxBounces
+  pub reflections : a .«reflection_count» < maxBounces
+  pub tirs : a .«tir_count» < maxBounces
 
 pub record Roomy (S : Scene) (given : ℕ → ActiveRay) (p : Progress) : Type 0 where
   pub full : Full (p .stack)
   pub after-full : Full (stackAfter (p .stack) (takeStepOf S (nextRay given p)))
   pub after-plain : stackAfter (p .stack) (takeStepOf S (nextRay given p)) ≡ plainAfter (p .stack) (takeStepOf S (nextRay given p))
-  pub long : length (nextRay given p .media .list) ≡ 24
+  pub long : length (nextRay given p .media .list) ≡ maxMedia
   pub going : nextRay given p .«bounce_count» < S .optics .config .«max_bounces» → Going (nextRay given p)
 
 -- every count of a report with w more is at most n

@@ -9,7 +9,7 @@ use Rattle.step.specs.Rays.{Step, End, dim, spent, gone, caught, stopped, parte
 use Rattle.report.specs.declared.tallies.Tallies.{Tallies}
 use Rattle.run.specs.declared.stack.Stack.{Stack}
 use Rattle.run.specs.declared.Progress.{Progress}
-use Rattle.run.specs.Stack.{noRay}
+use Rattle.run.specs.Stack.{noRay, maxStack}
 
 -- f summed over the first n places of a list
 unfoldable pub sumFirst : (ActiveRay → ℕ) → List ActiveRay → ℕ → ℕ
@@ -41,8 +41,8 @@ unfoldable pub share : ℕ → ActiveRay → ℕ
 share b a = 2 ^ (b - a .«bounce_count») - 1
 
 pub record Full (s : Stack) : Type 0 where
-  pub room : length (s .rays) ≡ 17
-  pub small : s .len ≤ 17
+  pub room : length (s .rays) ≡ maxStack
+  pub small : s .len ≤ maxStack
 
 -- Q holds of every place and its ray
 abbrev pub Each : (ℕ → ActiveRay → Type 0) → Stack → Type 0

@@ -13,12 +13,13 @@ use Rattle.faces.specs.declared.Faces.{Faces}
 use Rattle.faces.specs.Faces.{newFacesOf}
 use Rattle.step.specs.Rays.{listedScene}
 use Rattle.report.specs.declared.NonSeqTraceReport.{NonSeqTraceReport}
-use Rattle.report.specs.Report.{startReportOf, #0}
+use Rattle.report.specs.Report.{startReportOf}
 use Rattle.run.specs.declared.Progress.{Progress}
 use Rattle.run.specs.declared.Advanced.{Advanced}
 use Rattle.run.specs.Run.{drive, asAdvanced}
 use Rattle.trace.specs.declared.Traced.{Traced}
 use Rattle.trace.specs.Trace.{Batch, raysIn, checkTraceOf, checkBatch, allSteps, startOf, runOn, traced, traceRaysOf, answerOf, asTraced}
+use Rattle.doubles.specs.Doubles.{#0}
 
 module _ (B : Batch) (s : Memory) (c : Check)
     (said : asChecked c ≡ checkTraceOf B (s .detectors) (length (s .flux)) (length (s .hits)) (length (s .hitValues)) (length (s .hitTags)) (s .used)) where

@@ -5,9 +5,9 @@ use mathlib.Core.List.{List}
 use lib.Dec.{leb}
 use lib.Ieee.{Float, binary64, ofBits, le}
 use lib.ListN.{length}
-use Rattle.doubles.specs.Doubles.{isFiniteOf}
+use Rattle.doubles.specs.Doubles.{isFiniteOf, #0}
 use Rattle.error.specs.Refusals.{Checked, passed, refusedAt, after}
-use Rattle.scene.specs.Solids.{checkSolidsOf}
+use Rattle.scene.specs.Solids.{checkSolidsOf, maxSolids}
 use Rattle.detectors.specs.declared.Detectors.{Detectors}
 use Rattle.detectors.specs.Detectors.{checkDetectorsOf}
 use Rattle.detector.specs.declared.DetectorHit.{DetectorHit}
@@ -17,8 +17,8 @@ use Rattle.step.specs.declared.NonSeqTraceConfig.{NonSeqTraceConfig}
 use Rattle.step.specs.declared.ActiveRay.{ActiveRay}
 use Rattle.step.specs.Rays.{Scene, listedScene}
 use Rattle.report.specs.declared.NonSeqTraceReport.{NonSeqTraceReport}
-use Rattle.report.specs.Report.{startReportOf, #0}
-use Rattle.given_rays.specs.Given.{givenAtOf, checkListsOf, checkRaysOf, launchedOf}
+use Rattle.report.specs.Report.{startReportOf}
+use Rattle.given_rays.specs.Given.{givenAtOf, checkListsOf, checkRaysOf, launchedOf, maxRays}
 use Rattle.run.specs.declared.Progress.{Progress}
 use Rattle.run.specs.declared.Advanced.{Advanced}
 use Rattle.run.specs.Stack.{emptyStackOf}
@@ -47,16 +47,19 @@ raysIn B = givenAtOf (B .rayValues) (B .rayTags)
 unfoldable pub checkFlatOf : Batch → Checked Unit
 checkFlatOf B = after (checkSolidsOf (B .solidValues) (B .solidTags) (B .solids)) (checkListsOf (length (B .rayValues)) (length (B .rayTags)) (B .rays))
 
+abbrev pub maxBounces : ℕ
+maxBounces = 16
+
 -- 1, then 2
 unfoldable pub checkConfigOf : NonSeqTraceConfig → Checked Unit
 checkConfigOf g =
     cond (isFiniteOf (g .«min_power_threshold») && le #0 (g .«min_power_threshold»))
-    (cond (leb (g .«max_bounces») 16) (passed tt) (refusedAt 2 0))
+    (cond (leb (g .«max_bounces») maxBounces) (passed tt) (refusedAt 2 0))
     (refusedAt 1 0)
 
 -- 3 for solids and rays
 unfoldable pub checkCountsOf : ℕ → ℕ → Checked Unit
-checkCountsOf solids rays = cond (leb solids 32 && leb rays 4096) (passed tt) (refusedAt 3 0)
+checkCountsOf solids rays = cond (leb solids maxSolids && leb rays maxRays) (passed tt) (refusedAt 3 0)
 
 unfoldable pub checkRulesOf : NonSeqTraceConfig → ℕ → ℕ → Checked Unit
 checkRulesOf g solids rays = after (checkConfigOf g) (checkCountsOf solids rays)

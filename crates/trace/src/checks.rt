@@ -2,6 +2,8 @@
 use detectors::Detectors;
 use error::Check;
 use error::NonSeqError;
+use given_rays::MAX_RAYS;
+use scene::MAX_SOLIDS;
 use step::NonSeqTraceConfig;
 ghost use mathlib.Core.Path.{_≡_};
 ghost use Rattle.error.specs.Refusals.{asChecked};
@@ -25,6 +27,9 @@ fn check_flat(
     }
 }
 
+// The largest bounce limit (else 2).
+const MAX_BOUNCES: u32 = 16;
+
 // The threshold (1), then the bounce limit (2).
 fn check_config(config: NonSeqTraceConfig) -> Check
     ensures { λ r. ⌜ asChecked r ≡ checkConfigOf config ⌝ }
@@ -32,7 +37,7 @@ fn check_config(config: NonSeqTraceConfig) -> Check
     let threshold = config.min_power_threshold;
     if doubles::is_finite(threshold) {
         if threshold >= 0.0 {
-            if config.max_bounces <= 16 {
+            if config.max_bounces <= MAX_BOUNCES {
                 return Check::Passed;
             }
             return Check::Refused {
@@ -51,8 +56,8 @@ fn check_config(config: NonSeqTraceConfig) -> Check
 fn check_counts(count: u32, given: u32) -> Check
     ensures { λ r. ⌜ asChecked r ≡ checkCountsOf count given ⌝ }
 {
-    if count <= 32 {
-        if given <= 4096 {
+    if count <= MAX_SOLIDS {
+        if given <= MAX_RAYS {
             return Check::Passed;
         }
     }

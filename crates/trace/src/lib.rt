@@ -15,6 +15,9 @@ ghost use Rattle.memory.specs.Memory.{lentMemory};
 ghost use Rattle.given_rays.specs.Given.{givenAtOf};
 ghost use Rattle.trace.specs.Trace.{lentBatch, startOf, answerOf, traceRaysOf, asTraced};
 
+// More steps than any batch takes.
+const ALL_STEPS: u32 = 4294967295;
+
 // The refusal or none, the ledger and tallies, and what goes on: the detectors' records and the number
 // of hits used.
 pub struct Traced {
@@ -108,7 +111,7 @@ pub fn trace_rays(
                 ray_values,
                 ray_tags,
                 progress,
-                4294967295,
+                ALL_STEPS,
                 detectors,
                 flux,
                 hits,

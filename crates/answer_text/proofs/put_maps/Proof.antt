@@ -1,9 +1,10 @@
 -- `answer_text::put_maps` meets its contract. Assumes nothing.
 use borrow.Author.Needs.{needs}
 use Rattle.printing.proofs.Writing.{put-join}
-use Rattle.answer_text.specs.Answer.{bytesOf, mapsText}
+use Rattle.answer_text.specs.Answer.{mapsText}
 use Rattle.answer_text.proofs.put_maps.Statement.{statement}
 use Rattle.answer_text.proofs.put_maps.Tie as tie
+use Rattle.fields.specs.Split.{bytes}
 
 slice-aggregate-put-all : tie.Need-slice-aggregate-put-all
 slice-aggregate-put-all c = search needs
@@ -18,7 +19,7 @@ same-length : tie.Need-same-length
 same-length c = search needs
 
 returns : tie.Need-returns
-unfolding bytesOf mapsText
+unfolding bytes mapsText
 returns c = put-join _ _ _ _ _ _ _ (c .before .before .before .before .before .before .put-all .ensures) (c .before .before .put-maps .ensures)
 
 pub put-maps-spec : {M : Type 1} → statement M

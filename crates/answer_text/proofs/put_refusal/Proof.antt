@@ -1,9 +1,10 @@
 -- `answer_text::put_refusal` meets its contract. Assumes nothing.
-use Rattle.answer_text.specs.Answer.{bytesOf, refusalText}
+use Rattle.answer_text.specs.Answer.{refusalText}
 use borrow.Author.Needs.{needs}
 use Rattle.printing.proofs.Writing.{put-join}
 use Rattle.answer_text.proofs.put_refusal.Statement.{statement}
 use Rattle.answer_text.proofs.put_refusal.Tie as tie
+use Rattle.fields.specs.Split.{bytes}
 
 wide-requires : tie.Need-wide-requires
 wide-requires c κs = search needs
@@ -30,7 +31,7 @@ same-length : tie.Need-same-length
 same-length c = search needs
 
 returns : tie.Need-returns
-unfolding bytesOf refusalText
+unfolding bytes refusalText
 returns c =
     put-join _ _ _ _ _ _ _ (c .before .before .before .before .before .before .before .before .put-all .ensures)
     (rw (c .before .before .before .before .before .before .before .before .before .before .before .before .wide .ensures, c .before .before .before .before .before .before .before .before .before .before .before .wide2 .ensures) at (c .before .before .put-row .ensures))

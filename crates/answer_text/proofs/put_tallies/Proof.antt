@@ -1,9 +1,10 @@
 -- `answer_text::put_tallies` meets its contract. Assumes nothing.
-use Rattle.answer_text.specs.Answer.{bytesOf, talliesText}
+use Rattle.answer_text.specs.Answer.{talliesText}
 use borrow.Author.Needs.{needs}
 use Rattle.printing.proofs.Writing.{put-join}
 use Rattle.answer_text.proofs.put_tallies.Statement.{statement}
 use Rattle.answer_text.proofs.put_tallies.Tie as tie
+use Rattle.fields.specs.Split.{bytes}
 
 wide-requires : tie.Need-wide-requires
 wide-requires c κs = search needs
@@ -45,7 +46,7 @@ same-length : tie.Need-same-length
 same-length c = search needs
 
 returns : tie.Need-returns
-unfolding bytesOf talliesText
+unfolding bytes talliesText
 returns c =
     put-join _ _ _ _ _ _ _ (c .before .before .before .before .before .before .before .before .put-all .ensures)
     (rw (c .before .before .before .before .before .before .before .before .before .before .before .before .before .before .before .before .before .wide .ensures, c .before .before .before .before .before .before .before .before .before .before .before .before .before .before .before .before .wide2 .ensures, c .before .before .before .before .before .before .before .before .before .before .before .before .before .before .before .wide3 .ensures, c .before .before .before .before .before .before .before .before .before .before .before .before .before .before .wide4 .ensures, c .before .before .before .before .before .before .before .before .before .before .before .before .before .wide5 .ensures, c .before .before .before .before .before .before .before .before .before .before .before .before .wide6 .ensures, c .before .before .before .before .before .before .before .before .before .before .before .wide7 .ensures) at (c .before .before .put-row .ensures))

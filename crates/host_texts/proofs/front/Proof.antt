@@ -2,9 +2,9 @@
 use mathlib.Core.Path.{sym}
 use lib.Seq.{length-take-le}
 use borrow.Author.Tests.{le-leb, lt-leb}
-use Rattle.host_texts.specs.Texts.{frontOf}
 use Rattle.host_texts.proofs.front.Statement.{statement}
 use Rattle.host_texts.proofs.front.Tie as tie
+use Rattle.fields.specs.Split.{frontOf}
 
 slice-aggregate-result : tie.Need-slice-aggregate-result
 slice-aggregate-result c = sym (length-take-le _ _ (c .before .if1 .taken))

@@ -7,10 +7,10 @@ use mathlib.Core.List.{_++_, append-nil}
 use native.Mathlib.Omega.{arith}
 use lib.ListN.{length, replicate, drop, length-set, set}
 use lib.Seq.{drop-length}
-use Rattle.filter.specs.Filters.{#0}
 use Rattle.filter.proofs.Sift.{fill-more}
 use Rattle.filter.proofs.sifting.clear.Statement.{statement}
 use Rattle.filter.proofs.sifting.clear.Tie as tie
+use Rattle.doubles.specs.Doubles.{#0}
 
 abbrev Inv-loop : tie.InvT-loop
 Inv-loop work₀ p₀ work p = (p ≤ length work₀) × (length work ≡ length work₀) × (work ≡ replicate p #0 ++ drop p work₀)

@@ -52,7 +52,7 @@ use Rattle.host_tracing.specs.declared.answers.HostTraced.{HostTraced}
 use Rattle.host_tracing.specs.declared.slices.GivenRay.{GivenRay}
 use Rattle.memory.specs.Memory.{lentMemory}
 use Rattle.host_tracing.specs.Tracing.{left, hostTraceRaysOf}
-use Rattle.host_tracing.specs.Flat.{laid, flattenOf, flatValues, flatTags, frontOf}
+use Rattle.host_tracing.specs.Flat.{laid, flattenOf, flatValues, flatTags}
 use Rattle.host_tracing.proofs.Laying.{zero-f, zeros, nones, long-f, long-h}
 use Rattle.host_tracing.proofs.Given.{given-is}
 use Rattle.host_tracing.proofs.Arrays.{big-lit, Elems, apart, whole, lend-mut, back-mut, lend-shr, back-shr}
@@ -75,6 +75,7 @@ use Rattle.host_tracing.proofs.slices.nonseq_trace_given_rays.Key.{name
 use Rattle.host_tracing.proofs.slices.nonseq_trace_given_rays as entry
 use Rattle.host_tracing.proofs.slices.nonseq_trace_given_rays.Statement as stated
 use Rattle.host_tracing.proofs.slices.nonseq_trace_given_rays.Code as code
+use Rattle.fields.specs.Split.{frontOf}
 
 abbrev stayed : Stays (entry.ended .signature .params) (entry.ended .kept)
 stayed = (stay-none (λ _. G.the-row) yes, (stay-none-slice (0 ∷ []) tt (plain (λ _. f64)) yes, (stay-none-slice (1 ∷ []) tt (plain (λ _. u32)) yes, (stay-none (λ _. u32) yes, (stay-none-slice (2 ∷ []) tt (plain (λ _. T.the-row)) yes, (stay-none (λ _. D.the-row) yes, (gave-slice (3 ∷ []) tt (plain (λ _. f64)), (gave-slice (4 ∷ []) tt (plain (λ _. u32)), (gave-slice (5 ∷ []) tt (plain (λ _. f64)), (gave-slice (6 ∷ []) tt (plain (λ _. u32)), (stay-none (λ _. usize) yes, tt)))))))))))

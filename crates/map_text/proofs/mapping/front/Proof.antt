@@ -2,9 +2,9 @@
 use mathlib.Core.Path.{sym}
 use lib.Seq.{length-take-le}
 use borrow.Author.Tests.{le-leb, lt-leb}
-use Rattle.map_text.specs.Tables.{frontOf}
 use Rattle.map_text.proofs.mapping.front.Statement.{statement}
 use Rattle.map_text.proofs.mapping.front.Tie as tie
+use Rattle.fields.specs.Split.{frontOf}
 
 slice-aggregate-result : tie.Need-slice-aggregate-result
 slice-aggregate-result c = sym (length-take-le _ _ (c .before .if1 .taken))
