@@ -1,7 +1,7 @@
 -- IEEE 754 `squareRoot`: the value of the format that is nearest to the exact root, a tie to the even one.
 -- There are no real numbers here, so a root is told from another number by comparing squares of whole numbers.
 use Prim.Native.Nat.{ℕ, zero, suc, _+_, _-_, _*_, _/_, _^_, compare}
-use mathlib.Core.Bool.{Bool, true, false, cond, _&&_}
+use mathlib.Core.Bool.{Bool, false, cond, _&&_}
 use lib.Dec.{leb, ltb, eqb}
 use lib.Ieee.{Float, nan, inf, fin, Format, binary64, prec, low, up, down, size, nearest, units}
 

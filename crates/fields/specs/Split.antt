@@ -1,5 +1,5 @@
 -- The parts of a text between the places where a byte stands. A text is the list of its bytes.
-use Prim.Native.Nat.{ℕ, suc, _+_}
+use Prim.Native.Nat.{ℕ, _+_}
 use mathlib.Core.List.{List, [], _∷_}
 use Prim.Native.Char.{code}
 use Prim.Native.String.{String, [] as none, _∷_ as _then_}
@@ -52,6 +52,17 @@ afterOf s at b = cond (ltb (length s) at) at (endAtOf s at b + 1)
 -- the parts from place `at` on
 unfoldable pub partsAt : ℕ → List ℕ → ℕ → List (List ℕ)
 partsAt b s at = cond (ltb (length s) at) [] (split b (drop at s))
+
+-- the first of these, or nothing
+abbrev pub partAtOf : List ℕ → ℕ → ℕ → List ℕ
+partAtOf s at b = getD (partsAt b s at) 0 []
+
+-- part k, or nothing, and how many parts there are
+abbrev pub partOf : List ℕ → ℕ → ℕ → List ℕ
+partOf s b k = getD (split b s) k []
+
+abbrev pub countPartsOf : List ℕ → ℕ → ℕ
+countPartsOf s b = length (split b s)
 
 -- the text is the one byte b
 unfoldable pub isByteOf : List ℕ → ℕ → Bool

@@ -1,9 +1,9 @@
 // The parts of a text between the places where a byte stands.
 ghost use mathlib.Core.Path.{_≡_};
-ghost use mathlib.Core.List.{List, [], _∷_};
+ghost use mathlib.Core.List.{[], _∷_};
 ghost use Prim.Native.Nat.{_+_, _<_};
-ghost use lib.ListN.{length, getD, drop};
-ghost use Rattle.fields.specs.Split.{split, endAtOf, afterOf, partsAt, isByteOf};
+ghost use lib.ListN.{length};
+ghost use Rattle.fields.specs.Split.{endAtOf, afterOf, isByteOf, partAtOf, partOf, countPartsOf};
 
 // The first place from `at` on that holds b, or the text's length where there is none.
 pub fn end_at(s: &[u8], at: usize, b: u8) -> usize
@@ -31,7 +31,7 @@ fn after(s: &[u8], at: usize, b: u8) -> usize
 
 // The part that starts at `at`; empty where none does.
 fn part_at(s: &[u8], at: usize, b: u8) -> &[u8]
-    ensures { λ r. ⌜ now r ≡ getD (partsAt b (now (s .entry)) at) 0 [] ⌝ }
+    ensures { λ r. ⌜ now r ≡ partAtOf (now (s .entry)) at b ⌝ }
 {
     if s.len() < at {
         return &s[0..0];
@@ -42,7 +42,7 @@ fn part_at(s: &[u8], at: usize, b: u8) -> &[u8]
 
 // Part number k, from 0; empty where there are fewer.
 pub fn part(s: &[u8], b: u8, k: usize) -> &[u8]
-    ensures { λ r. ⌜ now r ≡ getD (split b (now (s .entry))) k [] ⌝ }
+    ensures { λ r. ⌜ now r ≡ partOf (now (s .entry)) b k ⌝ }
 {
     let mut at: usize = 0;
     let mut j: usize = 0;
@@ -55,7 +55,7 @@ pub fn part(s: &[u8], b: u8, k: usize) -> &[u8]
 
 // How many parts there are: one more than there are bs.
 pub fn count_parts(s: &[u8], b: u8) -> usize
-    ensures { λ r. ⌜ r ≡ length (split b (now (s .entry))) ⌝ }
+    ensures { λ r. ⌜ r ≡ countPartsOf (now (s .entry)) b ⌝ }
 {
     let mut n: usize = 1;
     let mut i: usize = 0;

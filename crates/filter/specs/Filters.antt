@@ -3,7 +3,7 @@ use Prim.Native.Nat.{ℕ, _+_}
 use mathlib.Core.Bool.{Bool, true, false, cond, _&&_, _||_}
 use mathlib.Core.List.{List, [], _∷_}
 use lib.Dec.{leb, ltb, eqb}
-use lib.Ieee.{Float, nan, binary64, ofBits, add}
+use lib.Ieee.{Float, nan, binary64, add}
 use lib.ListN.{getD, set, replicate}
 use Rattle.detector.specs.declared.DetectorNo.{DetectorNo}
 use Rattle.detector.specs.declared.Detector2D.{Detector2D}

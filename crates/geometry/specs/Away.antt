@@ -1,5 +1,4 @@
 -- Rays that surely run away from a sphere, by the numbers b and c of its equation.
-use Prim.Native.Nat.{ℕ}
 use lib.Dec.{leb, ltb}
 use lib.Ieee.{Float, binary64, lt, toBits}
 use mathlib.Core.Bool.{Bool, _&&_}

@@ -5,7 +5,6 @@ use Rattle.rays.specs.declared.vector.Vec3.{Vec3}
 use Rattle.geometry.specs.declared.LocalHit.{LocalHit}
 use Rattle.geometry.specs.declared.LocalIntersection.{LocalIntersection}
 use Rattle.geometry.specs.declared.LocalIntersection.the-variants.{Hit, Miss}
-use Rattle.doubles.specs.Doubles.{#0, #1}
 
 -- 1e-12: a direction's part below it in size is taken as 0
 abbrev pub parallel : Float

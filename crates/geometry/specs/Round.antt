@@ -1,5 +1,5 @@
 -- Sphere and Cylinder: the candidates are the two roots of a t² + b t + c, tried in this order.
-use lib.Ieee.{Float, binary64, add, sub, mul, div, neg, lt, le, ofBits}
+use lib.Ieee.{Float, binary64, add, sub, mul, div, neg, lt, le}
 use mathlib.Core.Bool.{cond, _&&_}
 use mathlib.Core.Option.{Option, none}
 use Rattle.doubles.specs.Doubles.{absOf, #2, #4, #0}

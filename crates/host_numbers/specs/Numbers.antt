@@ -1,6 +1,5 @@
 -- A refusal as two numbers, its own and its place: 0 and 0 where nothing is refused.
-use Prim.Native.Nat.{ℕ}
-use lib.Ieee.{Float, binary64, ofBits}
+use lib.Ieee.{Float}
 use Rattle.error.specs.Refusals.{Checked, passed, refusedAt}
 use Rattle.host_numbers.specs.declared.HostChecked.{HostChecked}
 use Rattle.host_numbers.specs.declared.HostReading.{HostReading}

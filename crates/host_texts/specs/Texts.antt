@@ -3,7 +3,7 @@ use Prim.Native.Nat.{ℕ}
 use mathlib.Core.Bool.{Bool, false, cond}
 use mathlib.Core.List.{List}
 use lib.Dec.{leb, eqb}
-use lib.ListN.{length, take}
+use lib.ListN.{length}
 use Rattle.error.specs.Refusals.{Checked, passed, refusedAt}
 use Rattle.filter.specs.Filters.{numberedFilterOf}
 use Rattle.report.specs.declared.NonSeqTraceReport.{NonSeqTraceReport}

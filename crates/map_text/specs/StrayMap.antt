@@ -1,7 +1,6 @@
 -- A scene text and its answer.
 use Prim.Native.Nat.{ℕ, _*_}
 use mathlib.Core.List.{List}
-use lib.Ieee.{Float}
 use lib.ListN.{replicate}
 use Rattle.error.specs.Refusals.{Checked, passed, refusedAt}
 use Rattle.answer_text.specs.Answer.{refusalText}

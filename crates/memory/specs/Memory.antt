@@ -100,6 +100,13 @@ textPixels = 4096
 abbrev pub textHits : ℕ
 textHits = 1024
 
+-- a hit's doubles and whole numbers, stored from a place on
+abbrev pub putHitValuesOf : List Float → ℕ → DetectorHit → List Float
+putHitValuesOf l at h = four Float l at (h .«local_x») (h .«local_y») (h .«flux_watts») (h .«wavelength_nm»)
+
+abbrev pub putHitTagsOf : List ℕ → ℕ → DetectorHit → List ℕ
+putHitTagsOf l at h = four ℕ l at (h .detector .0) (h .«bounce_count») (h .«reflection_count») (h .«tir_count»)
+
 -- ---- recording
 
 abbrev pub hitDetector : Memory → DetectorHit → Detector2D
@@ -127,6 +134,10 @@ raised d f =
       «total_rays_hit» = d .«total_rays_hit» + 1;
     }
 
+-- the records with a flux more caught by detector d
+abbrev pub raiseOf : List Detector2D → ℕ → Float → List Detector2D
+raiseOf l d f = set l d (raised (detectorAt l d) f)
+
 -- the hit added to its pixel, at place p, and to its detector, and written behind the list
 unfoldable pub writtenAt : Memory → ℕ → DetectorHit → Memory
 writtenAt s p h =
@@ -134,8 +145,8 @@ writtenAt s p h =
       detectors = record { list = set (s .detectors .list) (h .detector .0) (raised (hitDetector s h) (h .«flux_watts»)); count = s .detectors .count };
       flux = set (s .flux) p (add binary64 (getD (s .flux) p nan) (h .«flux_watts»));
       hits = set (s .hits) p (getD (s .hits) p 0 + 1);
-      hitValues = four Float (s .hitValues) (hitDoubles * s .used) (h .«local_x») (h .«local_y») (h .«flux_watts») (h .«wavelength_nm»);
-      hitTags = four ℕ (s .hitTags) (hitWholes * s .used) (h .detector .0) (h .«bounce_count») (h .«reflection_count») (h .«tir_count»);
+      hitValues = putHitValuesOf (s .hitValues) (hitDoubles * s .used) h;
+      hitTags = putHitTagsOf (s .hitTags) (hitWholes * s .used) h;
       used = s .used + 1;
     }
 

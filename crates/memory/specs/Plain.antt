@@ -4,7 +4,7 @@ use mathlib.Core.Path.{_≡_}
 use mathlib.Core.Bool.{cond, _||_}
 use mathlib.Core.List.{List, [], _∷_, _++_}
 use lib.Dec.{leb, eqb}
-use lib.Ieee.{Float, nan, binary64, ofBits, add}
+use lib.Ieee.{Float, nan, binary64, add}
 use lib.ListN.{length, getD, set, take, drop}
 use Rattle.detector.specs.declared.Detector2D.{Detector2D}
 use Rattle.detector.specs.Pixels.{pixelsOf, pixelAtOf, maxCount}

@@ -4,10 +4,9 @@ use crate::HIT_WHOLES;
 use detector::DetectorHit;
 use detector::DetectorNo;
 ghost use mathlib.Core.Path.{_≡_};
-ghost use Prim.Native.Nat.{ℕ, _+_, _*_, _≤_};
-ghost use lib.Ieee.{Float};
+ghost use Prim.Native.Nat.{_+_, _*_, _≤_};
 ghost use lib.ListN.{length};
-ghost use Rattle.memory.specs.Memory.{readHitOf, noHitOf, hitAtOf, four, hitDoubles, hitWholes};
+ghost use Rattle.memory.specs.Memory.{readHitOf, noHitOf, hitAtOf, hitDoubles, hitWholes, putHitValuesOf, putHitTagsOf};
 
 // Hit i of slices that hold it.
 fn read_hit(hit_values: &[f64], hit_tags: &[u32], i: usize) -> DetectorHit
@@ -59,7 +58,7 @@ pub fn hit_at(hit_values: &[f64], hit_tags: &[u32], i: usize) -> DetectorHit
 
 pub(crate) fn put_hit_values(hit_values: &mut [f64], at: usize, h: DetectorHit)
     requires { ⌜ at + hitDoubles ≤ length (now «hit_values») ⌝ }
-    ensures { λ _. ⌜ now («hit_values» .exit) ≡ four Float (now («hit_values» .entry)) at (h .«local_x») (h .«local_y») (h .«flux_watts») (h .«wavelength_nm») ⌝ }
+    ensures { λ _. ⌜ now («hit_values» .exit) ≡ putHitValuesOf (now («hit_values» .entry)) at h ⌝ }
 {
     hit_values[at] = h.local_x;
     hit_values[at + 1] = h.local_y;
@@ -69,7 +68,7 @@ pub(crate) fn put_hit_values(hit_values: &mut [f64], at: usize, h: DetectorHit)
 
 pub(crate) fn put_hit_tags(hit_tags: &mut [u32], at: usize, h: DetectorHit)
     requires { ⌜ at + hitWholes ≤ length (now «hit_tags») ⌝ }
-    ensures { λ _. ⌜ now («hit_tags» .exit) ≡ four ℕ (now («hit_tags» .entry)) at (h .detector .0) (h .«bounce_count») (h .«reflection_count») (h .«tir_count») ⌝ }
+    ensures { λ _. ⌜ now («hit_tags» .exit) ≡ putHitTagsOf (now («hit_tags» .entry)) at h ⌝ }
 {
     hit_tags[at] = h.detector.0;
     hit_tags[at + 1] = h.bounce_count;

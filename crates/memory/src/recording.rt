@@ -15,9 +15,9 @@ use error::Check;
 use error::NonSeqError;
 ghost use mathlib.Core.Path.{_≡_};
 ghost use Prim.Native.Nat.{_*_, _^_, _≤_, _<_};
-ghost use lib.ListN.{length, set};
+ghost use lib.ListN.{length};
 ghost use Rattle.detectors.specs.Detectors.{detectorAt, maxDetectors};
-ghost use Rattle.memory.specs.Memory.{lentMemory, asRecorded, refusedOf, cellOf, inMapsOf, raised, putOf, recordOf, isHitListOf, areLengthsOf, recordHitClassifiedOf};
+ghost use Rattle.memory.specs.Memory.{lentMemory, asRecorded, refusedOf, cellOf, inMapsOf, putOf, recordOf, isHitListOf, areLengthsOf, recordHitClassifiedOf, raiseOf};
 ghost use Rattle.detector.specs.Pixels.{maxCount};
 
 // The refusal or none, and what goes on: the detectors' records and the number of hits used.
@@ -62,7 +62,7 @@ fn in_maps(p: usize, flux: usize, hits: usize, hit_values: usize, hit_tags: usiz
 // The records with a flux more caught by detector d.
 fn raise(list: [Detector2D; DETECTOR_PLACES], d: usize, flux: f64) -> [Detector2D; DETECTOR_PLACES]
     requires { ⌜ (d < maxDetectors) × (detectorAt list d .«total_rays_hit» < maxCount) ⌝ }
-    ensures { λ r. ⌜ r ≡ set list d (raised (detectorAt list d) flux) ⌝ }
+    ensures { λ r. ⌜ r ≡ raiseOf list d flux ⌝ }
 {
     let mut next = list;
     let mut e = list[d];

@@ -49,6 +49,9 @@ tally b n i j k = record { ok = b; line = n; solids = i; detectors = j; rays = k
 unfoldable pub tallied : Contents → Tally
 tallied c = tally (c .rays .ok) (c .rays .line) (c .solids .rows) (c .detectors .rows) (c .rays .rows)
 
+abbrev pub checkTextOf : List ℕ → Tally
+checkTextOf s = tallied (contentsIn s)
+
 -- The lent slices, doubles and whole numbers of each block in the text's order:
 -- of the run 7 (threshold, a to f) and 3 (bounces, filter, ambient);
 -- of a solid 42 (p, q, r, rho, a to f, m, w) and 4 (shape, active, finish, medium);

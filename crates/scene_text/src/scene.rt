@@ -14,7 +14,7 @@ ghost use Rattle.fields.specs.Split.{split};
 ghost use Rattle.scene_text.specs.Names.{solidNames, solidForm, detectorNames, detectorForm, rayNames, maxText};
 ghost use Rattle.scene_text.specs.Blocks.{readNamesOf, readLinesOf};
 ghost use Rattle.scene_text.specs.Steps.{table, restAt, onto, reading};
-ghost use Rattle.scene_text.specs.Scene.{readRunOf, contentsIn, tally, tallied, slices, doublesIn, wholesIn, filledWith, answer, readSceneOf};
+ghost use Rattle.scene_text.specs.Scene.{readRunOf, contentsIn, tally, slices, doublesIn, wholesIn, filledWith, answer, readSceneOf, checkTextOf};
 
 // The most bytes of a scene text (else 17).
 pub const MAX_TEXT: usize = 65536;
@@ -106,7 +106,7 @@ fn read_blocks(
     ray_tags: &mut [u32],
 ) -> Tallied
     requires { ⌜ length (now s) ≤ maxText ⌝ }
-    ensures { λ r. ⌜ tally (r .ok) (r .line) (r .solids) (r .detectors) (r .rays) ≡ tallied (contentsIn (now (s .entry))) ⌝ }
+    ensures { λ r. ⌜ tally (r .ok) (r .line) (r .solids) (r .detectors) (r .rays) ≡ checkTextOf (now (s .entry)) ⌝ }
     ensures { λ r. ⌜ slices (now («run_values» .exit)) (now («run_tags» .exit)) (now («solid_values» .exit)) (now («solid_tags» .exit)) (now («detector_values» .exit)) (now («detector_tags» .exit)) (now («ray_values» .exit)) (now («ray_tags» .exit))
         ≡ filledWith (contentsIn (now (s .entry))) (slices (now («run_values» .entry)) (now («run_tags» .entry)) (now («solid_values» .entry)) (now («solid_tags» .entry)) (now («detector_values» .entry)) (now («detector_tags» .entry)) (now («ray_values» .entry)) (now («ray_tags» .entry))) ⌝ }
 {
@@ -126,7 +126,7 @@ fn read_blocks(
 // The same with no slice of the caller's: what does not fit into a slice is dropped, whatever its length.
 fn check_text(s: &[u8]) -> Tallied
     requires { ⌜ length (now s) ≤ maxText ⌝ }
-    ensures { λ r. ⌜ tally (r .ok) (r .line) (r .solids) (r .detectors) (r .rays) ≡ tallied (contentsIn (now (s .entry))) ⌝ }
+    ensures { λ r. ⌜ tally (r .ok) (r .line) (r .solids) (r .detectors) (r .rays) ≡ checkTextOf (now (s .entry)) ⌝ }
 {
     let mut a = [0.0f64; 1];
     let mut b = [0u32; 1];

@@ -1,9 +1,8 @@
 -- What becomes of the newest ray, in the order of document 01.
-use Prim.Native.Nat.{ℕ}
-use mathlib.Core.Bool.{Bool, true, false, cond}
+use mathlib.Core.Bool.{true, false, cond}
 use mathlib.Core.Option.{Option, none, some}
 use lib.Dec.{leb}
-use lib.Ieee.{Float, binary64, ofBits, sub, lt, le}
+use lib.Ieee.{Float, binary64, sub, lt, le}
 use Rattle.error.specs.Refusals.{Answer, value, refusal}
 use Rattle.rays.specs.declared.Ray.{Ray}
 use Rattle.material.specs.declared.OpticalMedium.{OpticalMedium}
@@ -57,6 +56,12 @@ partedBy threshold a m (split r t) =
       second = lt threshold (t .energy);
       transmitted = transmittedOf a t m;
     }
+
+abbrev pub allReflectedOf : Float → ActiveRay → Media → Ray → Step
+allReflectedOf threshold a m r = partedBy threshold a m (total r)
+
+abbrev pub bothMadeOf : Float → ActiveRay → Media → Ray → Ray → Step
+bothMadeOf threshold a m r t = partedBy threshold a m (split r t)
 
 unfoldable pub partedOf : Float → ActiveRay → Media → Answer FresnelInteraction → Step
 partedOf threshold a m (value p) = partedBy threshold a m p

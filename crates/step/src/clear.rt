@@ -11,9 +11,9 @@ use scene::NonSeqHit;
 use surface::FresnelInteraction;
 ghost use mathlib.Core.Path.{_≡_};
 ghost use Rattle.material.specs.Media.{asIndex};
-ghost use Rattle.surface.specs.Fresnel.{total, split, asInteraction};
+ghost use Rattle.surface.specs.Fresnel.{total, asInteraction};
 ghost use Rattle.step.specs.Rays.{listedOptics, asStep};
-ghost use Rattle.step.specs.Turn.{indexInOf, beyondOf, partedBy, partedOf, betweenOf, clearOf};
+ghost use Rattle.step.specs.Turn.{indexInOf, beyondOf, partedOf, betweenOf, clearOf, allReflectedOf, bothMadeOf};
 
 // The index of the newest medium, else of the ambient.
 fn index_in(
@@ -47,7 +47,7 @@ fn beyond(media: Media, hit: NonSeqHit) -> Media
 }
 
 fn all_reflected(threshold: f64, a: ActiveRay, media: Media, ray: Ray) -> Step
-    ensures { λ r. ⌜ asStep r ≡ partedBy threshold a media (total ray) ⌝ }
+    ensures { λ r. ⌜ asStep r ≡ allReflectedOf threshold a media ray ⌝ }
 {
     Step {
         end: End::Parted {
@@ -64,7 +64,7 @@ fn all_reflected(threshold: f64, a: ActiveRay, media: Media, ray: Ray) -> Step
 
 // Transmitted power at most 0 counts as total reflection.
 fn both_made(threshold: f64, a: ActiveRay, media: Media, reflected: Ray, transmitted: Ray) -> Step
-    ensures { λ r. ⌜ asStep r ≡ partedBy threshold a media (split reflected transmitted) ⌝ }
+    ensures { λ r. ⌜ asStep r ≡ bothMadeOf threshold a media reflected transmitted ⌝ }
 {
     let tir = transmitted.energy <= 0.0;
     Step {

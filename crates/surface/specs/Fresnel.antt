@@ -1,6 +1,6 @@
 -- Reflection and refraction: Snell's law and Fresnel's equations for unpolarised light (M. Born and E. Wolf, Principles of Optics, 1.5). The order of the operations is trace.rs's.
 use mathlib.Core.Bool.{cond}
-use lib.Ieee.{Float, binary64, ofBits, add, sub, mul, div, neg, le}
+use lib.Ieee.{Float, binary64, add, sub, mul, div, neg, le}
 use Rattle.doubles.specs.Doubles.{clampOf, maxZeroOf, #0, #½, #1, #2}
 use Rattle.doubles.specs.Root.{sqrtOf}
 use Rattle.error.specs.Refusals.{numberOf, Answer, value, refusal}

@@ -12,7 +12,7 @@ use Rattle.detector.specs.declared.Detector2D.{Detector2D}
 use Rattle.detector.specs.declared.face.Crossing.{Crossing}
 use Rattle.detector.specs.Faces.{faceOf, faceIntersectRayOf}
 use Rattle.detector.specs.Pixels.{indexAlongOf, pixelAreaM2Of, irradianceOf}
-use Rattle.test_vectors.specs.Parts.{partIn, hasShapeOf, isRead, isNumber, numberOr0, bitsBetween, doubleAtOf, isDoubleOf, vecAtOf, isDashOf}
+use Rattle.test_vectors.specs.Parts.{partIn, hasShapeOf, isRead, isNumber, numberOr0, areBitsOf, doubleAtOf, isDoubleOf, vecAtOf, isDashOf}
 
 -- ---- for both tables
 
@@ -66,7 +66,7 @@ rayInOf l = record { origin = vecAtOf l 13; direction = vecAtOf l 16; «waveleng
 
 -- the parts before "="
 unfoldable pub isCrossingGivenOf : List ℕ → Bool
-isCrossingGivenOf l = bitsBetween l 0 11 && (isAnyWholeOf l 11 && (isAnyWholeOf l 12 && bitsBetween l 13 19))
+isCrossingGivenOf l = areBitsOf l 0 11 && (isAnyWholeOf l 11 && (isAnyWholeOf l 12 && areBitsOf l 13 19))
 
 unfoldable pub isCrossingAtOf : List ℕ → Detector2D → Crossing → Bool
 isCrossingAtOf l d c =
@@ -89,7 +89,7 @@ gridInOf l = gridOf (doubleAtOf l 0) (doubleAtOf l 1) (wholeAtOf l 2) (wholeAtOf
 
 -- the number of parts, "=", and the parts before it
 unfoldable pub isRecordingGivenOf : List ℕ → Bool
-isRecordingGivenOf l = (hasShapeOf l 12 7 && bitsBetween l 0 2) && (isAnyWholeOf l 2 && (isAnyWholeOf l 3 && bitsBetween l 4 7))
+isRecordingGivenOf l = (hasShapeOf l 12 7 && areBitsOf l 0 2) && (isAnyWholeOf l 2 && (isAnyWholeOf l 3 && areBitsOf l 4 7))
 
 unfoldable pub isPixelOf : List ℕ → Detector2D → Bool
 isPixelOf l d = isIndexOf l 8 (doubleAtOf l 4) (d .«width_mm») (d .«res_x») && isIndexOf l 9 (doubleAtOf l 5) (d .«height_mm») (d .«res_y»)

@@ -20,7 +20,7 @@ use Rattle.rays.specs.declared.Ray.{Ray}
 use Rattle.rays.specs.Vectors.{dotOf, crossOf, plusOf, minusOf, scaleOf, divideOf, negateOf, normOf, normalizeOf}
 use Rattle.rays.specs.Matrices.{transformPointOf, transformDirectionOf, transformNormalOf}
 use Rattle.rays.specs.Rays.{atOf}
-use Rattle.test_vectors.specs.Parts.{partIn, hasShapeOf, isNumber, bitsAtOf, bitsBetween, doubleAtOf, isDoubleOf, isGivenOf, vecAtOf, isVecOf, matAtOf}
+use Rattle.test_vectors.specs.Parts.{partIn, hasShapeOf, isNumber, bitsAtOf, areBitsOf, doubleAtOf, isDoubleOf, isGivenOf, vecAtOf, isVecOf, matAtOf}
 use Rattle.test_vectors.specs.SceneLines.{shapeLineOf, solidLineOf}
 use Rattle.test_vectors.specs.DetectorLines.{crossingLineOf, recordingLineOf}
 
@@ -91,7 +91,7 @@ isAnswerOf t (refusal n) = isRefusalOf t n
 
 unfoldable pub indexOfMedium : Read → List ℕ → Bool
 indexOfMedium (number n) l =
-    cond (ltb lastMedium n) false ((hasShapeOf l 10 8 && bitsBetween l 1 8) && isAnswerOf (partIn l 9) (refractiveIndexOf (mediumOf n l) (doubleAtOf l 7)))
+    cond (ltb lastMedium n) false ((hasShapeOf l 10 8 && areBitsOf l 1 8) && isAnswerOf (partIn l 9) (refractiveIndexOf (mediumOf n l) (doubleAtOf l 7)))
 indexOfMedium malformed l = false
 
 -- medium, its six coefficients, wavelength = index, or r with the number of the refusal

@@ -43,12 +43,12 @@ bitsFrom l k zero = true
 bitsFrom l k (suc n) = cond (isRead (readBitsOf (partIn l k))) (bitsFrom l (k + 1) n) false
 
 -- the parts from `from` on and before `to` are
-abbrev pub bitsBetween : List ℕ → ℕ → ℕ → Bool
-bitsBetween l from to = bitsFrom l from (to - from)
+abbrev pub areBitsOf : List ℕ → ℕ → ℕ → Bool
+areBitsOf l from to = bitsFrom l from (to - from)
 
 -- as `hasShapeOf`, and the parts before "=" are bits
 unfoldable pub isGivenOf : List ℕ → ℕ → ℕ → Bool
-isGivenOf l n k = hasShapeOf l n k && bitsBetween l 0 k
+isGivenOf l n k = hasShapeOf l n k && areBitsOf l 0 k
 
 unfoldable pub doubleAtOf : List ℕ → ℕ → Float
 doubleAtOf l k = ofBits binary64 (bitsAtOf l k)

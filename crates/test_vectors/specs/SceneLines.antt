@@ -13,7 +13,7 @@ use Rattle.geometry.specs.Shapes.{lastShape, numberedGeometryOf, intersectLocal
 use Rattle.scene.specs.declared.NonSeqHit.{NonSeqHit}
 use Rattle.scene.specs.declared.NonSeqObject.{NonSeqObject}
 use Rattle.scene.specs.Objects.{intersectOf}
-use Rattle.test_vectors.specs.Parts.{partIn, hasShapeOf, isNumber, bitsBetween, doubleAtOf, isDoubleOf, vecAtOf, isVecOf, matAtOf, isDashOf}
+use Rattle.test_vectors.specs.Parts.{partIn, hasShapeOf, isNumber, areBitsOf, doubleAtOf, isDoubleOf, vecAtOf, isVecOf, matAtOf, isDashOf}
 
 -- ---- shape, its three sizes, origin and direction = distance and normal, or -
 
@@ -27,7 +27,7 @@ isLocalHitOf l none = hasShapeOf l 12 10 && isDashOf l 11
 unfoldable pub shapeNumbered : Read → List ℕ → Bool
 shapeNumbered (number n) l =
     let r : Ray = record { origin = vecAtOf l 4; direction = vecAtOf l 7; «wavelength_nm» = ofBits binary64 0; energy = ofBits binary64 0 } in
-    cond (ltb lastShape n) false (bitsBetween l 1 10 && isLocalHitOf l (intersectLocalOf (shapeInOf n l 1) r))
+    cond (ltb lastShape n) false (areBitsOf l 1 10 && isLocalHitOf l (intersectLocalOf (shapeInOf n l 1) r))
 shapeNumbered malformed l = false
 
 unfoldable pub shapeLineOf : List ℕ → Bool
@@ -61,7 +61,7 @@ unfoldable pub solidNumbered : Read → List ℕ → Bool
 solidNumbered (number n) l =
     let o = objectInOf n l in
     cond (ltb lastShape n) false
-    ((isNumber (readWholeOf (partIn l 1)) (cond (o .«is_active») 1 0) && bitsBetween l 2 45) && isHitOf l (intersectOf o (rayInOf l)))
+    ((isNumber (readWholeOf (partIn l 1)) (cond (o .«is_active») 1 0) && areBitsOf l 2 45) && isHitOf l (intersectOf o (rayInOf l)))
 solidNumbered malformed l = false
 
 unfoldable pub solidLineOf : List ℕ → Bool

@@ -7,7 +7,7 @@ use rays::Vec3;
 ghost use mathlib.Core.Path.{_≡_};
 ghost use mathlib.Core.Bool.{_&&_, cond};
 ghost use Rattle.fields.specs.Number.{readBitsOf, readWholeOf};
-ghost use Rattle.test_vectors.specs.Parts.{nextOf, partIn, hasShapeOf, isRead, bitsBetween, isNumber, bitsAtOf, doubleAtOf, isDoubleOf, isGivenOf, vecAtOf, isVecOf, rowAtOf, matAtOf, isDashOf};
+ghost use Rattle.test_vectors.specs.Parts.{nextOf, partIn, hasShapeOf, isRead, areBitsOf, isNumber, bitsAtOf, doubleAtOf, isDoubleOf, isGivenOf, vecAtOf, isVecOf, rowAtOf, matAtOf, isDashOf};
 
 pub fn both(a: bool, b: bool) -> bool
     ensures { λ r. ⌜ r ≡ (a && b) ⌝ }
@@ -83,7 +83,7 @@ fn is_any_bits(line: &[u8], k: usize) -> bool
 
 // Whether the parts of a line from `from` on and before `to` are all bits.
 pub fn are_bits(line: &[u8], from: usize, to: usize) -> bool
-    ensures { λ r. ⌜ r ≡ bitsBetween (now (line .entry)) from to ⌝ }
+    ensures { λ r. ⌜ r ≡ areBitsOf (now (line .entry)) from to ⌝ }
 {
     let mut k = from;
     while k < to {
