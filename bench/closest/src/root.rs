@@ -1,7 +1,7 @@
 //! The proved library's square root (crates/doubles/src/root.rt) again in Rust, so that the Rust side
 //! of the comparison can be compiled with the same software root.
 
-fn pins(m: u64, q: u64) -> bool {
+fn is_nearest_root(m: u64, q: u64) -> bool {
     let (h, l) = (q / 0x800_0000, q % 0x800_0000);
     let a = h * h * 4;
     let n = m + 4;
@@ -46,7 +46,7 @@ fn guess(b: u64) -> f64 {
     g + d * (h * (1.75 - g * (h * 1.5)))
 }
 
-fn slow_root(m: u64) -> u64 {
+fn nearest_root(m: u64) -> u64 {
     let (mut n, mut q, mut r) = (m, 0u64, 0u64);
     for _ in 0..53 {
         r = r * 4 + n / 0x10_0000_0000_0000;
@@ -66,11 +66,11 @@ fn root_slowly(b: u64) -> f64 {
     if b < 0x10_0000_0000_0000 {
         let s = b.leading_zeros() as u64 - 11;
         let d = b << s;
-        return f64::from_bits((1022 - s) / 2 * 0x10_0000_0000_0000 + slow_root(d << (s % 2)));
+        return f64::from_bits((1022 - s) / 2 * 0x10_0000_0000_0000 + nearest_root(d << (s % 2)));
     }
     let e = b / 0x10_0000_0000_0000;
     let d = b % 0x10_0000_0000_0000 + 0x10_0000_0000_0000;
-    f64::from_bits((e + 1021) / 2 * 0x10_0000_0000_0000 + slow_root(d << ((e + 1) % 2)))
+    f64::from_bits((e + 1021) / 2 * 0x10_0000_0000_0000 + nearest_root(d << ((e + 1) % 2)))
 }
 
 pub fn sqrt(x: f64) -> f64 {
@@ -87,7 +87,7 @@ pub fn sqrt(x: f64) -> f64 {
             let q = g.to_bits() % 0x10_0000_0000_0000 + 0x10_0000_0000_0000;
             let e = b / 0x10_0000_0000_0000;
             let d = b % 0x10_0000_0000_0000 + 0x10_0000_0000_0000;
-            if pins(d << ((e + 1) % 2), q) {
+            if is_nearest_root(d << ((e + 1) % 2), q) {
                 return f64::from_bits((e + 1021) / 2 * 0x10_0000_0000_0000 + q);
             }
             return root_slowly(b);

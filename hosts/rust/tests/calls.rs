@@ -247,8 +247,8 @@ fn texts() {
 /// What is read can be traced.
 #[test]
 fn a_text_read_and_traced() {
-    let text = include_bytes!("../../../crates/worked/data/lens.txt");
-    let answer = include_bytes!("../../../crates/worked/data/lens.answer.txt");
+    let text = include_bytes!("../../../crates/test_worked/data/lens.txt");
+    let answer = include_bytes!("../../../crates/test_worked/data/lens.answer.txt");
     let s = read_scene(text).unwrap();
     let v = |i: usize| Vec3::new(s.faces[i], s.faces[i + 1], s.faces[i + 2]);
     let d = Detector::new(v(0), v(3), v(6), (s.faces[9], s.faces[10]), (s.sizes[0], s.sizes[1])).unwrap();

@@ -7,7 +7,7 @@
 //!   scenegen bench SEED N        ns per interaction of the original
 //!   scenegen vectors DIR         tables of single functions of the original (hex bits, printed style)
 //!   scenegen scenes DIR          DIR/scenes_1.txt and _2.txt, small scenes with the original's answers, and DIR/stdout,
-//!                                what crates/scenes prints of them
+//!                                what crates/test_scenes prints of them
 //!   scenegen worked DIR          the worked scenes and texts that are refused, with their answers (head of worked.rs)
 //! A SEED of the form tN is the "typical" bench scene number N (8 solids, 2 detectors).
 use nalgebra::{Matrix4, Vector4};

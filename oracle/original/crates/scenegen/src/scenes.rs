@@ -1,4 +1,4 @@
-//! Small scenes for the program `scenes` in two files: a line with the first one's number and how many there
+//! Small scenes for the program `test_scenes` in two files: a line with the first one's number and how many there
 //! are, then four lines each, numbers at single spaces, doubles as `hx` writes them:
 //!   1 given: fresh (1 if the memory is emptied before), solids, solids told, detectors, detectors told,
 //!     rays, rays told, pixels lent, room for hits, hits used, bounce limit, ambient medium; of each solid
@@ -458,7 +458,7 @@ fn count(t: &mut Tally, c: &Case, e: &Expected) {
     for k in 0..32 { t.flags[k] += e.flags[k] as u32; }
 }
 
-/// What crates/scenes prints where all agree.
+/// What crates/test_scenes prints where all agree.
 fn expected_text(t: &Tally) -> String {
     let mut o = String::new();
     let _ = writeln!(o, "scenes: {0} of {0}", t.all);
