@@ -37,7 +37,8 @@ ledgerText r =
 
 unfoldable pub talliesText : Tallies → List ℕ
 talliesText t =
-    named "made dim spent caught gone surface weak" ++ rowText (t .made ∷ t .dim ∷ t .spent ∷ t .caught ∷ t .gone ∷ t .surface ∷ t .weak ∷ []) []
+    named "made dim spent caught gone surface weak" ++ rowText
+    (t .made ∷ t .dim ∷ t .spent ∷ t .caught ∷ t .gone ∷ t .surface ∷ t .weak ∷ []) []
 
 -- ---- detectors: what the memory holds of them
 
@@ -66,12 +67,14 @@ gridAtOf ds d = gridFrom (atOf ds (record { 0 = d }))
 -- what a filter hands back of detector d: map, total and count
 unfoldable pub shownOf : Held → RayPathFilter → ℕ → Handed
 shownOf m f d =
-    filteredPixelFluxOf (m .detectors) (record { 0 = d }) f (m .flux) (take (gridAtOf (m .detectors) d .pixels) (replicate textPixels #0)) (m .hitValues) (m .hitTags) (m .used)
+    filteredPixelFluxOf (m .detectors) (record { 0 = d }) f (m .flux)
+    (take (gridAtOf (m .detectors) d .pixels) (replicate textPixels #0)) (m .hitValues) (m .hitTags) (m .used)
 
 -- hits and flux are under the filter, signal and stray are always the full counts
 unfoldable pub detectorText : Held → RayPathFilter → ℕ → List ℕ
 detectorText m f d =
-    rowText (d ∷ shownOf m f d .count ∷ shownOf m SignalOnly d .count ∷ shownOf m StrayLight d .count ∷ []) (shownOf m f d .total ∷ [])
+    rowText (d ∷ shownOf m f d .count ∷ shownOf m SignalOnly d .count ∷ shownOf m StrayLight d .count ∷ [])
+    (shownOf m f d .total ∷ [])
 
 -- ---- pixels
 

@@ -11,7 +11,12 @@ use Rattle.doubles.specs.Doubles.{#0}
 -- 550 nm and 1 W
 unfoldable pub benchRay : Float → Float → Float → Float → Float → Float → Ray
 benchRay ox oy oz dx dy dz =
-    record { origin = vec3 ox oy oz; direction = vec3 dx dy dz; «wavelength_nm» = ofBits binary64 0x4081300000000000; energy = ofBits binary64 0x3ff0000000000000 }
+    record {
+      origin = vec3 ox oy oz;
+      direction = vec3 dx dy dz;
+      «wavelength_nm» = ofBits binary64 0x4081300000000000;
+      energy = ofBits binary64 0x3ff0000000000000;
+    }
 
 unfoldable pub metOf : NonSeqHit → BenchHit
 metOf h =
@@ -32,7 +37,22 @@ metOf h =
     }
 
 unfoldable pub missedOf : BenchHit
-missedOf = record { met = 0; solid = 0; entering = 0; t = #0; x = #0; y = #0; z = #0; nx = #0; ny = #0; nz = #0; gx = #0; gy = #0; gz = #0 }
+missedOf =
+    record {
+      met = 0;
+      solid = 0;
+      entering = 0;
+      t = #0;
+      x = #0;
+      y = #0;
+      z = #0;
+      nx = #0;
+      ny = #0;
+      nz = #0;
+      gx = #0;
+      gy = #0;
+      gz = #0;
+    }
 
 unfoldable pub benchHitOf : Option NonSeqHit → BenchHit
 benchHitOf (some h) = metOf h

@@ -26,16 +26,28 @@ isParallelOf n u = lt (ofBits binary64 0x3fefff2e48e8a71e) (absOf (dotOf (normal
 unfoldable pub checkGridOf : Detector2D → ℕ → Checked Unit
 checkGridOf d place =
     cond (eqb (d .«res_x») 0 || eqb (d .«res_y») 0) (refusedAt 6 place)
-    (cond (leb (d .«res_x») maxRes && leb (d .«res_y») maxRes) (cond (isParallelOf (d .normal) (d .up)) (refusedAt 8 place) (passed tt)) (refusedAt 7 place))
+    (cond (leb (d .«res_x») maxRes && leb (d .«res_y») maxRes)
+    (cond (isParallelOf (d .normal) (d .up)) (refusedAt 8 place) (passed tt)) (refusedAt 7 place))
 
 -- 5, then these
 unfoldable pub checkDetectorOf : Detector2D → ℕ → Checked Unit
-checkDetectorOf d place = cond (isSizeOf (d .«width_mm») && isSizeOf (d .«height_mm»)) (checkGridOf d place) (refusedAt 5 place)
+checkDetectorOf d place =
+    cond (isSizeOf (d .«width_mm») && isSizeOf (d .«height_mm»)) (checkGridOf d place) (refusedAt 5 place)
 
 -- a new detector has caught nothing
 unfoldable pub newDetectorOf : Vec3 → Vec3 → Vec3 → Float → Float → ℕ → ℕ → Checked Detector2D
 newDetectorOf c n u w h resx resy =
-    let d : Detector2D = record { center = c; normal = n; up = u; «width_mm» = w; «height_mm» = h; «res_x» = resx; «res_y» = resy; «total_flux_watts» = ofBits binary64 0; «total_rays_hit» = 0 } in
+    let d : Detector2D = record {
+      center = c;
+      normal = n;
+      up = u;
+      «width_mm» = w;
+      «height_mm» = h;
+      «res_x» = resx;
+      «res_y» = resy;
+      «total_flux_watts» = ofBits binary64 0;
+      «total_rays_hit» = 0;
+    } in
     after (checkDetectorOf d 0) (passed d)
 
 -- what the code's answer says

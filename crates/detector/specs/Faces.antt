@@ -29,7 +29,14 @@ unfoldable pub faceOf : Detector2D → Face
 faceOf d =
     let n = normalizeOf (d .normal) in
     let up = orthogonalOf n (d .up) in
-    record { center = d .center; normal = n; up = up; right = normalizeOf (crossOf up n); «half_width» = half (d .«width_mm»); «half_height» = half (d .«height_mm») }
+    record {
+      center = d .center;
+      normal = n;
+      up = up;
+      right = normalizeOf (crossOf up n);
+      «half_width» = half (d .«width_mm»);
+      «half_height» = half (d .«height_mm»);
+    }
 
 -- what is crossed at a distance; exactly half a size is inside
 unfoldable pub acrossOf : Face → Ray → Float → Option Crossing
@@ -37,7 +44,8 @@ acrossOf f r t =
     let o = minusOf (atOf r t) (f .center) in
     let x = dotOf o (f .right) in
     let y = dotOf o (f .up) in
-    cond (le (absOf x) (f .«half_width») && le (absOf y) (f .«half_height»)) (some (record { t = t; «local_x» = x; «local_y» = y })) none
+    cond (le (absOf x) (f .«half_width») && le (absOf y) (f .«half_height»))
+    (some (record { t = t; «local_x» = x; «local_y» = y })) none
 
 -- 1e-12: a direction whose part along the normal is below it in size is parallel to the face
 abbrev parallel : Float
@@ -57,7 +65,8 @@ asCrossing Miss = none
 
 -- 5 to 8, then 10, then the crossing
 unfoldable pub intersectRayOf : Detector2D → Ray → Checked (Option Crossing)
-intersectRayOf d r = after (checkDetectorOf d 0) (cond (isValidRayOf r) (passed (faceIntersectRayOf (faceOf d) r)) (refusedAt 10 0))
+intersectRayOf d r =
+    after (checkDetectorOf d 0) (cond (isValidRayOf r) (passed (faceIntersectRayOf (faceOf d) r)) (refusedAt 10 0))
 
 abbrev pub asRayCrossing : RayCrossing → Checked (Option Crossing)
 asRayCrossing (Found c) = passed (asCrossing c)

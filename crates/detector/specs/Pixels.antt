@@ -19,15 +19,18 @@ maxCount = 4294967295
 abbrev real : ℕ → Float
 real n = ofInt binary64 (pos n)
 
--- Which of n equal steps along a size a place lies in, from the negative end: (place + size / 2) / size clamped to 0 .. 0.999999, times n, the fraction dropped. NaN goes to 0.
+-- Which of n equal steps along a size a place lies in, from the negative end: (place + size / 2) / size clamped to 0 ..
+-- 0.999999, times n, the fraction dropped. NaN goes to 0.
 unfoldable pub indexAlongOf : Float → Float → ℕ → ℕ
 indexAlongOf x size n =
-    let u = clampOf (div binary64 (add binary64 x (mul binary64 size (ofBits binary64 0x3fe0000000000000))) size) #0 (ofBits binary64 0x3feffffde7210be9) in
+    let u = clampOf (div binary64 (add binary64 x (mul binary64 size (ofBits binary64 0x3fe0000000000000))) size) #0
+    (ofBits binary64 0x3feffffde7210be9) in
     toUnsigned 64 (mul binary64 u (real n))
 
 -- row py, column px at py times resx + px
 unfoldable pub pixelAtOf : Detector2D → Float → Float → ℕ
-pixelAtOf d x y = indexAlongOf y (d .«height_mm») (d .«res_y») * d .«res_x» + indexAlongOf x (d .«width_mm») (d .«res_x»)
+pixelAtOf d x y =
+    indexAlongOf y (d .«height_mm») (d .«res_y») * d .«res_x» + indexAlongOf x (d .«width_mm») (d .«res_x»)
 
 -- how many; a resolution that 7 refuses has none
 unfoldable pub pixelsOf : Detector2D → ℕ
@@ -37,7 +40,8 @@ pixelsOf d = cond (leb (d .«res_x») maxRes && leb (d .«res_y») maxRes) (d .�
 unfoldable pub areaOf : Detector2D → Float
 areaOf d =
     let metres = ofBits binary64 0x3f50624dd2f1a9fc in
-    mul binary64 (div binary64 (mul binary64 (d .«width_mm») metres) (real (d .«res_x»))) (div binary64 (mul binary64 (d .«height_mm») metres) (real (d .«res_y»)))
+    mul binary64 (div binary64 (mul binary64 (d .«width_mm») metres) (real (d .«res_x»)))
+    (div binary64 (mul binary64 (d .«height_mm») metres) (real (d .«res_y»)))
 
 -- 5 to 8, then the area
 unfoldable pub pixelAreaM2Of : Detector2D → Checked Float

@@ -1,4 +1,5 @@
--- Up to 8 detectors: which of them, where its pixels start, and the refusals 3 and 5 to 8 of the list and 4 of an asked one.
+-- Up to 8 detectors: which of them, where its pixels start, and the refusals 3 and 5 to 8 of the list and 4 of an asked
+-- one.
 use Prim.Native.Nat.{ℕ, zero, suc, _+_}
 use mathlib.Core.Bool.{cond}
 use mathlib.Core.List.{List}

@@ -16,11 +16,13 @@ use Rattle.detectors.specs.Detectors.{allPixelsOf, findOf}
 unfoldable pub irradianceInOf : Placed → List Float → ℕ → ℕ → Float
 irradianceInOf p flux px py =
     let d = p .detector in
-    cond (ltb px (d .«res_x») && ltb py (d .«res_y»)) (irradianceOf d (getD flux (p .first + (py * d .«res_x» + px)) nan)) (ofBits binary64 0)
+    cond (ltb px (d .«res_x») && ltb py (d .«res_y»))
+    (irradianceOf d (getD flux (p .first + (py * d .«res_x» + px)) nan)) (ofBits binary64 0)
 
 -- 9 for a map of another length than all pixels
 unfoldable pub irradianceFrom : Detectors → List Float → ℕ → ℕ → Checked Placed → Checked Float
-irradianceFrom ds flux px py (passed p) = cond (eqb (length flux) (allPixelsOf ds)) (passed (irradianceInOf p flux px py)) (refusedAt 9 0)
+irradianceFrom ds flux px py (passed p) =
+    cond (eqb (length flux) (allPixelsOf ds)) (passed (irradianceInOf p flux px py)) (refusedAt 9 0)
 irradianceFrom ds flux px py (refusedAt n place) = refusedAt n place
 
 -- 3, 5 to 8, 4, 9, then the irradiance

@@ -1,4 +1,5 @@
--- The small functions on doubles, over the values of IEEE 754 as the kit's `lib.Ieee` has them: one `nan`, two infinities, and `fin s m e` for ±m * 2 ^ e.
+-- The small functions on doubles, over the values of IEEE 754 as the kit's `lib.Ieee` has them: one `nan`, two
+-- infinities, and `fin s m e` for ±m * 2 ^ e.
 -- From bits, to bits and `as usize` are `lib.Ieee`'s own `ofBits`, `toBits` and `toUnsigned`.
 use mathlib.Core.Bool.{Bool, true, false, cond}
 use lib.Ieee.{Float, nan, inf, fin, lt, ofBits, binary64}
@@ -32,7 +33,8 @@ absOf nan = nan
 absOf (inf s) = inf false
 absOf (fin s m e) = fin false m e
 
--- Rust's `f64::clamp`: lo where x is below it, else hi where x is above it, else x. So NaN stays, and so does a -0 between 0 and 1.
+-- Rust's `f64::clamp`: lo where x is below it, else hi where x is above it, else x. So NaN stays, and so does a -0
+-- between 0 and 1.
 unfoldable pub clampOf : Float → Float → Float → Float
 clampOf x lo hi = cond (lt x lo) lo (cond (lt hi x) hi x)
 

@@ -1,4 +1,5 @@
--- The first guess of the root: a float whose digits are near those of the root. Nothing rests on its value: `root_by` tests it, and has another way where it fails.
+-- The first guess of the root: a float whose digits are near those of the root. Nothing rests on its value: `root_by`
+-- tests it, and has another way where it fails.
 use Prim.Native.Nat.{ℕ, _+_, _-_, _/_, _%_, _^_}
 use lib.Ieee.{Float, binary64, add, sub, mul, ofBits}
 
@@ -23,5 +24,6 @@ guessOf b =
     let g = mul binary64 g1 r1 in
     let h = mul binary64 h1 r1 in
     let d = sub binary64 (sub binary64 x (mul binary64 t t)) (mul binary64 (sub binary64 g t) (add binary64 g t)) in
-    let w = sub binary64 (ofBits binary64 0x3ffc000000000000) (mul binary64 g (mul binary64 h (ofBits binary64 0x3ff8000000000000))) in
+    let w = sub binary64 (ofBits binary64 0x3ffc000000000000)
+    (mul binary64 g (mul binary64 h (ofBits binary64 0x3ff8000000000000))) in
     add binary64 g (mul binary64 d (mul binary64 h w))

@@ -3,7 +3,12 @@ use Prim.Native.Nat.{ℕ}
 use Rattle.error.specs.declared.NonSeqError.{NonSeqError}
 use Rattle.error.specs.declared.Check.{Check}
 use Rattle.error.specs.declared.Check.the-variants.{Passed, Refused}
-use Rattle.error.specs.declared.NonSeqError.the-variants.{InvalidThreshold, BounceLimitTooLarge, ListTooLong, NoSuchDetector, InvalidDetectorSize, ZeroResolution, ResolutionTooLarge, ParallelUp, InvalidSliceLength, InvalidRay, InvalidMedia, HitListFull, HitCountFull, InvalidWavelength, InvalidIndex, RayNotFinite, InvalidSceneText}
+use Rattle.error.specs.declared.NonSeqError.the-variants.{InvalidThreshold, BounceLimitTooLarge, ListTooLong}
+use Rattle.error.specs.declared.NonSeqError.the-variants.{NoSuchDetector, InvalidDetectorSize, ZeroResolution}
+use Rattle.error.specs.declared.NonSeqError.the-variants.{ResolutionTooLarge, ParallelUp, InvalidSliceLength}
+use Rattle.error.specs.declared.NonSeqError.the-variants.{InvalidRay, InvalidMedia, HitListFull, HitCountFull}
+use Rattle.error.specs.declared.NonSeqError.the-variants.{InvalidWavelength, InvalidIndex, RayNotFinite}
+use Rattle.error.specs.declared.NonSeqError.the-variants.{InvalidSceneText}
 
 -- the table's first column
 abbrev pub numberOf : NonSeqError → ℕ

@@ -19,7 +19,8 @@ lastFilter = 4
 
 -- numbers 0 to 4 in this order
 unfoldable pub numberedFilterOf : ℕ → RayPathFilter
-numberedFilterOf n = cond (eqb n 0) All (cond (eqb n 1) SignalOnly (cond (eqb n 2) GhostsOnly (cond (eqb n 3) TirOnly StrayLight)))
+numberedFilterOf n =
+    cond (eqb n 0) All (cond (eqb n 1) SignalOnly (cond (eqb n 2) GhostsOnly (cond (eqb n 3) TirOnly StrayLight)))
 
 abbrev pub isAllOf : RayPathFilter → Bool
 isAllOf All = true
@@ -56,7 +57,11 @@ addAtOf m p x = set m p (add binary64 (getD m p nan) x)
 unfoldable pub addHitOf : Detector2D → Map → DetectorHit → Map
 addHitOf d m h =
     let p = pixelAtOf d (h .«local_x») (h .«local_y») in
-    record { flux = addAtOf (m .flux) p (h .«flux_watts»); total = add binary64 (m .total) (h .«flux_watts»); count = m .count + 1 }
+    record {
+      flux = addAtOf (m .flux) p (h .«flux_watts»);
+      total = add binary64 (m .total) (h .«flux_watts»);
+      count = m .count + 1;
+    }
 
 unfoldable pub plusEach : Detector2D → Map → List DetectorHit → Map
 plusEach d m [] = m

@@ -22,7 +22,8 @@ use Rattle.doubles.specs.Doubles.{#0}
 
 unfoldable pub checkPlaced : Detectors → ℕ → ℕ → ℕ → ℕ → ℕ → Checked Placed → Checked Placed
 checkPlaced ds stored work values tags used (passed p) =
-    cond (eqb stored (allPixelsOf ds) && (eqb work (pixelsOf (p .detector)) && isHitListOf values tags used)) (passed p) (refusedAt 9 0)
+    cond (eqb stored (allPixelsOf ds) && (eqb work (pixelsOf (p .detector)) && isHitListOf values tags used)) (passed p)
+    (refusedAt 9 0)
 checkPlaced ds stored work values tags used (refusedAt n place) = refusedAt n place
 
 -- the asked detector, if slices of these lengths are its stored map, work map and hit list
@@ -47,14 +48,18 @@ fromMap m = handed (passed tt) (m .flux) (m .total) (m .count)
 
 unfoldable pub refilterPlaced : RayPathFilter → DetectorNo → List Float → List DetectorHit → Checked Placed → Handed
 refilterPlaced f asked work hits (passed p) =
-    cond (isAllOf f) (handed (passed tt) work (p .detector .«total_flux_watts») (p .detector .«total_rays_hit»)) (fromMap (refillOf f asked (p .detector) (length work) hits))
+    cond (isAllOf f) (handed (passed tt) work (p .detector .«total_flux_watts») (p .detector .«total_rays_hit»))
+    (fromMap (refillOf f asked (p .detector) (length work) hits))
 refilterPlaced f asked work hits (refusedAt n place) = handed (refusedAt n place) work #0 0
 
-unfoldable pub refilterOf : Detectors → DetectorNo → RayPathFilter → List Float → List Float → List Float → List ℕ → ℕ → Handed
+unfoldable pub refilterOf :
+    Detectors → DetectorNo → RayPathFilter → List Float → List Float → List Float → List ℕ → ℕ → Handed
 refilterOf ds asked f stored work values tags used =
-    refilterPlaced f asked work (hitsFrom values tags used 0) (checkFilterOf ds asked (length stored) (length work) (length values) (length tags) used)
+    refilterPlaced f asked work (hitsFrom values tags used 0)
+    (checkFilterOf ds asked (length stored) (length work) (length values) (length tags) used)
 
--- ---- the part that is handed back: of the stored map for All, else the work map; an empty one where the call is refused
+-- ---- the part that is handed back: of the stored map for All, else the work map; an empty one where the call is
+-- refused
 
 unfoldable pub storedPartOf : Placed → List Float → List Float
 storedPartOf p stored = take (pixelsOf (p .detector)) (drop (p .first) stored)
@@ -63,20 +68,24 @@ unfoldable pub partPlaced : RayPathFilter → List Float → List Float → Chec
 partPlaced f stored work (passed p) = cond (isAllOf f) (storedPartOf p stored) work
 partPlaced f stored work (refusedAt n place) = []
 
-unfoldable pub filteredPartOf : Detectors → DetectorNo → RayPathFilter → List Float → List Float → List Float → List ℕ → ℕ → List Float
+unfoldable pub filteredPartOf :
+    Detectors → DetectorNo → RayPathFilter → List Float → List Float → List Float → List ℕ → ℕ → List Float
 filteredPartOf ds asked f stored work values tags used =
     partPlaced f stored work (checkFilterOf ds asked (length stored) (length work) (length values) (length tags) used)
 
 -- ---- both in one call
 
-unfoldable pub filteredPlaced : RayPathFilter → DetectorNo → List Float → List Float → List DetectorHit → Checked Placed → Handed
+unfoldable pub filteredPlaced :
+    RayPathFilter → DetectorNo → List Float → List Float → List DetectorHit → Checked Placed → Handed
 filteredPlaced f asked stored work hits c =
     let r = refilterPlaced f asked work hits c in
     handed (r .check) (partPlaced f stored (r .map) c) (r .total) (r .count)
 
-unfoldable pub filteredPixelFluxOf : Detectors → DetectorNo → RayPathFilter → List Float → List Float → List Float → List ℕ → ℕ → Handed
+unfoldable pub filteredPixelFluxOf :
+    Detectors → DetectorNo → RayPathFilter → List Float → List Float → List Float → List ℕ → ℕ → Handed
 filteredPixelFluxOf ds asked f stored work values tags used =
-    filteredPlaced f asked stored work (hitsFrom values tags used 0) (checkFilterOf ds asked (length stored) (length work) (length values) (length tags) used)
+    filteredPlaced f asked stored work (hitsFrom values tags used 0)
+    (checkFilterOf ds asked (length stored) (length work) (length values) (length tags) used)
 
 -- what the code's answer says
 abbrev pub asHanded : Filtered → List Float → Handed

@@ -18,7 +18,8 @@ solveOf a b c =
     let disc = sub binary64 (mul binary64 b b) (mul binary64 (mul binary64 #4 a) c) in
     let q = sqrtOf disc in
     cond (lt disc #0) Nothing
-    (Two (div binary64 (sub binary64 (neg b) q) (mul binary64 #2 a)) (div binary64 (add binary64 (neg b) q) (mul binary64 #2 a)))
+    (Two (div binary64 (sub binary64 (neg b) q) (mul binary64 #2 a))
+    (div binary64 (add binary64 (neg b) q) (mul binary64 #2 a)))
 
 unfoldable pub sphereAtOf : Float → Ray → Float → Option LocalHit
 sphereAtOf radius r t = cond (lt minLocalDistance t) (hitAt t (divideOf (atOf r t) radius)) none
@@ -45,7 +46,8 @@ cylinderHitOf radius r t =
 -- exactly the half length is inside
 unfoldable pub cylinderAtOf : Float → Float → Ray → Float → Option LocalHit
 cylinderAtOf radius half r t =
-    cond (lt minLocalDistance t && le (absOf (reachOf (r .origin .z) (r .direction .z) t)) half) (cylinderHitOf radius r t) none
+    cond (lt minLocalDistance t && le (absOf (reachOf (r .origin .z) (r .direction .z) t)) half)
+    (cylinderHitOf radius r t) none
 
 unfoldable pub cylinderAmongOf : Float → Float → Ray → Roots → Option LocalHit
 cylinderAmongOf radius half r (Two t1 t2) = firstThere (cylinderAtOf radius half r t1) (cylinderAtOf radius half r t2)

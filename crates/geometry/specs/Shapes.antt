@@ -17,7 +17,9 @@ abbrev pub lastShape : ℕ
 lastShape = 4
 
 unfoldable pub numberedGeometryOf : ℕ → Float → Float → Float → PrimitiveGeometry
-numberedGeometryOf k p q r = cond (eqb k 0) (Plane p q) (cond (eqb k 1) (Disk p q) (cond (eqb k 2) (Sphere p) (cond (eqb k 3) (Cylinder p q) (Box p q r))))
+numberedGeometryOf k p q r =
+    cond (eqb k 0) (Plane p q) (cond (eqb k 1) (Disk p q)
+    (cond (eqb k 2) (Sphere p) (cond (eqb k 3) (Cylinder p q) (Box p q r))))
 
 -- where a ray meets a shape: the distance and the outward normal, or none
 unfoldable pub intersectLocalOf : PrimitiveGeometry → Ray → Option LocalHit

@@ -41,18 +41,22 @@ wholeRay = record { near = neg (inf false); far = inf false; «near_side» = Uns
 
 -- the near end moved up to t where that is farther: on a tie the earlier axis stays
 unfoldable pub movedNear : Interval → Float → Side → Interval
-movedNear s t side = cond (lt (s .near) t) (record { near = t; far = s .far; «near_side» = side; «far_side» = s .«far_side» }) s
+movedNear s t side =
+    cond (lt (s .near) t) (record { near = t; far = s .far; «near_side» = side; «far_side» = s .«far_side» }) s
 
 unfoldable pub movedFar : Interval → Float → Side → Interval
-movedFar s t side = cond (lt t (s .far)) (record { near = s .near; far = t; «near_side» = s .«near_side»; «far_side» = side }) s
+movedFar s t side =
+    cond (lt t (s .far)) (record { near = s .near; far = t; «near_side» = s .«near_side»; «far_side» = side }) s
 
--- one axis: origin o, direction d, half size h and its two sides; a direction of exactly 1e-12 is parallel, and then the axis cuts nothing
+-- one axis: origin o, direction d, half size h and its two sides; a direction of exactly 1e-12 is parallel, and then
+-- the axis cuts nothing
 unfoldable pub cutBy : Interval → Float → Float → Float → Side → Side → Interval
 cutBy s o d h minus plus =
     let i = div binary64 #1 d in
     let t1 = mul binary64 (sub binary64 (neg h) o) i in
     let t2 = mul binary64 (sub binary64 h o) i in
-    cond (lt parallel (absOf d)) (cond (le #0 i) (movedFar (movedNear s t1 minus) t2 plus) (movedFar (movedNear s t2 plus) t1 minus)) s
+    cond (lt parallel (absOf d))
+    (cond (le #0 i) (movedFar (movedNear s t1 minus) t2 plus) (movedFar (movedNear s t2 plus) t1 minus)) s
 
 -- parallel to an axis's planes and not between them
 unfoldable pub outsideOf : Float → Float → Float → Bool
@@ -74,6 +78,7 @@ hitWithin s =
 unfoldable pub intersectBoxOf : Float → Float → Float → Ray → Option LocalHit
 intersectBoxOf hx hy hz r =
     cond
-    (outsideOf (r .origin .x) (r .direction .x) hx || (outsideOf (r .origin .y) (r .direction .y) hy || outsideOf (r .origin .z) (r .direction .z) hz))
+    (outsideOf (r .origin .x) (r .direction .x) hx ||
+    (outsideOf (r .origin .y) (r .direction .y) hy || outsideOf (r .origin .z) (r .direction .z) hz))
     none
     (hitWithin (insideOf hx hy hz r))

@@ -72,4 +72,5 @@ hitBetweenOf d x y z =
     let far = farEndsOf x y z in
     cond (lt (far .all) (near .all)) none
     (cond (le (far .all) minLocalDistance) none
-    (cond (lt minLocalDistance (near .all)) (sideHitOf (near .all) (nearSideOf d x y z near)) (sideHitOf (far .all) (farSideOf d x y z far))))
+    (cond (lt minLocalDistance (near .all)) (sideHitOf (near .all) (nearSideOf d x y z near))
+    (sideHitOf (far .all) (farSideOf d x y z far))))

@@ -33,7 +33,8 @@ madeRay (value r) = some r
 madeRay (refusal n) = none
 
 unfoldable pub rayAlong : Transform3D → Ray → Option Vec3 → Option Ray
-rayAlong t r (some d) = madeRay (newRayOf (transformPointOf (t .inverse) (r .origin)) d (r .«wavelength_nm») (r .energy))
+rayAlong t r (some d) =
+    madeRay (newRayOf (transformPointOf (t .inverse) (r .origin)) d (r .«wavelength_nm») (r .energy))
 rayAlong t r none = none
 
 -- the ray in the shape's coordinates: its direction is made a unit vector there

@@ -1,4 +1,5 @@
--- The given rays as two lists of numbers, as they stand in the scene text: of each ray the doubles of its origin and direction, wavelength and power, and the whole numbers bounce, number of media and eight media.
+-- The given rays as two lists of numbers, as they stand in the scene text: of each ray the doubles of its origin and
+-- direction, wavelength and power, and the whole numbers bounce, number of media and eight media.
 use Prim.Native.Nat.{ℕ, zero, suc, _+_, _*_}
 use mathlib.Core.Bool.{Bool, true, false, cond, _&&_}
 use mathlib.Core.List.{List, [], _∷_}
@@ -52,7 +53,8 @@ unfoldable pub readMediaOf : List ℕ → ℕ → Media
 readMediaOf t i =
     record {
       list =
-          solidNoAt t i 2 ∷ solidNoAt t i 3 ∷ solidNoAt t i 4 ∷ solidNoAt t i 5 ∷ solidNoAt t i 6 ∷ solidNoAt t i 7 ∷ solidNoAt t i 8 ∷ solidNoAt t i 9
+          solidNoAt t i 2 ∷ solidNoAt t i 3 ∷ solidNoAt t i 4 ∷ solidNoAt t i 5 ∷ solidNoAt t i 6 ∷ solidNoAt t i 7
+          ∷ solidNoAt t i 8 ∷ solidNoAt t i 9
           ∷ noSolid ∷ noSolid ∷ noSolid ∷ noSolid ∷ noSolid ∷ noSolid ∷ noSolid ∷ noSolid
           ∷ noSolid ∷ noSolid ∷ noSolid ∷ noSolid ∷ noSolid ∷ noSolid ∷ noSolid ∷ noSolid ∷ [];
       depth = tagAt t i 1;
@@ -100,7 +102,8 @@ validMediaOf m solids = cond (leb (m .depth) maxGivenMedia) (allSolidsOf (m .lis
 -- 10, then 11
 unfoldable pub checkRayOf : ActiveRay → ℕ → ℕ → Checked Unit
 checkRayOf a solids place =
-    cond (isValidRayOf (a .ray)) (cond (validMediaOf (a .media) solids) (passed tt) (refusedAt 11 place)) (refusedAt 10 place)
+    cond (isValidRayOf (a .ray)) (cond (validMediaOf (a .media) solids) (passed tt) (refusedAt 11 place))
+    (refusedAt 10 place)
 
 -- the n rays from i on, in list order
 unfoldable pub checkRaysOf : (ℕ → ActiveRay) → ℕ → ℕ → ℕ → Checked Unit

@@ -29,7 +29,9 @@ abbrev pub recorded : HostRecorded → List Float → List ℕ → List Float �
 recorded r f h v t = record { answer = r; flux = f; hits = h; hitValues = v; hitTags = t }
 
 abbrev pub recordedWith : ℕ → ℕ → Memory → Recording
-recordedWith n place m = recorded (record { refusal = n; place = place; used = m .used; detectors = m .detectors }) (m .flux) (m .hits) (m .hitValues) (m .hitTags)
+recordedWith n place m =
+    recorded (record { refusal = n; place = place; used = m .used; detectors = m .detectors }) (m .flux) (m .hits)
+    (m .hitValues) (m .hitTags)
 
 abbrev pub recordedFrom : Outcome Memory → Recording
 recordedFrom (done m) = recordedWith 0 0 m
@@ -46,7 +48,8 @@ filtered r m = record { answer = r; work = m }
 
 abbrev pub filteredWith : Checked Unit → List Float → Float → ℕ → Sifted
 filteredWith (passed u) m t n = filtered (record { refusal = 0; place = 0; «total_flux_watts» = t; «hit_count» = n }) m
-filteredWith (refusedAt k place) m t n = filtered (record { refusal = k; place = place; «total_flux_watts» = t; «hit_count» = n }) m
+filteredWith (refusedAt k place) m t n =
+    filtered (record { refusal = k; place = place; «total_flux_watts» = t; «hit_count» = n }) m
 
 abbrev pub filteredFrom : Handed → Sifted
 filteredFrom h = filteredWith (h .check) (h .map) (h .total) (h .count)
@@ -54,7 +57,8 @@ filteredFrom h = filteredWith (h .check) (h .map) (h .total) (h .count)
 -- a number over 4 is no filter (17)
 unfoldable pub hostRefilterOf : Detectors → ℕ → ℕ → List Float → List Float → List Float → List ℕ → ℕ → Handed
 hostRefilterOf ds asked f stored work values tags used =
-    cond (leb f 4) (refilterOf ds (record { 0 = asked }) (numberedFilterOf f) stored work values tags used) (handed (refusedAt 17 0) work #0 0)
+    cond (leb f 4) (refilterOf ds (record { 0 = asked }) (numberedFilterOf f) stored work values tags used)
+    (handed (refusedAt 17 0) work #0 0)
 
 -- ---- where a detector's pixels stand
 

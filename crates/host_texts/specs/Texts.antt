@@ -25,7 +25,8 @@ sceneRead r m = record { answer = r; left = m }
 
 abbrev pub sceneWith : Checked Unit → ℕ → ℕ → ℕ → Slices → SceneRead
 sceneWith (passed u) i j k m = sceneRead (record { refusal = 0; place = 0; solids = i; detectors = j; rays = k }) m
-sceneWith (refusedAt n place) i j k m = sceneRead (record { refusal = n; place = place; solids = i; detectors = j; rays = k }) m
+sceneWith (refusedAt n place) i j k m =
+    sceneRead (record { refusal = n; place = place; solids = i; detectors = j; rays = k }) m
 
 abbrev pub sceneFrom : Answer → SceneRead
 sceneFrom a = sceneWith (a .check) (a .solids) (a .detectors) (a .rays) (a .left)
@@ -46,7 +47,8 @@ isHeldOf ds nf nv nt used = cond (eqb nf (allPixelsOf ds)) (isHitListOf nv nt us
 unfoldable pub heldText : NonSeqTraceReport → ℕ → Held → List ℕ
 heldText r f m =
     cond (leb (length (m .flux)) textPixels)
-    (cond (isHeldOf (m .detectors) (length (m .flux)) (length (m .hitValues)) (length (m .hitTags)) (m .used)) (answerText r (numberedFilterOf f) m) (refusalText 9 0))
+    (cond (isHeldOf (m .detectors) (length (m .flux)) (length (m .hitValues)) (length (m .hitTags)) (m .used))
+    (answerText r (numberedFilterOf f) m) (refusalText 9 0))
     (refusalText 9 0)
 
 abbrev pub textAfter : Checked Unit → List ℕ → List ℕ

@@ -1,4 +1,5 @@
--- Rays that come as structs, laid out in the two flat lists of `given_rays`: of each ray 8 doubles and 10 whole numbers.
+-- Rays that come as structs, laid out in the two flat lists of `given_rays`: of each ray 8 doubles and 10 whole
+-- numbers.
 use Prim.Native.Nat.{ℕ, _+_, _*_}
 use mathlib.Core.Bool.{Bool, cond, _&&_}
 use mathlib.Core.List.{List, [], _∷_, _++_}
@@ -12,7 +13,9 @@ use Rattle.given_rays.specs.Given.{rayDoubles, rayWholes, rayRoom}
 
 -- origin, direction, wavelength, power
 unfoldable pub valuesRow : GivenRay → List Float
-valuesRow r = r .origin .x ∷ r .origin .y ∷ r .origin .z ∷ r .direction .x ∷ r .direction .y ∷ r .direction .z ∷ r .«wavelength_nm» ∷ r .energy ∷ []
+valuesRow r =
+    r .origin .x ∷ r .origin .y ∷ r .origin .z ∷ r .direction .x ∷ r .direction .y ∷ r .direction .z
+    ∷ r .«wavelength_nm» ∷ r .energy ∷ []
 
 -- bounce, number of media, eight media
 unfoldable pub tagsRow : GivenRay → List ℕ
@@ -28,7 +31,7 @@ unfoldable pub flatTags : List GivenRay → List ℕ
 flatTags [] = []
 flatTags (r ∷ rs) = tagsRow r ++ flatTags rs
 
--- ---- as the code lays them out, in two lists with room for 4,097 rays: one more than the limit, so that 3 comes in its order
+-- ---- as the code lays them out, in two lists with room for one ray more than the limit, so that 3 comes in its order
 
 -- how many rays were laid out, and the two lists
 pub record Laid : Type 0 where
@@ -47,7 +50,8 @@ hasRoomOf n nv nt = ltb n rayRoom && (leb (rayRoom * rayDoubles) nv && leb (rayR
 unfoldable pub putRayOf : GivenRay → Laid → Laid
 putRayOf r s =
     cond (hasRoomOf (s .count) (length (s .rayValues)) (length (s .rayTags)))
-    (laid (s .count + 1) (sets (s .rayValues) (s .count * rayDoubles) (valuesRow r)) (sets (s .rayTags) (s .count * rayWholes) (tagsRow r)))
+    (laid (s .count + 1) (sets (s .rayValues) (s .count * rayDoubles) (valuesRow r))
+    (sets (s .rayTags) (s .count * rayWholes) (tagsRow r)))
     s
 
 unfoldable pub flattenOf : List GivenRay → Laid → Laid

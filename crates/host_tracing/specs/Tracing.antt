@@ -49,7 +49,15 @@ left r f h v t = record { answer = r; flux = f; hits = h; hitValues = v; hitTags
 unfoldable pub leftBy : Trace Memory → Left
 leftBy t =
     let m = memoryLeft (t .outcome) in
-    left (record { refusal = refusalNumber (t .outcome); place = refusalPlace (t .outcome); used = m .used; report = t .report; detectors = m .detectors }) (m .flux) (m .hits) (m .hitValues) (m .hitTags)
+    left (record {
+      refusal = refusalNumber (t .outcome);
+      place = refusalPlace
+          (t .outcome);
+      used = m .used;
+      report = t .report;
+      detectors = m .detectors;
+    }) (m .flux) (m .hits) (m .hitValues)
+    (m .hitTags)
 
 -- 17 for an ambient medium that is none, first of all
 unfoldable pub hostTraceRaysOf : HostConfig → List Float → List ℕ → ℕ → List Float → List ℕ → ℕ → Memory → Left

@@ -40,7 +40,8 @@ detectorWholes = 2
 abbrev pub solidRoom : ℕ
 solidRoom = maxSolids + 1
 
--- The numbers of a scene text, block by block: the run's, those of the solids, detectors and rays, and how many lines each of these blocks has
+-- The numbers of a scene text, block by block: the run's, those of the solids, detectors and rays, and how many lines
+-- each of these blocks has
 pub record Tables : Type 0 where
   pub runValues : List Float
   pub runTags : List ℕ
@@ -54,9 +55,22 @@ pub record Tables : Type 0 where
   pub rayTags : List ℕ
   pub rays : ℕ
 
-abbrev pub tables : List Float → List ℕ → List Float → List ℕ → ℕ → List Float → List ℕ → ℕ → List Float → List ℕ → ℕ → Tables
+abbrev pub tables :
+    List Float → List ℕ → List Float → List ℕ → ℕ → List Float → List ℕ → ℕ → List Float → List ℕ → ℕ → Tables
 tables a b c d i e f j g h k =
-    record { runValues = a; runTags = b; solidValues = c; solidTags = d; solids = i; detectorValues = e; detectorTags = f; detectors = j; rayValues = g; rayTags = h; rays = k }
+    record {
+      runValues = a;
+      runTags = b;
+      solidValues = c;
+      solidTags = d;
+      solids = i;
+      detectorValues = e;
+      detectorTags = f;
+      detectors = j;
+      rayValues = g;
+      rayTags = h;
+      rays = k;
+    }
 
 -- number i of a table; NaN and 0 past the end
 unfoldable pub valueOf : List Float → ℕ → Float
@@ -72,7 +86,8 @@ configOf v w =
     record {
       «max_bounces» = wholeOf w 0;
       «min_power_threshold» = valueOf v 0;
-      «ambient_medium» = numberedMediumOf (wholeOf w 2) (valueOf v 1) (valueOf v 2) (valueOf v 3) (valueOf v 4) (valueOf v 5) (valueOf v 6);
+      «ambient_medium» = numberedMediumOf (wholeOf w 2) (valueOf v 1) (valueOf v 2) (valueOf v 3) (valueOf v 4)
+          (valueOf v 5) (valueOf v 6);
     }
 
 -- `-` means All
@@ -111,13 +126,16 @@ unfoldable pub batchIn : Tables → Batch
 batchIn t =
     let n = atMostOf solidRoom (t .solids) in
     let k = atMostOf rayRoom (t .rays) in
-    lentBatch (configOf (t .runValues) (t .runTags)) (frontOf (n * solidDoubles) (t .solidValues)) (frontOf (n * solidWholes) (t .solidTags)) n (frontOf (k * rayDoubles) (t .rayValues)) (frontOf (k * rayWholes) (t .rayTags)) k
+    lentBatch (configOf (t .runValues) (t .runTags)) (frontOf (n * solidDoubles) (t .solidValues))
+    (frontOf (n * solidWholes) (t .solidTags)) n (frontOf (k * rayDoubles) (t .rayValues))
+    (frontOf (k * rayWholes) (t .rayTags)) k
 
 -- room for 1,024 hits
 unfoldable pub memoryIn : Detectors → Memory
 memoryIn ds =
     let p = fewOf (allPixelsOf ds) in
-    lentMemory ds (take p (replicate textPixels #0)) (take p (replicate textPixels 0)) (replicate (textHits * hitDoubles) #0) (replicate (textHits * hitWholes) 0) 0
+    lentMemory ds (take p (replicate textPixels #0)) (take p (replicate textPixels 0))
+    (replicate (textHits * hitDoubles) #0) (replicate (textHits * hitWholes) 0) 0
 
 -- ---- the answer
 
@@ -129,4 +147,6 @@ unfoldable pub traceText : RayPathFilter → Trace Memory → List ℕ
 traceText f t = outcomeText f (t .report) (t .outcome)
 
 unfoldable pub tablesText : Tables → List ℕ
-tablesText t = traceText (meantOf (wholeOf (t .runTags) 1)) (traceRaysOf (batchIn t) (memoryIn (detectorsOf (t .detectorValues) (t .detectorTags) (t .detectors))))
+tablesText t =
+    traceText (meantOf (wholeOf (t .runTags) 1))
+    (traceRaysOf (batchIn t) (memoryIn (detectorsOf (t .detectorValues) (t .detectorTags) (t .detectors))))

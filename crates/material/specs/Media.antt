@@ -1,4 +1,5 @@
--- The refractive index of a medium at a wavelength in nanometres. The formulas take micrometres; the order of the operations is material.rs's.
+-- The refractive index of a medium at a wavelength in nanometres. The formulas take micrometres; the order of the
+-- operations is material.rs's.
 use Prim.Native.Nat.{ℕ}
 use lib.Dec.{eqb}
 use lib.Ieee.{Float, binary64, add, sub, mul, div, lt, le, ofBits}
@@ -25,19 +26,22 @@ abbrev pub lastMedium : ℕ
 lastMedium = 3
 
 unfoldable pub numberedMediumOf : ℕ → Float → Float → Float → Float → Float → Float → OpticalMedium
-numberedMediumOf k a b c d e f = cond (eqb k 0) Air (cond (eqb k 1) (Constant a) (cond (eqb k 2) (Sellmeier1 a b c d e f) (Schott a b c d e f)))
+numberedMediumOf k a b c d e f =
+    cond (eqb k 0) Air (cond (eqb k 1) (Constant a) (cond (eqb k 2) (Sellmeier1 a b c d e f) (Schott a b c d e f)))
 
 -- (λ * 1e-3) squared
 unfoldable pub squareUmOf : Float → Float
 squareUmOf w = let um = mul binary64 w (ofBits binary64 0x3f50624dd2f1a9fc) in mul binary64 um um
 
--- Sellmeier's equation (W. Sellmeier, Annalen der Physik 219, 1871): n² = 1 + B₁λ² / (λ² - C₁) + B₂λ² / (λ² - C₂) + B₃λ² / (λ² - C₃)
+-- Sellmeier's equation (W. Sellmeier, Annalen der Physik 219, 1871): n² = 1 + B₁λ² / (λ² - C₁) + B₂λ² / (λ² - C₂) +
+-- B₃λ² / (λ² - C₃)
 unfoldable pub sellmeierTermOf : Float → Float → Float → Float
 sellmeierTermOf l2 b c = div binary64 (mul binary64 b l2) (sub binary64 l2 c)
 
 unfoldable pub sellmeierOf : Float → Float → Float → Float → Float → Float → Float → Float
 sellmeierOf l2 b1 c1 b2 c2 b3 c3 =
-    add binary64 (add binary64 (add binary64 #1 (sellmeierTermOf l2 b1 c1)) (sellmeierTermOf l2 b2 c2)) (sellmeierTermOf l2 b3 c3)
+    add binary64 (add binary64 (add binary64 #1 (sellmeierTermOf l2 b1 c1)) (sellmeierTermOf l2 b2 c2))
+    (sellmeierTermOf l2 b3 c3)
 
 -- Schott's polynomial, of Schott's earlier glass catalogues: n² = A₀ + A₁λ² + A₂λ⁻² + A₃λ⁻⁴ + A₄λ⁻⁶ + A₅λ⁻⁸
 unfoldable pub schottOf : Float → Float → Float → Float → Float → Float → Float → Float

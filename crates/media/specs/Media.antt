@@ -1,4 +1,5 @@
--- The solids that a ray is inside of, the newest last: 24 places, of which the first `depth` are used. No traced ray uses more; what stands here for one that would keeps the functions total.
+-- The solids that a ray is inside of, the newest last: 24 places, of which the first `depth` are used. No traced ray
+-- uses more; what stands here for one that would keeps the functions total.
 use Prim.Native.Nat.{ℕ, zero, suc, _+_, _-_}
 use mathlib.Core.Bool.{cond, _&&_}
 use mathlib.Core.List.{List}

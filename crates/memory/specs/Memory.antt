@@ -142,7 +142,10 @@ raiseOf l d f = set l d (raised (detectorAt l d) f)
 unfoldable pub writtenAt : Memory → ℕ → DetectorHit → Memory
 writtenAt s p h =
     record {
-      detectors = record { list = set (s .detectors .list) (h .detector .0) (raised (hitDetector s h) (h .«flux_watts»)); count = s .detectors .count };
+      detectors = record {
+        list = set (s .detectors .list) (h .detector .0) (raised (hitDetector s h) (h .«flux_watts»));
+        count = s .detectors .count;
+      };
       flux = set (s .flux) p (add binary64 (getD (s .flux) p nan) (h .«flux_watts»));
       hits = set (s .hits) p (getD (s .hits) p 0 + 1);
       hitValues = putHitValuesOf (s .hitValues) (hitDoubles * s .used) h;
@@ -156,7 +159,8 @@ judged full most m next = cond full (refused 12 0 m) (cond most (refused 13 0 m)
 
 unfoldable pub putOf : Memory → ℕ → DetectorHit → Outcome Memory
 putOf s p h =
-    judged (leb (capacity s) (s .used)) (eqb (getD (s .hits) p 0) maxCount || eqb (hitDetector s h .«total_rays_hit») maxCount) s (writtenAt s p h)
+    judged (leb (capacity s) (s .used))
+    (eqb (getD (s .hits) p 0) maxCount || eqb (hitDetector s h .«total_rays_hit») maxCount) s (writtenAt s p h)
 
 -- whether a place lies in both maps, and the hit slices are alike
 unfoldable pub inMapsOf : ℕ → ℕ → ℕ → ℕ → ℕ → Bool
@@ -166,7 +170,8 @@ inMapsOf p nf nh nv nt = ltb p nf && (ltb p nh && eqb nv nt)
 unfoldable pub hasPixel : Memory → DetectorHit → Bool
 hasPixel s h =
     ltb (h .detector .0) maxDetectors
-    && inMapsOf (cellIn (s .detectors .list) h) (length (s .flux)) (length (s .hits)) (length (s .hitValues)) (length (s .hitTags))
+    && inMapsOf (cellIn (s .detectors .list) h) (length (s .flux)) (length (s .hits)) (length (s .hitValues))
+    (length (s .hitTags))
 
 -- one hit into any memory: wholly or not at all
 unfoldable pub recordOf : Memory → DetectorHit → Outcome Memory
@@ -183,7 +188,9 @@ unfoldable pub areLengthsOf : Detectors → ℕ → ℕ → ℕ → ℕ → ℕ 
 areLengthsOf ds nf nh nv nt used = eqb nf (allPixelsOf ds) && (eqb nh (allPixelsOf ds) && isHitListOf nv nt used)
 
 unfoldable pub isMemory : Memory → Bool
-isMemory s = areLengthsOf (s .detectors) (length (s .flux)) (length (s .hits)) (length (s .hitValues)) (length (s .hitTags)) (s .used)
+isMemory s =
+    areLengthsOf (s .detectors) (length (s .flux)) (length (s .hits)) (length (s .hitValues)) (length (s .hitTags))
+    (s .used)
 
 -- an outcome, unless a check before it refuses and leaves all as it is
 abbrev pub unless : {A M : Type 0} → Checked A → M → Outcome M → Outcome M

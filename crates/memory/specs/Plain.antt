@@ -1,4 +1,5 @@
--- Document 01's plain book: one list of hits. Of the memory s that a list of calls starts from it uses the lengths and the detectors without their totals and counts.
+-- Document 01's plain book: one list of hits. Of the memory s that a list of calls starts from it uses the lengths and
+-- the detectors without their totals and counts.
 use Prim.Native.Nat.{ℕ, _+_, _<_}
 use mathlib.Core.Path.{_≡_}
 use mathlib.Core.Bool.{cond, _||_}
@@ -21,12 +22,14 @@ sharing key x (h ∷ b) = cond (eqb (key h) x) 1 0 + sharing key x b
 abbrev pub numberIn : DetectorHit → ℕ
 numberIn h = h .detector .0
 
--- One hit into the book: 12 if the lent slices hold no more, 13 if 2^32 - 1 listed hits share its pixel or detector, else appended.
+-- One hit into the book: 12 if the lent slices hold no more, 13 if 2^32 - 1 listed hits share its pixel or detector,
+-- else appended.
 unfoldable pub bookHit : Memory → List DetectorHit → DetectorHit → Outcome (List DetectorHit)
 bookHit s b h =
     let cell = cellIn (s .detectors .list) in
     cond (hasPixel s h)
-    (judged (leb (capacity s) (length b)) (eqb (sharing cell (cell h) b) maxCount || eqb (sharing numberIn (h .detector .0) b) maxCount) b (b ++ h ∷ []))
+    (judged (leb (capacity s) (length b))
+    (eqb (sharing cell (cell h) b) maxCount || eqb (sharing numberIn (h .detector .0) b) maxCount) b (b ++ h ∷ []))
     (refused 9 0 b)
 
 -- the memory with the listed hits added in list order

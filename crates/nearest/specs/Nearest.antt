@@ -1,4 +1,5 @@
--- The nearest of several offers. An offer is anything that has a distance; f j is what place j of a list offers, if anything.
+-- The nearest of several offers. An offer is anything that has a distance; f j is what place j of a list offers, if
+-- anything.
 use Prim.Native.Nat.{ℕ, zero, suc, _+_, _<_}
 use mathlib.Core.Path.{_≡_}
 use mathlib.Core.Bool.{Bool, true, false, cond, _&&_}
@@ -41,9 +42,13 @@ NoneCounts A d f n = (j : ℕ) (g : A) → j < n → f j ≡ some g → isCounte
 -- of the first n offers, every one that counts is as far as h or farther, and every one before place i is farther
 abbrev pub NoneNearer : (A : Type 0) → (A → Float) → (ℕ → Option A) → ℕ → ℕ → A → Type 0
 NoneNearer A d f n i h =
-    (j : ℕ) (g : A) → j < n → f j ≡ some g → isCounted (d g) ≡ true → (le (d h) (d g) ≡ true) × (j < i → lt (d h) (d g) ≡ true)
+    (j :
+    ℕ) (g : A) → j < n → f j ≡ some g → isCounted (d g) ≡ true → (le (d h) (d g) ≡ true) ×
+    (j < i → lt (d h) (d g) ≡ true)
 
--- what the nearest of the first n offers is: none, and none counts; or the offer of a place i that counts, and none is nearer
+-- what the nearest of the first n offers is: none, and none counts; or the offer of a place i that counts, and none is
+-- nearer
 abbrev pub IsNearest : (A : Type 0) → (A → Float) → (ℕ → Option A) → ℕ → Option A → Type 0
 IsNearest A d f n none = NoneCounts A d f n
-IsNearest A d f n (some h) = (i : ℕ) × ((i < n) × ((f i ≡ some h) × ((isCounted (d h) ≡ true) × NoneNearer A d f n i h)))
+IsNearest A d f n (some h) =
+    (i : ℕ) × ((i < n) × ((f i ≡ some h) × ((isCounted (d h) ≡ true) × NoneNearer A d f n i h)))

@@ -17,7 +17,8 @@ unfoldable pub hexText : ℕ → ℕ → List ℕ
 hexText zero r = []
 hexText (suc k) r = glyphOf (r / 2 ^ 60) ∷ cond (eqb (r % 2 ^ 60) 0) [] (hexText k (r % 2 ^ 60 * 16))
 
--- the hex digits of a double's bits, trailing zeros dropped, at least one; 7ff8 for NaN, whose bits `toBits` gives as 7ff8000000000000
+-- the hex digits of a double's bits, trailing zeros dropped, at least one; 7ff8 for NaN, whose bits `toBits` gives as
+-- 7ff8000000000000
 unfoldable pub doubleText : Float → List ℕ
 doubleText x = hexText 16 (toBits binary64 x)
 

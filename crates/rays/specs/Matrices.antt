@@ -8,7 +8,8 @@ use Rattle.rays.specs.Vectors.{vec3}
 -- the row times (v, last)
 unfoldable pub rowTimesOf : Row → Vec3 → Float → Float
 rowTimesOf m v last =
-    add binary64 (add binary64 (add binary64 (mul binary64 (m .a) (v .x)) (mul binary64 (m .b) (v .y))) (mul binary64 (m .c) (v .z)))
+    add binary64 (add binary64 (add binary64 (mul binary64 (m .a) (v .x)) (mul binary64 (m .b) (v .y)))
+    (mul binary64 (m .c) (v .z)))
     (mul binary64 (m .d) last)
 
 -- the first three rows times (v, last)

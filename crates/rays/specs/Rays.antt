@@ -25,7 +25,9 @@ atOf r t = plusOf (r .origin) (scaleOf (r .direction) t)
 
 -- all eight parts
 unfoldable pub isFiniteRayOf : Ray → Bool
-isFiniteRayOf r = isFiniteVecOf (r .origin) && isFiniteVecOf (r .direction) && isFiniteOf (r .«wavelength_nm») && isFiniteOf (r .energy)
+isFiniteRayOf r =
+    isFiniteVecOf (r .origin) && isFiniteVecOf (r .direction) && isFiniteOf (r .«wavelength_nm») && isFiniteOf
+    (r .energy)
 
 -- a ray that may be given: what 10 does not refuse
 unfoldable pub isValidRayOf : Ray → Bool

@@ -9,7 +9,8 @@ abbrev pub vec3 : Float → Float → Float → Vec3
 vec3 x y z = record { x = x; y = y; z = z }
 
 unfoldable pub dotOf : Vec3 → Vec3 → Float
-dotOf a b = add binary64 (add binary64 (mul binary64 (a .x) (b .x)) (mul binary64 (a .y) (b .y))) (mul binary64 (a .z) (b .z))
+dotOf a b =
+    add binary64 (add binary64 (mul binary64 (a .x) (b .x)) (mul binary64 (a .y) (b .y))) (mul binary64 (a .z) (b .z))
 
 -- each part a product minus a product
 unfoldable pub crossOf : Vec3 → Vec3 → Vec3

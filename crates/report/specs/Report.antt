@@ -57,18 +57,55 @@ unfoldable pub moreIfOf : Bool → ℕ → ℕ
 moreIfOf b n = cond b (moreOf n) n
 
 unfoldable pub addDimOf : Tallies → Tallies
-addDimOf t = record { made = t .made; dim = moreOf (t .dim); spent = t .spent; caught = t .caught; gone = t .gone; surface = t .surface; weak = t .weak }
+addDimOf t =
+    record {
+      made = t .made;
+      dim = moreOf (t .dim);
+      spent = t .spent;
+      caught = t .caught;
+      gone = t .gone;
+      surface = t .surface;
+      weak = t .weak;
+    }
 
 unfoldable pub addSpentOf : Tallies → Tallies
-addSpentOf t = record { made = t .made; dim = t .dim; spent = moreOf (t .spent); caught = t .caught; gone = t .gone; surface = t .surface; weak = t .weak }
+addSpentOf t =
+    record {
+      made = t .made;
+      dim = t .dim;
+      spent = moreOf (t .spent);
+      caught = t .caught;
+      gone = t .gone;
+      surface = t .surface;
+      weak = t .weak;
+    }
 
 unfoldable pub addCaughtOf : Tallies → Tallies
-addCaughtOf t = record { made = t .made; dim = t .dim; spent = t .spent; caught = moreOf (t .caught); gone = t .gone; surface = t .surface; weak = t .weak }
+addCaughtOf t =
+    record {
+      made = t .made;
+      dim = t .dim;
+      spent = t .spent;
+      caught = moreOf (t .caught);
+      gone = t .gone;
+      surface = t .surface;
+      weak = t .weak;
+    }
 
 unfoldable pub addGoneOf : Tallies → Tallies
-addGoneOf t = record { made = t .made; dim = t .dim; spent = t .spent; caught = t .caught; gone = moreOf (t .gone); surface = t .surface; weak = t .weak }
+addGoneOf t =
+    record {
+      made = t .made;
+      dim = t .dim;
+      spent = t .spent;
+      caught = t .caught;
+      gone = moreOf (t .gone);
+      surface = t .surface;
+      weak = t .weak;
+    }
 
--- a solid was nearest: up to two rays are made; the flags after them say whether the threshold left one unlessMadeOf at a clear surface
+-- a solid was nearest: up to two rays are made; the flags after them say whether the threshold left one unmade at a
+-- clear surface
 unfoldable pub addSurfaceOf : Tallies → Bool → Bool → Bool → Bool → Tallies
 addSurfaceOf t made also weak faint =
     record {
@@ -81,7 +118,7 @@ addSurfaceOf t made also weak faint =
       weak = moreIfOf faint (moreIfOf weak (t .weak));
     }
 
--- whether the threshold left the second ray unlessMadeOf: the missing one of a radicand at most 0 isn't weak
+-- whether the threshold left the second ray unmade: the missing one of a radicand at most 0 isn't weak
 unfoldable pub faintOf : Bool → Bool → Bool
 faintOf total also = cond total false (cond also false true)
 
@@ -129,7 +166,12 @@ countedOf r =
 unfoldable pub startReportOf : ℕ → Float → NonSeqTraceReport
 startReportOf rays launched =
     record {
-      ledger = record { «launched_flux_watts» = launched; «detected_flux_watts» = #0; «absorbed_flux_watts» = #0; «escaped_flux_watts» = #0 };
+      ledger = record {
+        «launched_flux_watts» = launched;
+        «detected_flux_watts» = #0;
+        «absorbed_flux_watts» = #0;
+        «escaped_flux_watts» = #0;
+      };
       «total_rays_traced» = rays;
       «total_interactions» = 0;
       tallies = record { made = 0; dim = 0; spent = 0; caught = 0; gone = 0; surface = 0; weak = 0 };
@@ -139,4 +181,5 @@ startReportOf rays launched =
 unfoldable pub energyConservationRatioOf : Ledger → Float
 energyConservationRatioOf l =
     cond (le (l .«launched_flux_watts») #0) (ofBits binary64 0x3ff0000000000000)
-    (div binary64 (add binary64 (add binary64 (l .«detected_flux_watts») (l .«absorbed_flux_watts»)) (l .«escaped_flux_watts»)) (l .«launched_flux_watts»))
+    (div binary64 (add binary64 (add binary64 (l .«detected_flux_watts») (l .«absorbed_flux_watts»))
+    (l .«escaped_flux_watts»)) (l .«launched_flux_watts»))

@@ -73,23 +73,29 @@ module _ {M : Type 0} (put : M → DetectorHit → Outcome M) where
   settleWith m place found after c none = record { outcome = unless c m (done m); report = after }
 
   abbrev pub settle : M → ℕ → NonSeqTraceReport → Float → Step → Settled M
-  settle m place r power s = settleWith m place r (reportAfterOf r power s) (refusalInOf (s .end) place) (hitInOf (s .end))
+  settle m place r power s =
+      settleWith m place r (reportAfterOf r power s) (refusalInOf (s .end) place) (hitInOf (s .end))
 
   module _ (S : Scene) (given : ℕ → ActiveRay) where
     abbrev pub stepFrom : M → Progress → Taken → Step → Run M
     stepFrom m p t s =
         let r = settle m (t .left) (p .report) (t .ray .ray .energy) s in
-        record { outcome = r .outcome; progress = record { stack = stackAfter (p .stack) s; left = t .left; report = r .report } }
+        record {
+          outcome = r .outcome;
+          progress = record { stack = stackAfter (p .stack) s; left = t .left; report = r .report };
+        }
 
     -- one step: the newest ray is taken, and what becomes of it is settled
     unfoldable pub stepOn : M → Progress → Run M
-    stepOn m p = stepFrom m p (takenFrom given (p .stack) (p .left)) (takeStepOf S (takenFrom given (p .stack) (p .left) .ray))
+    stepOn m p =
+        stepFrom m p (takenFrom given (p .stack) (p .left)) (takeStepOf S (takenFrom given (p .stack) (p .left) .ray))
 
     -- at most k steps, while a ray is left
     unfoldable pub drive : ℕ → M → Progress → Run M
     drive zero m p = record { outcome = done m; progress = p }
     drive (suc k) m p =
-        cond (isLeft p) (andThen (drive k) (stepOn m p .outcome) (stepOn m p .progress)) (record { outcome = done m; progress = p })
+        cond (isLeft p) (andThen (drive k) (stepOn m p .outcome) (stepOn m p .progress))
+        (record { outcome = done m; progress = p })
 
 -- ---- what the code's answers say
 

@@ -54,10 +54,12 @@ pushedIf b s a = cond b (pushed s a) s
 unfoldable pub popped : Stack → Stack
 popped s = record { rays = s .rays; len = s .len - 1 }
 
--- the newest ray is gone, the reflected one is pushed, then the transmitted one; a stack without room for both takes neither, which no tracing meets
+-- the newest ray is gone, the reflected one is pushed, then the transmitted one; a stack without room for both takes
+-- neither, which no tracing meets
 unfoldable pub stackAfter : Stack → Step → Stack
 stackAfter s e =
-    cond (ltb (popped s .len) pairRoom) (pushedIf (e .second) (pushedIf (e .«first») (popped s) (e .reflected)) (e .transmitted)) (popped s)
+    cond (ltb (popped s .len) pairRoom)
+    (pushedIf (e .second) (pushedIf (e .«first») (popped s) (e .reflected)) (e .transmitted)) (popped s)
 
 -- ---- the same as the code does it
 
@@ -71,7 +73,8 @@ unfoldable pub slotOf : ℕ → ℕ
 slotOf at = cond (ltb at pairRoom) at 0
 
 unfoldable pub raysComingOf : Bool → Bool → ℕ → Coming
-raysComingOf made also at = cond (ltb at pairRoom) (cond made (cond also Both Reflected) (cond also Transmitted Nothing)) Nothing
+raysComingOf made also at =
+    cond (ltb at pairRoom) (cond made (cond also Both Reflected) (cond also Transmitted Nothing)) Nothing
 
 -- the places with the rays that come, from place i on
 abbrev pub storedRays : Coming → List ActiveRay → ℕ → ActiveRay → ActiveRay → List ActiveRay

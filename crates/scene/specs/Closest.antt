@@ -34,7 +34,8 @@ closestObjectOf f n r = nearestAmong NonSeqHit hitDistance (offersIn f r) n
 
 -- 17, then 3 for more than 32 solids, then the search
 unfoldable pub intersectClosestObjectOf : List Float → List ℕ → ℕ → Ray → Checked (Option NonSeqHit)
-intersectClosestObjectOf x k n r = after (checkSolidsOf x k n) (cond (leb n maxSolids) (passed (closestObjectOf (objectAtOf x k) n r)) (refusedAt 3 0))
+intersectClosestObjectOf x k n r =
+    after (checkSolidsOf x k n) (cond (leb n maxSolids) (passed (closestObjectOf (objectAtOf x k) n r)) (refusedAt 3 0))
 
 -- what the code's answer says
 abbrev pub asClosest : Closest → Checked (Option NonSeqHit)
@@ -58,7 +59,8 @@ isKeptOf true (some h) = true
 isKeptOf true none = false
 
 unfoldable pub candidateAt : Bool → Option NonSeqObject → Ray → ℕ → Option Approach → Option Candidate
-candidateAt strict o r i (some a) = cond (isKeptOf strict (arriveAtOf o r a)) (some (record { place = i; approach = a })) none
+candidateAt strict o r i (some a) =
+    cond (isKeptOf strict (arriveAtOf o r a)) (some (record { place = i; approach = a })) none
 candidateAt strict o r i none = none
 
 abbrev pub candidateDistance : Candidate → Float

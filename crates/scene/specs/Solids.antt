@@ -1,4 +1,5 @@
--- The solids of a scene as two lists of numbers, as they stand in the scene text: of each solid the doubles p q r, rho, a to f, m (16) and w (16), and the whole numbers shape, active, finish, medium.
+-- The solids of a scene as two lists of numbers, as they stand in the scene text: of each solid the doubles p q r, rho,
+-- a to f, m (16) and w (16), and the whole numbers shape, active, finish, medium.
 use Prim.Native.Nat.{ℕ, zero, suc, _+_, _*_}
 use mathlib.Core.Bool.{Bool, cond, _&&_}
 use mathlib.Core.List.{List}
@@ -54,8 +55,12 @@ unfoldable pub readObjectOf : List Float → List ℕ → ℕ → NonSeqObject
 readObjectOf x k i =
     record {
       id = record { 0 = i };
-      geometry = numberedGeometryOf (getD k (i * solidWholes) 0) (getD x (i * solidDoubles) nan) (valueAt x i 1) (valueAt x i 2);
-      transform = record { matrix = matAtOf x (i * solidDoubles + matrixAt); inverse = matAtOf x (i * solidDoubles + inverseAt) };
+      geometry = numberedGeometryOf (getD k (i * solidWholes) 0) (getD x (i * solidDoubles) nan) (valueAt x i 1)
+          (valueAt x i 2);
+      transform = record {
+        matrix = matAtOf x (i * solidDoubles + matrixAt);
+        inverse = matAtOf x (i * solidDoubles + inverseAt);
+      };
       «is_active» = eqb (tagAt k i 1) 1;
     }
 
@@ -78,18 +83,22 @@ finishAtOf x k s = cond (holds x k (s .0)) (numberedFinishOf (tagAt k (s .0) 2) 
 unfoldable pub mediumAtOf : List Float → List ℕ → SolidNo → OpticalMedium
 mediumAtOf x k s =
     let i = s .0 in
-    cond (holds x k i) (numberedMediumOf (tagAt k i 3) (valueAt x i 4) (valueAt x i 5) (valueAt x i 6) (valueAt x i 7) (valueAt x i 8) (valueAt x i 9)) Air
+    cond (holds x k i) (numberedMediumOf (tagAt k i 3) (valueAt x i 4) (valueAt x i 5) (valueAt x i 6) (valueAt x i 7)
+    (valueAt x i 8) (valueAt x i 9)) Air
 
 -- shape 0 to 4, active 0 or 1, finish 0 to 2, medium 0 to 3
 unfoldable pub tagsFitOf : ℕ → ℕ → ℕ → ℕ → Bool
-tagsFitOf shape active finish medium = leb shape lastShape && (leb active 1 && (leb finish lastFinish && leb medium lastMedium))
+tagsFitOf shape active finish medium =
+    leb shape lastShape && (leb active 1 && (leb finish lastFinish && leb medium lastMedium))
 
 -- 17 at the first of the n solids from i on whose whole numbers do not fit
 unfoldable pub checkTagsOf : List ℕ → ℕ → ℕ → Checked Unit
 checkTagsOf k zero i = passed tt
 checkTagsOf k (suc n) i =
-    cond (tagsFitOf (getD k (i * solidWholes) 0) (tagAt k i 1) (tagAt k i 2) (tagAt k i 3)) (checkTagsOf k n (i + 1)) (refusedAt 17 i)
+    cond (tagsFitOf (getD k (i * solidWholes) 0) (tagAt k i 1) (tagAt k i 2) (tagAt k i 3)) (checkTagsOf k n (i + 1))
+    (refusedAt 17 i)
 
 -- 17 at 0 for lists of another length than n solids need
 unfoldable pub checkSolidsOf : List Float → List ℕ → ℕ → Checked Unit
-checkSolidsOf x k n = cond (eqb (length x) (n * solidDoubles) && eqb (length k) (n * solidWholes)) (checkTagsOf k n 0) (refusedAt 17 0)
+checkSolidsOf x k n =
+    cond (eqb (length x) (n * solidDoubles) && eqb (length k) (n * solidWholes)) (checkTagsOf k n 0) (refusedAt 17 0)

@@ -14,7 +14,8 @@ sameOf [] (y ∷ b) = false
 sameOf (x ∷ a) [] = false
 sameOf (x ∷ a) (y ∷ b) = cond (eqb x y) (sameOf a b) false
 
--- What a block of lines is: whether all are well formed, the number of the line to come or else of the first bad or missing one,
+-- What a block of lines is: whether all are well formed, the number of the line to come or else of the first bad or
+-- missing one,
 -- how many lines of values there are, what they hold, and the lines behind the block
 pub record Block : Type 0 where
   pub ok : Bool
@@ -36,16 +37,19 @@ stopped n = block false n 0 badValues []
 
 -- line n holds v, and then comes b
 unfoldable pub lineThen : Values → ℕ → Block → Block
-lineThen v n b = cond (v .ok) (block (b .ok) (b .line) (suc (b .rows)) (joined v (b .read)) (b .rest)) (block false n 0 v [])
+lineThen v n b =
+    cond (v .ok) (block (b .ok) (b .line) (suc (b .rows)) (joined v (b .read)) (b .rest)) (block false n 0 v [])
 
--- In all that follows the lines are a text's parts between its LFs. What follows the last LF is the last part, and no line.
+-- In all that follows the lines are a text's parts between its LFs. What follows the last LF is the last part, and no
+-- line.
 
 -- line n, the first of these, has this form
 unfoldable pub readOneOf : List ℕ → List (List ℕ) → ℕ → Block
 readOneOf form [] n = stopped n
 readOneOf form (l ∷ ls) n = cond (isNil ls) (stopped n) (lineThen (readRowOf form (ended l)) n (over (n + 1) ls))
 
--- whether a text may end with so many bytes behind its last LF, before this line of names: with none, and if there are no names to come
+-- whether a text may end with so many bytes behind its last LF, before this line of names: with none, and if there are
+-- no names to come
 unfoldable pub endsWellOf : ℕ → List ℕ → Bool
 endsWellOf bytes names = cond (eqb bytes 0) (eqb (length names) 0) false
 

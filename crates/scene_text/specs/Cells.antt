@@ -7,7 +7,8 @@ use lib.Ieee.{Float, binary64, ofBits}
 use Rattle.fields.specs.Split.{split, isByteOf}
 use Rattle.fields.specs.Number.{Read, number, malformed, readBitsOf, readWholeOf}
 
--- What a piece of text holds: whether it is well formed, and its doubles and its whole numbers in the text's order, up to the first cell that is not
+-- What a piece of text holds: whether it is well formed, and its doubles and its whole numbers in the text's order, up
+-- to the first cell that is not
 pub record Values : Type 0 where
   pub ok : Bool
   pub doubles : List Float
@@ -36,7 +37,7 @@ unfoldable pub wholeCell : Read → Values
 wholeCell (number n) = values true [] (n ∷ [])
 wholeCell malformed = badValues
 
--- a whole number readBelowOf m
+-- a whole number below m
 unfoldable pub readBelowOf : ℕ → Read → Read
 readBelowOf m (number n) = cond (ltb n m) (number n) malformed
 readBelowOf m malformed = malformed
@@ -51,7 +52,8 @@ readFilterOf f = cond (isByteOf f 45) (number noFilter) (readBelowOf 5 (readWhol
 
 -- a whole number of the kind k: f is 102, n 110, the digits are from 48 on
 unfoldable pub readNumberOf : ℕ → List ℕ → Read
-readNumberOf k f = cond (eqb k 102) (readFilterOf f) (cond (eqb k 110) (readWholeOf f) (readBelowOf (k - 48) (readWholeOf f)))
+readNumberOf k f =
+    cond (eqb k 102) (readFilterOf f) (cond (eqb k 110) (readWholeOf f) (readBelowOf (k - 48) (readWholeOf f)))
 
 -- ---- media
 
@@ -93,4 +95,5 @@ readMediaOf f = mediaCell (countMediaOf (mediaParts f) 0) (mediaParts f)
 -- ---- any cell, by its kind: d is 100, l 108
 
 unfoldable pub readCellOf : ℕ → List ℕ → Values
-readCellOf k f = cond (eqb k 100) (doubleCell (readBitsOf f)) (cond (eqb k 108) (readMediaOf f) (wholeCell (readNumberOf k f)))
+readCellOf k f =
+    cond (eqb k 100) (doubleCell (readBitsOf f)) (cond (eqb k 108) (readMediaOf f) (wholeCell (readNumberOf k f)))

@@ -7,7 +7,8 @@ use lib.ListN.{length}
 use lib.Ieee.{Float}
 use Rattle.error.specs.Refusals.{Checked, passed, refusedAt}
 use Rattle.fields.specs.Split.{split}
-use Rattle.scene_text.specs.Names.{runNames, runForm, solidNames, solidForm, detectorNames, detectorForm, rayNames, rayForm, maxText}
+use Rattle.scene_text.specs.Names.{runNames, runForm, solidNames, solidForm, detectorNames, detectorForm}
+use Rattle.scene_text.specs.Names.{rayNames, rayForm, maxText}
 use Rattle.scene_text.specs.Tables.{putAll}
 use Rattle.scene_text.specs.Blocks.{Block, readNamesOf, readOneOf, readLinesOf}
 
@@ -25,7 +26,8 @@ contents a b c d = record { run = a; solids = b; detectors = c; rays = d }
 unfoldable pub readRunOf : List (List ℕ) → Block
 readRunOf ls = let a = readNamesOf runNames ls 1 in readOneOf runForm (a .rest) (a .line)
 
--- one block after the other: where one is not well formed there are no lines for the next, which stops at the same number
+-- one block after the other: where one is not well formed there are no lines for the next, which stops at the same
+-- number
 unfoldable pub contentsIn : List ℕ → Contents
 contentsIn s =
     let b = readRunOf (split 10 s) in
@@ -68,7 +70,17 @@ pub record Slices : Type 0 where
   pub rayTags : List ℕ
 
 abbrev pub slices : List Float → List ℕ → List Float → List ℕ → List Float → List ℕ → List Float → List ℕ → Slices
-slices a b c d e f g h = record { runValues = a; runTags = b; solidValues = c; solidTags = d; detectorValues = e; detectorTags = f; rayValues = g; rayTags = h }
+slices a b c d e f g h =
+    record {
+      runValues = a;
+      runTags = b;
+      solidValues = c;
+      solidTags = d;
+      detectorValues = e;
+      detectorTags = f;
+      rayValues = g;
+      rayTags = h;
+    }
 
 abbrev pub doublesIn : List Float → Block → List Float
 doublesIn l b = putAll l 0 (b .read .doubles) .list

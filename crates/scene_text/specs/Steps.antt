@@ -1,4 +1,5 @@
--- What the functions answer that read a line or a block step by step: what it all comes to from where the reading stands. No public contract needs it.
+-- What the functions answer that read a line or a block step by step: what it all comes to from where the reading
+-- stands. No public contract needs it.
 use Prim.Native.Nat.{ℕ, _+_}
 use mathlib.Core.List.{List, []}
 use mathlib.Core.Bool.{Bool, cond}
@@ -50,6 +51,8 @@ onto k t b = reading (b .ok) (b .line) (k + b .rows) (put (b .read) t) (b .rest)
 unfoldable pub restAt : Bool → List ℕ → ℕ → List (List ℕ)
 restAt b s at = cond b (split 10 (drop at s)) []
 
--- a block that was read up to line n at this place, after k lines of values: `more` where it goes on, else `ok` where it is over
+-- a block that was read up to line n at this place, after k lines of values: `more` where it goes on, else `ok` where
+-- it is over
 unfoldable pub comesTo : List ℕ → List ℕ → List ℕ → Bool → Bool → ℕ → ℕ → ℕ → Table → Reading
-comesTo s names form more ok at n k t = cond more (onto k t (readLinesOf names form (split 10 (drop at s)) n)) (reading ok n k t (restAt ok s at))
+comesTo s names form more ok at n k t =
+    cond more (onto k t (readLinesOf names form (split 10 (drop at s)) n)) (reading ok n k t (restAt ok s at))

@@ -1,4 +1,5 @@
--- xorshift64*: S. Vigna, "An experimental exploration of Marsaglia's xorshift generators, scrambled", ACM Transactions on Mathematical Software 42, 2016.
+-- xorshift64*: S. Vigna, "An experimental exploration of Marsaglia's xorshift generators, scrambled", ACM Transactions
+-- on Mathematical Software 42, 2016.
 -- The shifts are 12, 25 and 27, and the state is multiplied by 2685821657736338717, all in 64 bits.
 use Prim.Native.Nat.{ℕ, _*_, _/_, _%_, _^_}
 use mathlib.Core.Bool.{cond}

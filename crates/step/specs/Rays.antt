@@ -41,7 +41,9 @@ listedOptics x k g = record { finish = finishAtOf x k; medium = mediumAtOf x k; 
 abbrev pub listedScene : List Float → List ℕ → ℕ → Faces → NonSeqTraceConfig → Scene
 listedScene x k n fs g = record { solids = n; solid = objectAtOf x k; faces = fs; optics = listedOptics x k g }
 
--- what becomes of the newest ray: at most the threshold; bounced to the limit; lost to the dark; caught by a detector; a power left at an absorber or a mirror; the powers reflected and transmitted at a clear surface, and whether the radicand was at most 0; a refusal
+-- what becomes of the newest ray: at most the threshold; bounced to the limit; lost to the dark; caught by a detector;
+-- a power left at an absorber or a mirror; the powers reflected and transmitted at a clear surface, and whether the
+-- radicand was at most 0; a refusal
 pub data End : Type 0 where
   dim : End
   spent : End
@@ -100,4 +102,11 @@ asEnd (ends.the-variants.Parted r t total) = parted r t total
 asEnd (ends.the-variants.Refused e) = refusing (numberOf e)
 
 abbrev pub asStep : steps.Step → Step
-asStep e = record { end = asEnd (e .end); «first» = e .«first»; reflected = e .reflected; second = e .second; transmitted = e .transmitted }
+asStep e =
+    record {
+      end = asEnd (e .end);
+      «first» = e .«first»;
+      reflected = e .reflected;
+      second = e .second;
+      transmitted = e .transmitted;
+    }

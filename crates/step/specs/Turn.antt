@@ -12,7 +12,8 @@ use Rattle.material.specs.Media.{refractiveIndexOf}
 use Rattle.scene.specs.declared.SolidNo.{SolidNo}
 use Rattle.scene.specs.declared.NonSeqHit.{NonSeqHit}
 use Rattle.scene.specs.Closest.{closestObjectOf}
-use Rattle.surface.specs.Fresnel.{FresnelInteraction, total, split, computeSnellFresnelInteractionOf, mirroredPowerOf, mirroredOf}
+use Rattle.surface.specs.Fresnel.{FresnelInteraction, total, split, computeSnellFresnelInteractionOf, mirroredPowerOf}
+use Rattle.surface.specs.Fresnel.{mirroredOf}
 use Rattle.media.specs.declared.Media.{Media}
 use Rattle.media.specs.Media.{newestOf, enteredOf, leftOf}
 use Rattle.detector.specs.declared.DetectorHit.{DetectorHit}
@@ -20,7 +21,8 @@ use Rattle.faces.specs.declared.Sight.{Sight}
 use Rattle.faces.specs.Faces.{nearestDetectorOf}
 use Rattle.step.specs.declared.ActiveRay.{ActiveRay}
 use Rattle.step.specs.declared.meeting.Met as code
-use Rattle.step.specs.Rays.{Optics, Scene, Step, endsOf, dim, spent, gone, caught, stopped, parted, refusing, reflectedOf, transmittedOf}
+use Rattle.step.specs.Rays.{Optics, Scene, Step, endsOf, dim, spent, gone, caught, stopped, parted, refusing}
+use Rattle.step.specs.Rays.{reflectedOf, transmittedOf}
 use Rattle.doubles.specs.Doubles.{#0}
 
 -- ---- a clear surface
@@ -69,7 +71,8 @@ partedOf threshold a m (refusal n) = endsOf a (refusing n)
 
 -- between indices n₁ and n₂, the first judged before the second; m is the media beyond
 unfoldable pub betweenOf : Float → ActiveRay → NonSeqHit → Media → Answer Float → Answer Float → Step
-betweenOf threshold a h m (value n1) (value n2) = partedOf threshold a m (computeSnellFresnelInteractionOf (a .ray) h n1 n2 (a .ray .energy))
+betweenOf threshold a h m (value n1) (value n2) =
+    partedOf threshold a m (computeSnellFresnelInteractionOf (a .ray) h n1 n2 (a .ray .energy))
 betweenOf threshold a h m (value n1) (refusal n) = endsOf a (refusing n)
 betweenOf threshold a h m (refusal n) n2 = endsOf a (refusing n)
 
@@ -137,7 +140,8 @@ meetsWith S a (solid h) = surfaceOf (S .optics) a h
 meetsWith S a nothing = endsOf a gone
 
 unfoldable pub interactOf : Scene → ActiveRay → Step
-interactOf S a = meetsWith S a (firstMetOf (nearestDetectorOf (S .faces) (a .ray)) (closestObjectOf (S .solid) (S .solids) (a .ray)))
+interactOf S a =
+    meetsWith S a (firstMetOf (nearestDetectorOf (S .faces) (a .ray)) (closestObjectOf (S .solid) (S .solids) (a .ray)))
 
 -- power at most the threshold: dim; else bounce at least the limit: spent; else one interaction
 unfoldable pub takeStepOf : Scene → ActiveRay → Step

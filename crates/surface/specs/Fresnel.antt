@@ -1,4 +1,5 @@
--- Reflection and refraction: Snell's law and Fresnel's equations for unpolarised light (M. Born and E. Wolf, Principles of Optics, 1.5). The order of the operations is trace.rs's.
+-- Reflection and refraction: Snell's law and Fresnel's equations for unpolarised light (M. Born and E. Wolf, Principles
+-- of Optics, 1.5). The order of the operations is trace.rs's.
 use mathlib.Core.Bool.{cond}
 use lib.Ieee.{Float, binary64, add, sub, mul, div, neg, le}
 use Rattle.doubles.specs.Doubles.{clampOf, maxZeroOf, #0, #½, #1, #2}
@@ -21,13 +22,15 @@ cosineOf d n = clampOf (neg (dotOf d n)) #0 #1
 
 -- Snell's law: the squared cosine of the angle of refraction, 1 - (n₁ / n₂)² sin² θ₁
 unfoldable pub radicandOf : Float → Float → Float
-radicandOf eta c1 = sub binary64 #1 (mul binary64 (mul binary64 eta eta) (maxZeroOf (sub binary64 #1 (mul binary64 c1 c1))))
+radicandOf eta c1 =
+    sub binary64 #1 (mul binary64 (mul binary64 eta eta) (maxZeroOf (sub binary64 #1 (mul binary64 c1 c1))))
 
 unfoldable pub reflectedDirectionOf : Vec3 → Vec3 → Float → Vec3
 reflectedDirectionOf d n c1 = normalizeOf (plusOf d (scaleOf n (mul binary64 #2 c1)))
 
 unfoldable pub refractedDirectionOf : Vec3 → Vec3 → Float → Float → Float → Vec3
-refractedDirectionOf d n eta c1 c2 = normalizeOf (plusOf (scaleOf d eta) (scaleOf n (sub binary64 (mul binary64 eta c1) c2)))
+refractedDirectionOf d n eta c1 c2 =
+    normalizeOf (plusOf (scaleOf d eta) (scaleOf n (sub binary64 (mul binary64 eta c1) c2)))
 
 -- Fresnel's equations: the mean of the squared amplitudes across the plane of incidence and in it
 unfoldable pub amplitudeOf : Float → Float → Float
@@ -59,14 +62,16 @@ refractOf r h n1 n2 eta c1 power =
     let c2 = sqrtOf (radicandOf eta c1) in
     let f = reflectanceOf n1 n2 c1 c2 in
     bothOf (leavingOf r (h .point) (reflectedDirectionOf (r .direction) (h .normal) c1) (mul binary64 power f))
-    (leavingOf r (h .point) (refractedDirectionOf (r .direction) (h .normal) eta c1 c2) (mul binary64 power (sub binary64 #1 f)))
+    (leavingOf r (h .point) (refractedDirectionOf (r .direction) (h .normal) eta c1 c2)
+    (mul binary64 power (sub binary64 #1 f)))
 
--- a radicand at most 0 is total reflection; split rays are made before any threshold is looked at
+-- a radicand at most 0 is total reflection; both rays are made before any threshold is looked at
 unfoldable pub computeSnellFresnelInteractionOf : Ray → NonSeqHit → Float → Float → Float → Answer FresnelInteraction
 computeSnellFresnelInteractionOf r h n1 n2 power =
     let c1 = cosineOf (r .direction) (h .normal) in
     let eta = div binary64 n1 n2 in
-    cond (le (radicandOf eta c1) #0) (totalOf (leavingOf r (h .point) (reflectedDirectionOf (r .direction) (h .normal) c1) power))
+    cond (le (radicandOf eta c1) #0)
+    (totalOf (leavingOf r (h .point) (reflectedDirectionOf (r .direction) (h .normal) c1) power))
     (refractOf r h n1 n2 eta c1 power)
 
 -- what the code's answer says
@@ -84,5 +89,6 @@ mirroredPowerOf power rho = mul binary64 power (clampOf rho #0 #1)
 -- the ray that it sends
 unfoldable pub mirroredOf : Ray → NonSeqHit → Float → Answer Ray
 mirroredOf r h power =
-    let d = normalizeOf (minusOf (r .direction) (scaleOf (h .normal) (mul binary64 #2 (dotOf (r .direction) (h .normal))))) in
+    let d = normalizeOf (minusOf (r .direction)
+    (scaleOf (h .normal) (mul binary64 #2 (dotOf (r .direction) (h .normal))))) in
     leavingOf r (h .point) d power

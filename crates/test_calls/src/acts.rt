@@ -58,7 +58,7 @@ fn halved(
     used: usize,
 ) -> Answer {
     let n = lists::whole_at(w, 2);
-    let r = halves::trace_rays_in_two(
+    let r = test_halves::trace_rays_in_two(
         laid::config(w, d),
         laid::solid_values(w, d),
         laid::solid_tags(w),

@@ -14,7 +14,8 @@ emptyOf = tally 0 0 0
 unfoldable pub countOf : Tally → Bool → Tally
 countOf t agrees =
     let n = (t .lines + 1) % 2 ^ 64 in
-    cond agrees (tally n ((t .agree + 1) % 2 ^ 64) (t .first)) (tally n (t .agree) (cond (eqb (t .first) 0) n (t .first)))
+    cond agrees (tally n ((t .agree + 1) % 2 ^ 64) (t .first))
+    (tally n (t .agree) (cond (eqb (t .first) 0) n (t .first)))
 
 -- the tally t with the lines of ls counted, which agree where `agrees` says so
 unfoldable pub tallyLinesOf : (List ℕ → Bool) → Tally → List (List ℕ) → Tally

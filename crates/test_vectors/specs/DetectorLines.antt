@@ -12,7 +12,8 @@ use Rattle.detector.specs.declared.Detector2D.{Detector2D}
 use Rattle.detector.specs.declared.face.Crossing.{Crossing}
 use Rattle.detector.specs.Faces.{faceOf, faceIntersectRayOf}
 use Rattle.detector.specs.Pixels.{indexAlongOf, pixelAreaM2Of, irradianceOf}
-use Rattle.test_vectors.specs.Parts.{partIn, hasShapeOf, isRead, isNumber, numberOr0, areBitsOf, doubleAtOf, isDoubleOf, vecAtOf, isDashOf}
+use Rattle.test_vectors.specs.Parts.{partIn, hasShapeOf, isRead, isNumber, numberOr0, areBitsOf, doubleAtOf}
+use Rattle.test_vectors.specs.Parts.{isDoubleOf, vecAtOf, isDashOf}
 
 -- ---- for both tables
 
@@ -62,7 +63,13 @@ detectorInOf l =
     }
 
 unfoldable pub rayInOf : List ℕ → Ray
-rayInOf l = record { origin = vecAtOf l 13; direction = vecAtOf l 16; «wavelength_nm» = ofBits binary64 0; energy = ofBits binary64 0 }
+rayInOf l =
+    record {
+      origin = vecAtOf l 13;
+      direction = vecAtOf l 16;
+      «wavelength_nm» = ofBits binary64 0;
+      energy = ofBits binary64 0;
+    }
 
 -- the parts before "="
 unfoldable pub isCrossingGivenOf : List ℕ → Bool
@@ -73,14 +80,16 @@ isCrossingAtOf l d c =
     isDoubleOf (partIn l 20) (c .t)
     && (isDoubleOf (partIn l 21) (c .«local_x»)
     && (isDoubleOf (partIn l 22) (c .«local_y»)
-    && (isIndexOf l 23 (c .«local_x») (d .«width_mm») (d .«res_x») && isIndexOf l 24 (c .«local_y») (d .«height_mm») (d .«res_y»))))
+    && (isIndexOf l 23 (c .«local_x») (d .«width_mm») (d .«res_x») && isIndexOf l 24 (c .«local_y») (d .«height_mm»)
+    (d .«res_y»))))
 
 unfoldable pub isCrossingOf : List ℕ → Detector2D → Option Crossing → Bool
 isCrossingOf l d (some c) = hasShapeOf l 25 19 && isCrossingAtOf l d c
 isCrossingOf l d none = hasShapeOf l 21 19 && isDashOf l 20
 
 unfoldable pub crossingLineOf : List ℕ → Bool
-crossingLineOf l = let d = detectorInOf l in isCrossingGivenOf l && isCrossingOf l d (faceIntersectRayOf (faceOf d) (rayInOf l))
+crossingLineOf l =
+    let d = detectorInOf l in isCrossingGivenOf l && isCrossingOf l d (faceIntersectRayOf (faceOf d) (rayInOf l))
 
 -- ---- width, height, two resolutions, place and flux = pixel, a pixel's area, irradiance
 
@@ -89,10 +98,13 @@ gridInOf l = gridOf (doubleAtOf l 0) (doubleAtOf l 1) (wholeAtOf l 2) (wholeAtOf
 
 -- the number of parts, "=", and the parts before it
 unfoldable pub isRecordingGivenOf : List ℕ → Bool
-isRecordingGivenOf l = (hasShapeOf l 12 7 && areBitsOf l 0 2) && (isAnyWholeOf l 2 && (isAnyWholeOf l 3 && areBitsOf l 4 7))
+isRecordingGivenOf l =
+    (hasShapeOf l 12 7 && areBitsOf l 0 2) && (isAnyWholeOf l 2 && (isAnyWholeOf l 3 && areBitsOf l 4 7))
 
 unfoldable pub isPixelOf : List ℕ → Detector2D → Bool
-isPixelOf l d = isIndexOf l 8 (doubleAtOf l 4) (d .«width_mm») (d .«res_x») && isIndexOf l 9 (doubleAtOf l 5) (d .«height_mm») (d .«res_y»)
+isPixelOf l d =
+    isIndexOf l 8 (doubleAtOf l 4) (d .«width_mm») (d .«res_x») && isIndexOf l 9 (doubleAtOf l 5) (d .«height_mm»)
+    (d .«res_y»)
 
 unfoldable pub isAreaOf : List ℕ → Checked Float → Bool
 isAreaOf l (passed x) = isDoubleOf (partIn l 10) x
@@ -103,4 +115,5 @@ unfoldable pub recordingLineOf : List ℕ → Bool
 recordingLineOf l =
     let d = gridInOf l in
     let caught = add binary64 (ofBits binary64 0) (doubleAtOf l 6) in
-    (isRecordingGivenOf l && isPixelOf l d) && (isAreaOf l (pixelAreaM2Of d) && isDoubleOf (partIn l 11) (irradianceOf d caught))
+    (isRecordingGivenOf l && isPixelOf l d) &&
+    (isAreaOf l (pixelAreaM2Of d) && isDoubleOf (partIn l 11) (irradianceOf d caught))

@@ -61,13 +61,22 @@ unfoldable pub vecAtOf : List ℕ → ℕ → Vec3
 vecAtOf l k = vec3 (doubleAtOf l k) (doubleAtOf l (nextOf k 1)) (doubleAtOf l (nextOf k 2))
 
 unfoldable pub isVecOf : List ℕ → ℕ → Vec3 → Bool
-isVecOf l k v = isDoubleOf (partIn l k) (v .x) && (isDoubleOf (partIn l (nextOf k 1)) (v .y) && isDoubleOf (partIn l (nextOf k 2)) (v .z))
+isVecOf l k v =
+    isDoubleOf (partIn l k) (v .x) &&
+    (isDoubleOf (partIn l (nextOf k 1)) (v .y) && isDoubleOf (partIn l (nextOf k 2)) (v .z))
 
 unfoldable pub rowAtOf : List ℕ → ℕ → Row
-rowAtOf l k = record { a = doubleAtOf l k; b = doubleAtOf l (nextOf k 1); c = doubleAtOf l (nextOf k 2); d = doubleAtOf l (nextOf k 3) }
+rowAtOf l k =
+    record {
+      a = doubleAtOf l k;
+      b = doubleAtOf l (nextOf k 1);
+      c = doubleAtOf l (nextOf k 2);
+      d = doubleAtOf l (nextOf k 3);
+    }
 
 unfoldable pub matAtOf : List ℕ → ℕ → Mat4
-matAtOf l k = record { r0 = rowAtOf l k; r1 = rowAtOf l (nextOf k 4); r2 = rowAtOf l (nextOf k 8); r3 = rowAtOf l (nextOf k 12) }
+matAtOf l k =
+    record { r0 = rowAtOf l k; r1 = rowAtOf l (nextOf k 4); r2 = rowAtOf l (nextOf k 8); r3 = rowAtOf l (nextOf k 12) }
 
 unfoldable pub isDashOf : List ℕ → ℕ → Bool
 isDashOf l k = isByteOf (partIn l k) 45

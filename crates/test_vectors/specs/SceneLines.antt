@@ -13,7 +13,8 @@ use Rattle.geometry.specs.Shapes.{lastShape, numberedGeometryOf, intersectLocal
 use Rattle.scene.specs.declared.NonSeqHit.{NonSeqHit}
 use Rattle.scene.specs.declared.NonSeqObject.{NonSeqObject}
 use Rattle.scene.specs.Objects.{intersectOf}
-use Rattle.test_vectors.specs.Parts.{partIn, hasShapeOf, isNumber, areBitsOf, doubleAtOf, isDoubleOf, vecAtOf, isVecOf, matAtOf, isDashOf}
+use Rattle.test_vectors.specs.Parts.{partIn, hasShapeOf, isNumber, areBitsOf, doubleAtOf, isDoubleOf, vecAtOf}
+use Rattle.test_vectors.specs.Parts.{isVecOf, matAtOf, isDashOf}
 
 -- ---- shape, its three sizes, origin and direction = distance and normal, or -
 
@@ -26,14 +27,20 @@ isLocalHitOf l none = hasShapeOf l 12 10 && isDashOf l 11
 
 unfoldable pub shapeNumbered : Read → List ℕ → Bool
 shapeNumbered (number n) l =
-    let r : Ray = record { origin = vecAtOf l 4; direction = vecAtOf l 7; «wavelength_nm» = ofBits binary64 0; energy = ofBits binary64 0 } in
+    let r : Ray = record {
+      origin = vecAtOf l 4;
+      direction = vecAtOf l 7;
+      «wavelength_nm» = ofBits binary64 0;
+      energy = ofBits binary64 0;
+    } in
     cond (ltb lastShape n) false (areBitsOf l 1 10 && isLocalHitOf l (intersectLocalOf (shapeInOf n l 1) r))
 shapeNumbered malformed l = false
 
 unfoldable pub shapeLineOf : List ℕ → Bool
 shapeLineOf l = shapeNumbered (readWholeOf (partIn l 0)) l
 
--- ---- shape, active, its three sizes, matrix and inverse, a ray's eight doubles = t, point, normal, geometric normal, 1 if entering; or -
+-- ---- shape, active, its three sizes, matrix and inverse, a ray's eight doubles = t, point, normal, geometric normal,
+-- 1 if entering; or -
 
 unfoldable pub objectInOf : ℕ → List ℕ → NonSeqObject
 objectInOf n l =
@@ -45,13 +52,20 @@ objectInOf n l =
     }
 
 unfoldable pub rayInOf : List ℕ → Ray
-rayInOf l = record { origin = vecAtOf l 37; direction = vecAtOf l 40; «wavelength_nm» = doubleAtOf l 43; energy = doubleAtOf l 44 }
+rayInOf l =
+    record {
+      origin = vecAtOf l 37;
+      direction = vecAtOf l 40;
+      «wavelength_nm» = doubleAtOf l 43;
+      energy = doubleAtOf l 44;
+    }
 
 unfoldable pub isHitAtOf : List ℕ → NonSeqHit → Bool
 isHitAtOf l h =
     isDoubleOf (partIn l 46) (h .t)
     && (isVecOf l 47 (h .point)
-    && (isVecOf l 50 (h .normal) && (isVecOf l 53 (h .«geometric_normal») && isNumber (readWholeOf (partIn l 56)) (cond (h .entering) 1 0))))
+    && (isVecOf l 50 (h .normal) &&
+    (isVecOf l 53 (h .«geometric_normal») && isNumber (readWholeOf (partIn l 56)) (cond (h .entering) 1 0))))
 
 unfoldable pub isHitOf : List ℕ → Option NonSeqHit → Bool
 isHitOf l (some h) = hasShapeOf l 57 45 && isHitAtOf l h
@@ -61,7 +75,8 @@ unfoldable pub solidNumbered : Read → List ℕ → Bool
 solidNumbered (number n) l =
     let o = objectInOf n l in
     cond (ltb lastShape n) false
-    ((isNumber (readWholeOf (partIn l 1)) (cond (o .«is_active») 1 0) && areBitsOf l 2 45) && isHitOf l (intersectOf o (rayInOf l)))
+    ((isNumber (readWholeOf (partIn l 1)) (cond (o .«is_active») 1 0) && areBitsOf l 2 45) && isHitOf l
+    (intersectOf o (rayInOf l)))
 solidNumbered malformed l = false
 
 unfoldable pub solidLineOf : List ℕ → Bool

@@ -11,7 +11,8 @@ use Rattle.detector.specs.declared.Detector2D.{Detector2D}
 use Rattle.detector.specs.declared.DetectorNo.{DetectorNo}
 use Rattle.detectors.specs.Detectors.{detectorAt, findOf, maxDetectors}
 use Rattle.detector.specs.declared.DetectorHit.{DetectorHit}
-use Rattle.memory.specs.Memory.{Memory, Outcome, done, refused, memoryLeft, unless, judged, listed, cellIn, capacity, isMemory, recordHitClassifiedOf}
+use Rattle.memory.specs.Memory.{Memory, Outcome, done, refused, memoryLeft, unless, judged, listed, cellIn, capacity}
+use Rattle.memory.specs.Memory.{isMemory, recordHitClassifiedOf}
 use Rattle.memory.specs.Plain.{View, sharing, numberIn, added, viewIn, plusAll}
 use Rattle.filter.specs.declared.RayPathFilter.{RayPathFilter}
 use Rattle.trace.specs.Trace.{Batch, checkBatch, runOn, traceAfter, traceRaysOf}
@@ -96,20 +97,29 @@ bare s =
 -- the book's number used is its length
 abbrev pub withUsed : Memory → List DetectorHit → Memory
 withUsed s b =
-    record { detectors = s .detectors; flux = s .flux; hits = s .hits; hitValues = s .hitValues; hitTags = s .hitTags; used = length b }
+    record {
+      detectors = s .detectors;
+      flux = s .flux;
+      hits = s .hits;
+      hitValues = s .hitValues;
+      hitTags = s .hitTags;
+      used = length b;
+    }
 
 -- 12 if the lent slices hold no more, 13 if 2^32 - 1 listed hits share that pixel or detector; else the hit is appended
 unfoldable pub plainHit : Memory → List DetectorHit → DetectorHit → Outcome (List DetectorHit)
 plainHit s b h =
     let cell = cellIn (s .detectors .list) in
-    judged (leb (capacity s) (length b)) (eqb (sharing cell (cell h) b) maxCount || eqb (sharing numberIn (h .detector .0) b) maxCount) b (b ++ h ∷ [])
+    judged (leb (capacity s) (length b))
+    (eqb (sharing cell (cell h) b) maxCount || eqb (sharing numberIn (h .detector .0) b) maxCount) b (b ++ h ∷ [])
 
 -- refused before the run, it is left as it is; else the rays go by the same steps, each hit into the book
 unfoldable pub bookTraced : Memory → Batch → List DetectorHit → Outcome (List DetectorHit)
 bookTraced s B b = traceAfter (checkBatch B (withUsed s b)) b (runOn (plainHit s) (s .detectors) B b) .outcome
 
 unfoldable pub bookRecorded : Memory → DetectorHit → List DetectorHit → Outcome (List DetectorHit)
-bookRecorded s h b = unless (findOf (s .detectors) (h .detector)) b (cond (isMemory (withUsed s b)) (plainHit s b h) (refused 9 0 b))
+bookRecorded s h b =
+    unless (findOf (s .detectors) (h .detector)) b (cond (isMemory (withUsed s b)) (plainHit s b h) (refused 9 0 b))
 
 unfoldable pub bookGranted : Memory → Wish → List DetectorHit → Outcome (List DetectorHit)
 bookGranted s (rays B) b = bookTraced s B b
@@ -133,6 +143,8 @@ pub record Told (s m : Memory) (b : List DetectorHit) : Type 0 where
   pub list : listed m ≡ b
   -- each detector's maps, total and count are what zeros become when its listed hits are added in list order
   pub views :
-      (d : ℕ) → d < maxDetectors → viewIn m d ≡ plusAll d (detectorAt (s .detectors .list) d) (zeroView (length (viewIn s d .flux)) (length (viewIn s d .hits))) b
+      (d :
+      ℕ) → d < maxDetectors → viewIn m d ≡ plusAll d (detectorAt (s .detectors .list) d)
+      (zeroView (length (viewIn s d .flux)) (length (viewIn s d .hits))) b
   -- and nothing else has changed
   pub memory : m ≡ added s b

@@ -29,7 +29,8 @@ abbrev pub noRays : Part
 noRays = record { rayValues = []; rayTags = []; rays = 0 }
 
 abbrev pub joined : Part → Part → Part
-joined p q = record { rayValues = p .rayValues ++ q .rayValues; rayTags = p .rayTags ++ q .rayTags; rays = p .rays + q .rays }
+joined p q =
+    record { rayValues = p .rayValues ++ q .rayValues; rayTags = p .rayTags ++ q .rayTags; rays = p .rays + q .rays }
 
 unfoldable pub joinedAll : List Part → Part
 joinedAll [] = noRays

@@ -65,11 +65,20 @@ sideways = record { origin = vec3 (neg #5) #0 #0; direction = #+x; «wavelength_
 
 -- a hit at (0, 0, 0) whose normal is -z
 abbrev pub facing : NonSeqHit
-facing = record { t = #5; point = #000; normal = #-z; «geometric_normal» = #-z; «object_id» = record { 0 = 0 }; entering = true }
+facing =
+    record {
+      t = #5;
+      point = #000;
+      normal = #-z;
+      «geometric_normal» = #-z;
+      «object_id» = record { 0 = 0 };
+      entering = true;
+    }
 
 -- the ray that a surface sends from its point p along d, if all its parts are finite
 abbrev pub sentRay : Ray → Vec3 → Vec3 → Float → Ray
-sentRay r p d power = record { origin = plusOf p (scaleOf d offset); direction = d; «wavelength_nm» = r .«wavelength_nm»; energy = power }
+sentRay r p d power =
+    record { origin = plusOf p (scaleOf d offset); direction = d; «wavelength_nm» = r .«wavelength_nm»; energy = power }
 
 -- the root of 4 is 2, of -0 it is -0
 abbrev pub M1 : Type 0
@@ -81,11 +90,15 @@ M2 = nextU64Of (newOf 1) .value ≡ 0x47e4ce4b896cdd1d
 
 -- Plane 1 by 1 from (0, 0, -5) along +z: 5; from z 0: none
 abbrev pub M3 : Type 0
-M3 = (intersectLocalOf (Plane #1 #1) (upward (neg #5)) ≡ hitAt #5 #+z) × (intersectLocalOf (Plane #1 #1) (upward #0) ≡ none)
+M3 =
+    (intersectLocalOf (Plane #1 #1) (upward (neg #5)) ≡ hitAt #5 #+z) ×
+    (intersectLocalOf (Plane #1 #1) (upward #0) ≡ none)
 
 -- Sphere 1, +z, from (0, 0, -5): 4, normal (0, 0, -1); from its centre: 1
 abbrev pub M4 : Type 0
-M4 = (intersectLocalOf (Sphere #1) (upward (neg #5)) ≡ hitAt #4 #-z) × (intersectLocalOf (Sphere #1) (upward #0) ≡ hitAt #1 #+z)
+M4 =
+    (intersectLocalOf (Sphere #1) (upward (neg #5)) ≡ hitAt #4 #-z) ×
+    (intersectLocalOf (Sphere #1) (upward #0) ≡ hitAt #1 #+z)
 
 -- Box of half 1, +z, from (0, 0, -5): 4
 abbrev pub M5 : Type 0
@@ -96,8 +109,10 @@ abbrev pub M6 : Type 0
 M6 =
     ((r : Ray) (h : NonSeqHit) → r .direction ≡ #+z → h .normal ≡ #-z
     → isFiniteRayOf (sentRay r (h .point) #-z #¼) ≡ true → isFiniteRayOf (sentRay r (h .point) #+z #¾) ≡ true
-    → computeSnellFresnelInteractionOf r h #1 #3 #1 ≡ value (split (sentRay r (h .point) #-z #¼) (sentRay r (h .point) #+z #¾)))
-    × (computeSnellFresnelInteractionOf (upward (neg #5)) facing #1 #3 #1 ≡ value (split (sentRay (upward (neg #5)) #000 #-z #¼) (sentRay (upward (neg #5)) #000 #+z #¾)))
+    → computeSnellFresnelInteractionOf r h #1 #3 #1 ≡ value
+    (split (sentRay r (h .point) #-z #¼) (sentRay r (h .point) #+z #¾)))
+    × (computeSnellFresnelInteractionOf (upward (neg #5)) facing #1 #3 #1 ≡ value
+    (split (sentRay (upward (neg #5)) #000 #-z #¼) (sentRay (upward (neg #5)) #000 #+z #¾)))
 
 -- equal indices, cosine 0: all reflected, wherever the ray is finite, as from (-5, 0, 0) along the surface
 abbrev pub M7 : Type 0
@@ -105,7 +120,8 @@ M7 =
     ((r : Ray) (h : NonSeqHit) (n power : Float) → isFiniteOf n ≡ true → lt #0 n ≡ true
     → (cosineOf (r .direction) (h .normal) ≡ #0) ⊎ (cosineOf (r .direction) (h .normal) ≡ #-0)
     → (d : Vec3) → d ≡ reflectedDirectionOf (r .direction) (h .normal) (cosineOf (r .direction) (h .normal))
-    → isFiniteRayOf (sentRay r (h .point) d power) ≡ true → computeSnellFresnelInteractionOf r h n n power ≡ value (total (sentRay r (h .point) d power)))
+    → isFiniteRayOf (sentRay r (h .point) d power) ≡ true → computeSnellFresnelInteractionOf r h n n power ≡ value
+    (total (sentRay r (h .point) d power)))
     × (computeSnellFresnelInteractionOf sideways facing #1 #1 #1 ≡ value (total (sentRay sideways #000 #+x #1)))
 
 -- width 4, resx 2: x = 2 is column 1, x = -2 column 0, NaN column 0
@@ -128,8 +144,10 @@ M10 =
 -- Mirror 0.5, power 1, threshold 0.5: absorbed 0.5, no child, weak unchanged
 abbrev pub M11 : Type 0
 M11 =
-    (a : ActiveRay) (h : NonSeqHit) (r : NonSeqTraceReport) → a .ray .energy ≡ #1 → r .ledger .«absorbed_flux_watts» ≡ #0
-    → (mirrorOf #½ a h #½ .end ≡ stopped #½) × (mirrorOf #½ a h #½ .«first» ≡ false) × (mirrorOf #½ a h #½ .second ≡ false)
+    (a :
+    ActiveRay) (h : NonSeqHit) (r : NonSeqTraceReport) → a .ray .energy ≡ #1 → r .ledger .«absorbed_flux_watts» ≡ #0
+    → (mirrorOf #½ a h #½ .end ≡ stopped #½) × (mirrorOf #½ a h #½ .«first» ≡ false) ×
+    (mirrorOf #½ a h #½ .second ≡ false)
     × (reportAfterOf r #1 (mirrorOf #½ a h #½) .ledger .«absorbed_flux_watts» ≡ #½)
     × (reportAfterOf r #1 (mirrorOf #½ a h #½) .tallies .made ≡ r .tallies .made)
     × (reportAfterOf r #1 (mirrorOf #½ a h #½) .tallies .weak ≡ r .tallies .weak)

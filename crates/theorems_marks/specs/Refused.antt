@@ -17,7 +17,8 @@ use Rattle.material.specs.declared.SurfaceFinish.the-variants.{Specular, Mirror
 use Rattle.material.specs.Media.{squareUmOf, sellmeierOf, schottOf}
 use Rattle.scene.specs.declared.NonSeqHit.{NonSeqHit}
 use Rattle.scene.specs.Closest.{closestObjectOf}
-use Rattle.surface.specs.Fresnel.{cosineOf, radicandOf, reflectedDirectionOf, refractedDirectionOf, reflectanceOf, mirroredPowerOf}
+use Rattle.surface.specs.Fresnel.{cosineOf, radicandOf, reflectedDirectionOf, refractedDirectionOf, reflectanceOf}
+use Rattle.surface.specs.Fresnel.{mirroredPowerOf}
 use Rattle.media.specs.declared.Media.{Media}
 use Rattle.media.specs.Media.{newestOf}
 use Rattle.detector.specs.declared.DetectorHit.{DetectorHit}
@@ -67,7 +68,9 @@ abbrev pub shareAt : Ray → NonSeqHit → Float → Float → Float
 shareAt r h n1 n2 = reflectanceOf n1 n2 (cosineAt r h) (rootAt r h n1 n2)
 
 abbrev pub reflectedRay : Ray → NonSeqHit → Float → Float → Float → Ray
-reflectedRay r h n1 n2 power = sentRay r (h .point) (reflectedDirectionOf (r .direction) (h .normal) (cosineAt r h)) (mul binary64 power (shareAt r h n1 n2))
+reflectedRay r h n1 n2 power =
+    sentRay r (h .point) (reflectedDirectionOf (r .direction) (h .normal) (cosineAt r h))
+    (mul binary64 power (shareAt r h n1 n2))
 
 abbrev pub transmittedRay : Ray → NonSeqHit → Float → Float → Float → Ray
 transmittedRay r h n1 n2 power =
@@ -77,14 +80,16 @@ transmittedRay r h n1 n2 power =
 
 abbrev pub mirroredRay : Ray → NonSeqHit → Float → Ray
 mirroredRay r h power =
-    sentRay r (h .point) (normalizeOf (minusOf (r .direction) (scaleOf (h .normal) (mul binary64 #2 (dotOf (r .direction) (h .normal)))))) power
+    sentRay r (h .point) (normalizeOf
+    (minusOf (r .direction) (scaleOf (h .normal) (mul binary64 #2 (dotOf (r .direction) (h .normal)))))) power
 
 -- one of the rays that are made at a clear surface isn't finite
 abbrev pub ClearRefused : Ray → NonSeqHit → Float → Float → Float → Type 0
 ClearRefused r h n1 n2 power =
     ((le (radicandOf (div binary64 n1 n2) (cosineAt r h)) #0 ≡ true) × (isFiniteRayOf (totalRay r h power) ≡ false))
     ⊎ ((le (radicandOf (div binary64 n1 n2) (cosineAt r h)) #0 ≡ false)
-    × ((isFiniteRayOf (reflectedRay r h n1 n2 power) ≡ false) ⊎ (isFiniteRayOf (transmittedRay r h n1 n2 power) ≡ false)))
+    × ((isFiniteRayOf (reflectedRay r h n1 n2 power) ≡ false) ⊎
+    (isFiniteRayOf (transmittedRay r h n1 n2 power) ≡ false)))
 
 -- ---- 9, 12 and 13: a hit
 
@@ -92,7 +97,8 @@ abbrev pub HitRefused : Memory → DetectorHit → ℕ → Type 0
 HitRefused s h n =
     ((n ≡ 9) × (hasPixel s h ≡ false))
     ⊎ (((n ≡ 12) × (capacity s ≤ s .used))
-    ⊎ ((n ≡ 13) × ((getD (s .hits) (cellIn (s .detectors .list) h) 0 ≡ maxCount) ⊎ (hitDetector s h .«total_rays_hit» ≡ maxCount))))
+    ⊎ ((n ≡ 13) × ((getD (s .hits) (cellIn (s .detectors .list) h) 0 ≡ maxCount) ⊎
+    (hitDetector s h .«total_rays_hit» ≡ maxCount))))
 
 -- ---- a step
 
@@ -114,10 +120,12 @@ SurfaceRefused O a h n =
     × ((n1 : Float)
     × ((n2 : Float)
     × ((indexInOf O (a .media) (a .ray .«wavelength_nm») ≡ value n1)
-    × ((indexInOf O (beyondOf (a .media) h) (a .ray .«wavelength_nm») ≡ value n2) × ClearRefused (a .ray) h n1 n2 (a .ray .energy)))))))))
+    × ((indexInOf O (beyondOf (a .media) h) (a .ray .«wavelength_nm») ≡ value n2) × ClearRefused (a .ray) h n1 n2
+    (a .ray .energy)))))))))
     ⊎ ((n ≡ 16)
     × ((rho : Float)
-    × ((O .finish (h .«object_id») ≡ Mirror rho) × (isFiniteRayOf (mirroredRay (a .ray) h (mirroredPowerOf (a .ray .energy) rho)) ≡ false))))
+    × ((O .finish (h .«object_id») ≡ Mirror rho) ×
+    (isFiniteRayOf (mirroredRay (a .ray) h (mirroredPowerOf (a .ray .energy) rho)) ≡ false))))
 
 -- a solid is met, and its surface is refused
 abbrev pub TurnRefused : Scene → ActiveRay → ℕ → Type 0
@@ -134,21 +142,25 @@ StepRefused m S a n = CatchRefused m S a n ⊎ TurnRefused S a n
 -- ---- a run
 
 -- the step that a run of k steps is refused at, from what the j steps before it left
-abbrev pub Refusing : {M : Type 0} → (M → DetectorHit → Outcome M) → Scene → (ℕ → ActiveRay) → ℕ → M → Progress → ℕ → ℕ → M → Type 0
+abbrev pub Refusing :
+    {M : Type 0} → (M → DetectorHit → Outcome M) → Scene → (ℕ → ActiveRay) → ℕ → M → Progress → ℕ → ℕ → M → Type 0
 Refusing {M = M} put S given k m p n place s =
     (j : ℕ)
     × ((m₀ : M)
     × ((p₀ : Progress)
     × ((drive put S given j m p ≡ record { outcome = done m₀; progress = p₀ })
-    × ((isLeft p₀ ≡ true) × ((stepOn put S given m₀ p₀ .outcome ≡ refused n place s) × (drive put S given k m p ≡ stepOn put S given m₀ p₀))))))
+    × ((isLeft p₀ ≡ true) × ((stepOn put S given m₀ p₀ .outcome ≡ refused n place s) ×
+    (drive put S given k m p ≡ stepOn put S given m₀ p₀))))))
 
 -- after some steps, with memory t, the newest ray has property C; its place is that of the given ray it comes from
 abbrev pub Reached : Batch → Memory → ℕ → Memory → (ActiveRay → Type 0) → Type 0
 Reached B s place t C =
     (j : ℕ)
     × ((p : Progress)
-    × ((drive recordOf (sceneIn B (s .detectors)) (raysIn B) j s (startOf (raysIn B) (B .rays)) ≡ record { outcome = done t; progress = p })
-    × ((isLeft p ≡ true) × ((place ≡ takenFrom (raysIn B) (p .stack) (p .left) .left) × C (takenFrom (raysIn B) (p .stack) (p .left) .ray)))))
+    × ((drive recordOf (sceneIn B (s .detectors)) (raysIn B) j s (startOf (raysIn B) (B .rays)) ≡
+    record { outcome = done t; progress = p })
+    × ((isLeft p ≡ true) × ((place ≡ takenFrom (raysIn B) (p .stack) (p .left) .left) × C
+    (takenFrom (raysIn B) (p .stack) (p .left) .ray)))))
 
 abbrev pub RunRefused : Batch → Memory → ℕ → ℕ → Memory → Type 0
 RunRefused B s n place t = Reached B s place t (λ (a : ActiveRay). StepRefused t (sceneIn B (s .detectors)) a n)
@@ -172,7 +184,9 @@ AtClear S a C = (h : NonSeqHit) × ((metBy S a ≡ solid h) × ((S .optics .fini
 
 -- 14: there, with a wavelength at most 0 or not finite
 abbrev pub BadWavelength : Scene → ActiveRay → Type 0
-BadWavelength S a = AtClear S a (λ (h : NonSeqHit). (le (a .ray .«wavelength_nm») #0 ≡ true) ⊎ (isFiniteOf (a .ray .«wavelength_nm») ≡ false))
+BadWavelength S a =
+    AtClear S a (λ (h : NonSeqHit). (le (a .ray .«wavelength_nm») #0 ≡ true) ⊎
+    (isFiniteOf (a .ray .«wavelength_nm») ≡ false))
 
 -- 15: there, with a bad index before or beyond the surface
 abbrev pub BadMedium : Scene → ActiveRay → Type 0
@@ -190,15 +204,20 @@ BadRay S a =
     (n1 : Float)
     × ((n2 : Float)
     × ((indexInOf (S .optics) (a .media) (a .ray .«wavelength_nm») ≡ value n1)
-    × ((indexInOf (S .optics) (beyondOf (a .media) h) (a .ray .«wavelength_nm») ≡ value n2) × ClearRefused (a .ray) h n1 n2 (a .ray .energy)))))
+    × ((indexInOf (S .optics) (beyondOf (a .media) h) (a .ray .«wavelength_nm») ≡ value n2) × ClearRefused
+    (a .ray) h n1 n2 (a .ray .energy)))))
     ⊎ ((h : NonSeqHit)
     × ((metBy S a ≡ solid h)
     × ((rho : Float)
-    × ((S .optics .finish (h .«object_id») ≡ Mirror rho) × (isFiniteRayOf (mirroredRay (a .ray) h (mirroredPowerOf (a .ray .energy) rho)) ≡ false)))))
+    × ((S .optics .finish (h .«object_id») ≡ Mirror rho) ×
+    (isFiniteRayOf (mirroredRay (a .ray) h (mirroredPowerOf (a .ray .energy) rho)) ≡ false)))))
 
 -- if a tracing answers n, then one of its rays has property C, with the memory that is left
 abbrev pub Only : Batch → Memory → ℕ → (Memory → Scene → ActiveRay → Type 0) → Type 0
-Only B s n C = (place : ℕ) (t : Memory) → traceRaysOf B s .outcome ≡ refused n place t → Reached B s place t (C t (sceneIn B (s .detectors)))
+Only B s n C =
+    (place :
+    ℕ) (t : Memory) → traceRaysOf B s .outcome ≡ refused n place t → Reached B s place t
+    (C t (sceneIn B (s .detectors)))
 
 -- none of 12 to 16 is given unless its condition holds
 abbrev pub Refusals : Type 0

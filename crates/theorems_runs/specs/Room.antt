@@ -39,7 +39,8 @@ pub record Going (a : ActiveRay) : Type 0 where
 pub record Roomy (S : Scene) (given : ℕ → ActiveRay) (p : Progress) : Type 0 where
   pub full : Full (p .stack)
   pub after-full : Full (stackAfter (p .stack) (takeStepOf S (nextRay given p)))
-  pub after-plain : stackAfter (p .stack) (takeStepOf S (nextRay given p)) ≡ plainAfter (p .stack) (takeStepOf S (nextRay given p))
+  pub after-plain :
+      stackAfter (p .stack) (takeStepOf S (nextRay given p)) ≡ plainAfter (p .stack) (takeStepOf S (nextRay given p))
   pub long : length (nextRay given p .media .list) ≡ maxMedia
   pub going : nextRay given p .«bounce_count» < S .optics .config .«max_bounces» → Going (nextRay given p)
 

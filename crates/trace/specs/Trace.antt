@@ -36,7 +36,8 @@ pub record Batch : Type 0 where
   pub rays : ℕ
 
 abbrev pub lentBatch : NonSeqTraceConfig → List Float → List ℕ → ℕ → List Float → List ℕ → ℕ → Batch
-lentBatch g x k n v t m = record { config = g; solidValues = x; solidTags = k; solids = n; rayValues = v; rayTags = t; rays = m }
+lentBatch g x k n v t m =
+    record { config = g; solidValues = x; solidTags = k; solids = n; rayValues = v; rayTags = t; rays = m }
 
 abbrev pub raysIn : Batch → ℕ → ActiveRay
 raysIn B = givenAtOf (B .rayValues) (B .rayTags)
@@ -45,7 +46,9 @@ raysIn B = givenAtOf (B .rayValues) (B .rayTags)
 
 -- 17, solids before rays
 unfoldable pub checkFlatOf : Batch → Checked Unit
-checkFlatOf B = after (checkSolidsOf (B .solidValues) (B .solidTags) (B .solids)) (checkListsOf (length (B .rayValues)) (length (B .rayTags)) (B .rays))
+checkFlatOf B =
+    after (checkSolidsOf (B .solidValues) (B .solidTags) (B .solids))
+    (checkListsOf (length (B .rayValues)) (length (B .rayTags)) (B .rays))
 
 abbrev pub maxBounces : ℕ
 maxBounces = 16
@@ -80,7 +83,9 @@ checkTraceOf B ds nf nh nv nt used =
     (after (checkMemoryOf ds nf nh nv nt used) (checkRaysOf (raysIn B) (B .solids) (B .rays) 0)))
 
 unfoldable pub checkBatch : Batch → Memory → Checked Unit
-checkBatch B s = checkTraceOf B (s .detectors) (length (s .flux)) (length (s .hits)) (length (s .hitValues)) (length (s .hitTags)) (s .used)
+checkBatch B s =
+    checkTraceOf B (s .detectors) (length (s .flux)) (length (s .hits)) (length (s .hitValues)) (length (s .hitTags))
+    (s .used)
 
 -- ---- the run
 
@@ -119,4 +124,5 @@ abbrev pub answerOf : Advanced → Traced
 answerOf r = record { check = r .check; report = r .progress .report; detectors = r .detectors; used = r .used }
 
 abbrev pub asTraced : Traced → List Float → List ℕ → List Float → List ℕ → Trace Memory
-asTraced r f h v t = record { outcome = asOutcome (r .check) (lentMemory (r .detectors) f h v t (r .used)); report = r .report }
+asTraced r f h v t =
+    record { outcome = asOutcome (r .check) (lentMemory (r .detectors) f h v t (r .used)); report = r .report }

@@ -8,7 +8,7 @@ use lib.ListN.{length, take, drop}
 use Rattle.memory.specs.Memory.{Memory, lentMemory, Outcome, asOutcome}
 use Rattle.trace.specs.declared.Traced.{Traced}
 use Rattle.theorems_calls.specs.Parts.{Part}
-use Rattle.halves.specs.declared.Halved.{Halved}
+use Rattle.test_halves.specs.declared.Halved.{Halved}
 use Rattle.detector.specs.Pixels.{maxCount}
 use Rattle.given_rays.specs.Given.{rayDoubles, rayWholes}
 
@@ -22,7 +22,12 @@ furtherOf place n = cond (leb place (maxCount - n)) (n + place) place
 
 -- the rays from n on, and those before
 abbrev pub laterPart : List Float → List ℕ → ℕ → ℕ → Part
-laterPart v t given n = record { rayValues = take (length v - n * rayDoubles) (drop (n * rayDoubles) v); rayTags = take (length t - n * rayWholes) (drop (n * rayWholes) t); rays = given - n }
+laterPart v t given n =
+    record {
+      rayValues = take (length v - n * rayDoubles) (drop (n * rayDoubles) v);
+      rayTags = take (length t - n * rayWholes) (drop (n * rayWholes) t);
+      rays = given - n;
+    }
 
 abbrev pub formerPart : List Float → List ℕ → ℕ → Part
 formerPart v t n = record { rayValues = take (n * rayDoubles) v; rayTags = take (n * rayWholes) t; rays = n }

@@ -1,12 +1,12 @@
--- `halves::both` meets its contract. Assumes nothing.
+-- `test_halves::both` meets its contract. Assumes nothing.
 use mathlib.Core.Path.{refl, ap, _∙_}
 use native.Mathlib.Omega.{arith}
 use borrow.Author.Needs.{needs}
 use Rattle.memory.specs.Memory.{Memory}
 use Rattle.trace.specs.Trace.{Trace}
-use Rattle.halves.proofs.Cut.{lists-are, halves-refused, halves-done}
-use Rattle.halves.proofs.both.Statement.{statement}
-use Rattle.halves.proofs.both.Tie as tie
+use Rattle.test_halves.proofs.Cut.{lists-are, halves-refused, halves-done}
+use Rattle.test_halves.proofs.both.Statement.{statement}
+use Rattle.test_halves.proofs.both.Tie as tie
 
 later-requires : tie.Need-later-requires
 later-requires c κs = let o = c .before .before .before .before .before .before .before .before .before .before .before .before in let e = lists-are _ _ (o .pre .1) in (o .pre .0, omega (arith, e .0), omega (arith, e .1))

@@ -1,9 +1,9 @@
--- `halves::cut_at` meets its contract. Assumes nothing.
+-- `test_halves::cut_at` meets its contract. Assumes nothing.
 use native.Mathlib.Omega.{arith}
 use borrow.Author.Tests.{le-leb, lt-leb}
-use Rattle.halves.specs.Halves.{cutAtOf}
-use Rattle.halves.proofs.cut_at.Statement.{statement}
-use Rattle.halves.proofs.cut_at.Tie as tie
+use Rattle.test_halves.specs.Halves.{cutAtOf}
+use Rattle.test_halves.proofs.cut_at.Statement.{statement}
+use Rattle.test_halves.proofs.cut_at.Tie as tie
 
 returns : tie.Need-returns
 unfolding cutAtOf

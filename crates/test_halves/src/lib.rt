@@ -13,7 +13,7 @@ ghost use Rattle.error.specs.Refusals.{passed};
 ghost use Rattle.memory.specs.Memory.{lentMemory};
 ghost use Rattle.trace.specs.Trace.{lentBatch, checkBatch, traceRaysOf, asTraced};
 ghost use Rattle.theorems_calls.specs.Parts.{withRays};
-ghost use Rattle.halves.specs.Halves.{cutAtOf, furtherOf, laterPart, formerPart, answerOf, asHalved};
+ghost use Rattle.test_halves.specs.Halves.{cutAtOf, furtherOf, laterPart, formerPart, answerOf, asHalved};
 ghost use Rattle.given_rays.specs.Given.{rayDoubles, rayWholes};
 
 // The refusal or none, and what goes on. The ledger and tallies of a split batch are those of its parts.

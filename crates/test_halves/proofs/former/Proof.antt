@@ -1,10 +1,10 @@
--- `halves::former` meets its contract. Assumes nothing.
+-- `test_halves::former` meets its contract. Assumes nothing.
 use borrow.Author.Needs.{needs}
 use native.Mathlib.Omega.{arith}
 use mathlib.Core.Path.{sym}
 use lib.Seq.{length-take-le}
-use Rattle.halves.proofs.former.Statement.{statement}
-use Rattle.halves.proofs.former.Tie as tie
+use Rattle.test_halves.proofs.former.Statement.{statement}
+use Rattle.test_halves.proofs.former.Tie as tie
 
 mul-a : tie.Need-mul-a
 mul-a c = search needs

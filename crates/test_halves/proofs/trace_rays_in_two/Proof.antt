@@ -1,12 +1,12 @@
--- `halves::trace_rays_in_two` meets its contract. Assumes nothing.
+-- `test_halves::trace_rays_in_two` meets its contract. Assumes nothing.
 use mathlib.Core.Path.{refl, ap}
 use borrow.Author.Needs.{needs}
 use Rattle.memory.specs.Memory.{Memory}
 use Rattle.trace.specs.Trace.{Trace}
 use Rattle.trace.proofs.Calls.{refused-call}
-use Rattle.halves.proofs.Cut.{all-passed}
-use Rattle.halves.proofs.trace_rays_in_two.Statement.{statement}
-use Rattle.halves.proofs.trace_rays_in_two.Tie as tie
+use Rattle.test_halves.proofs.Cut.{all-passed}
+use Rattle.test_halves.proofs.trace_rays_in_two.Statement.{statement}
+use Rattle.test_halves.proofs.trace_rays_in_two.Tie as tie
 
 check-trace-requires : tie.Need-check-trace-requires
 check-trace-requires c κs = search needs

@@ -1,9 +1,9 @@
--- `halves::further` meets its contract. Assumes nothing.
+-- `test_halves::further` meets its contract. Assumes nothing.
 use borrow.Author.Tests.{le-leb, lt-leb}
-use Rattle.halves.specs.Halves.{furtherOf}
+use Rattle.test_halves.specs.Halves.{furtherOf}
 use borrow.Author.Needs.{needs}
-use Rattle.halves.proofs.further.Statement.{statement}
-use Rattle.halves.proofs.further.Tie as tie
+use Rattle.test_halves.proofs.further.Statement.{statement}
+use Rattle.test_halves.proofs.further.Tie as tie
 
 sub-if1 : tie.Need-sub-if1
 sub-if1 c = search needs

@@ -18,7 +18,7 @@ use Rattle.theorems_calls.specs.Parts.{Part, Exact, joined, withRays, shifted, 
 use Rattle.theorems_calls.proofs.Checks.{Passes, passes, lists-say, later-passes}
 use Rattle.theorems_calls.proofs.Split.{two-parts}
 use Rattle.theorems_calls.proofs.Places.{place-few}
-use Rattle.halves.specs.Halves.{furtherOf, laterPart, formerPart}
+use Rattle.test_halves.specs.Halves.{furtherOf, laterPart, formerPart}
 
 -- what the code's check says
 pub all-passed : (B : Batch) (s : Memory) (c : Check) → asChecked c ≡ checkTraceOf B (s .detectors) (length (s .flux)) (length (s .hits)) (length (s .hitValues)) (length (s .hitTags)) (s .used) → c ≡ Passed → checkBatch B s ≡ passed tt
