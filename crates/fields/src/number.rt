@@ -14,6 +14,13 @@ pub enum ReadWhole {
     Malformed,
 }
 
+// The byte after the last digit, the one after the last letter, and where the letters count from 0.
+const AFTER_9: u8 = b'9' + 1;
+
+const AFTER_F: u8 = b'f' + 1;
+
+const LETTERS: u8 = b'a' - 10;
+
 // What a hex digit counts; 16 for any other byte.
 fn digit(b: u8) -> u64
     ensures { λ r. ⌜ r ≡ digitOf b ⌝ }
@@ -21,14 +28,14 @@ fn digit(b: u8) -> u64
     if b < b'0' {
         return 16;
     }
-    if b < 58 {
+    if b < AFTER_9 {
         return (b - b'0') as u64;
     }
     if b < b'a' {
         return 16;
     }
-    if b < 103 {
-        return (b - 87) as u64;
+    if b < AFTER_F {
+        return (b - LETTERS) as u64;
     }
     16
 }

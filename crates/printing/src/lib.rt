@@ -31,6 +31,9 @@ pub fn put_all(buf: &mut [u8], at: usize, t: &[u8]) -> usize
     p
 }
 
+// Where the letters of hex digits count from 0.
+const LETTERS: u8 = b'a' - 10;
+
 fn glyph(d: u64) -> u8
     requires { ⌜ d < 16 ⌝ }
     ensures { λ r. ⌜ r ≡ glyphOf d ⌝ }
@@ -38,7 +41,7 @@ fn glyph(d: u64) -> u8
     if d < 10 {
         return b'0' + d as u8;
     }
-    87 + d as u8
+    LETTERS + d as u8
 }
 
 // Sixteen hex digits, trailing zeros dropped, at least one.

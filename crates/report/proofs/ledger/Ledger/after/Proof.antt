@@ -68,7 +68,7 @@ returns-5 c = simp (c .before .before .end .given .1, ← c .absorb3 .ensures)
 
 returns-6 : tie.Need-returns-6
 unfolding ledgerAfterOf
-returns-6 c = simp (c .before .before .before .fate2 .given .1, ← c .before .unless-made .ensures, ← c .unless-made2 .ensures)
+returns-6 c = simp (c .before .before .before .end2 .given .1, ← c .before .unless-made .ensures, ← c .unless-made2 .ensures)
 
 returns-7 : tie.Need-returns-7
 unfolding ledgerAfterOf
