@@ -35,8 +35,8 @@ int main(void)
     nonseq_detectors detectors;
     nonseq_given_ray ray = {{1, 1, 0}, {0, 0, 1}, 550, 1, 0, 0, {0}};
     nonseq_config config = {0, 4, NONSEQ_AIR, 0, 0, 0, 0, 0, 0};
-    double values[1] = {0}, flux[4] = {0}, places[8] = {0}, work[4];
-    uint32_t tags[1] = {0}, hits[4] = {0}, kinds[8] = {0};
+    double solid_values[1] = {0}, flux[4] = {0}, hit_values[8] = {0}, work[4];
+    uint32_t solid_tags[1] = {0}, hits[4] = {0}, hit_tags[8] = {0};
     uint8_t text[1024];
     nonseq_traced t;
     nonseq_filtered f;
@@ -49,20 +49,20 @@ int main(void)
     detectors.list[0] = made.detector;
     detectors.count = 1;
 
-    t = nonseq_trace_given_rays(config, values, 0, tags, 0, 0, &ray, 1, detectors, flux, 4, hits, 4, places, 8, kinds, 8, 0);
+    t = nonseq_trace_given_rays(config, solid_values, 0, solid_tags, 0, 0, &ray, 1, detectors, flux, 4, hits, 4, hit_values, 8, hit_tags, 8, 0);
     expect("the ray is traced", t.refusal == NONSEQ_DONE && t.used == 1);
     expect("nothing is lost", nonseq_energy_conservation_ratio(t.report.ledger) == 1);
-    n = nonseq_put_answer(text, sizeof text, t.report, t.detectors, NONSEQ_ALL, flux, 4, places, 8, kinds, 8, t.used);
+    n = nonseq_put_answer(text, sizeof text, t.report, t.detectors, NONSEQ_ALL, flux, 4, hit_values, 8, hit_tags, 8, t.used);
     expect("the answer fits", n <= sizeof text);
     fwrite(text, 1, n, stdout);
     expect("one byte too few, and nothing is written", nonseq_put_refusal(text, 17, 17, 4) == 19 && text[0] == 'r' && text[1] == 'a');
 
-    f = nonseq_refilter(t.detectors, 0, NONSEQ_GHOSTS_ONLY, flux, 4, work, 4, places, 8, kinds, 8, t.used);
+    f = nonseq_refilter(t.detectors, 0, NONSEQ_GHOSTS_ONLY, flux, 4, work, 4, hit_values, 8, hit_tags, 8, t.used);
     expect("it is no ghost", f.refusal == NONSEQ_DONE && f.hit_count == 0 && work[3] == 0);
-    f = nonseq_refilter(t.detectors, 1, NONSEQ_ALL, flux, 4, work, 4, places, 8, kinds, 8, t.used);
+    f = nonseq_refilter(t.detectors, 1, NONSEQ_ALL, flux, 4, work, 4, hit_values, 8, hit_tags, 8, t.used);
     expect("there is no detector 1", f.refusal == NONSEQ_NO_SUCH_DETECTOR);
     config.ambient = 4;
-    t = nonseq_trace_given_rays(config, values, 0, tags, 0, 0, &ray, 1, t.detectors, flux, 4, hits, 4, places, 8, kinds, 8, t.used);
+    t = nonseq_trace_given_rays(config, solid_values, 0, solid_tags, 0, 0, &ray, 1, t.detectors, flux, 4, hits, 4, hit_values, 8, hit_tags, 8, t.used);
     expect("there is no medium 4", t.refusal == NONSEQ_INVALID_SCENE_TEXT && t.used == 1);
     return wrong;
 }

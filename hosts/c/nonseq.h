@@ -140,14 +140,15 @@ nonseq_reading nonseq_pixel_area_m2(nonseq_detector detector);
 
 /* One hit into its pixel, its detector's record and the list, wholly or not at all (3, 5 to 8, 4, 9, 12, 13). The
  * records and the number used that come back go into the next call. */
-nonseq_recorded nonseq_record_hit_classified(nonseq_detectors detectors, double *flux, size_t flux_len, uint32_t *hits,
-                                             size_t hits_len, double *places, size_t places_len, uint32_t *kinds,
-                                             size_t kinds_len, size_t used, nonseq_hit hit);
+nonseq_recorded nonseq_record_hit_classified(nonseq_detectors detectors, double *flux, size_t flux_len,
+    uint32_t *hits, size_t hits_len, double *hit_values, size_t hit_values_len,
+    uint32_t *hit_tags, size_t hit_tags_len, size_t used, nonseq_hit hit);
 /* Detector `asked` under a filter (17 for a filter over 4, then 3, 5 to 8, 4, 9): the work map, which has just the
  * pixels of that detector, is zeroed and refilled; NONSEQ_ALL leaves it, its map is the detector's part of flux. */
-nonseq_filtered nonseq_refilter(nonseq_detectors detectors, uint32_t asked, uint32_t filter, const double *flux,
-                                size_t flux_len, double *work, size_t work_len, const double *places,
-                                size_t places_len, const uint32_t *kinds, size_t kinds_len, size_t used);
+nonseq_filtered nonseq_refilter(nonseq_detectors detectors, uint32_t asked, uint32_t filter,
+    const double *flux, size_t flux_len, double *work, size_t work_len,
+    const double *hit_values, size_t hit_values_len, const uint32_t *hit_tags, size_t hit_tags_len,
+    size_t used);
 /* Where a detector's pixels stand in the maps (3, 5 to 8, 4). */
 nonseq_part nonseq_pixels_of(nonseq_detectors detectors, uint32_t asked);
 /* Watts a square metre on a pixel (3, 5 to 8, 4, 9); 0 outside the resolution. */
@@ -156,33 +157,35 @@ nonseq_reading nonseq_irradiance_at(nonseq_detectors detectors, uint32_t asked, 
 
 /* Traces `given` flat rays through `count` solids. 17, 1, 2, 3, 5 to 8, 9, 10, 11 come before the run and change
  * nothing; 12 to 16 come in it, and the hits of the steps before them stay. */
-nonseq_traced nonseq_trace_rays(nonseq_config config, const double *values, size_t values_len, const uint32_t *tags,
-                                size_t tags_len, uint32_t count, const double *rays, size_t rays_len,
-                                const uint32_t *marks, size_t marks_len, uint32_t given, nonseq_detectors detectors,
-                                double *flux, size_t flux_len, uint32_t *hits, size_t hits_len, double *places,
-                                size_t places_len, uint32_t *kinds, size_t kinds_len, size_t used);
+nonseq_traced nonseq_trace_rays(nonseq_config config, const double *solid_values, size_t solid_values_len,
+    const uint32_t *solid_tags, size_t solid_tags_len, uint32_t count,
+    const double *ray_values, size_t ray_values_len, const uint32_t *ray_tags, size_t ray_tags_len,
+    uint32_t given, nonseq_detectors detectors, double *flux, size_t flux_len, uint32_t *hits, size_t hits_len,
+    double *hit_values, size_t hit_values_len, uint32_t *hit_tags, size_t hit_tags_len, size_t used);
 /* The same with the rays as structs. */
-nonseq_traced nonseq_trace_given_rays(nonseq_config config, const double *values, size_t values_len,
-                                      const uint32_t *tags, size_t tags_len, uint32_t count,
-                                      const nonseq_given_ray *rays, size_t rays_len, nonseq_detectors detectors,
-                                      double *flux, size_t flux_len, uint32_t *hits, size_t hits_len, double *places,
-                                      size_t places_len, uint32_t *kinds, size_t kinds_len, size_t used);
+nonseq_traced nonseq_trace_given_rays(nonseq_config config, const double *solid_values, size_t solid_values_len,
+    const uint32_t *solid_tags, size_t solid_tags_len, uint32_t count,
+    const nonseq_given_ray *rays, size_t rays_len, nonseq_detectors detectors, double *flux, size_t flux_len,
+    uint32_t *hits, size_t hits_len, double *hit_values, size_t hit_values_len,
+    uint32_t *hit_tags, size_t hit_tags_len, size_t used);
 /* Detected, absorbed and escaped power over launched; 1 where none was launched. */
 double nonseq_energy_conservation_ratio(nonseq_ledger ledger);
 
 /* A scene text into eight slices, the numbers of each block in the text's order (17 with the line's number leaves
- * them); `faces` and `sizes` are the detectors' 11 doubles and 2 whole numbers. A filter `-` is stored as 5. */
-nonseq_scene nonseq_read_scene(const uint8_t *text, size_t text_len, double *run, size_t run_len, uint32_t *runs,
-                               size_t runs_len, double *values, size_t values_len, uint32_t *tags, size_t tags_len,
-                               double *faces, size_t faces_len, uint32_t *sizes, size_t sizes_len, double *rays,
-                               size_t rays_len, uint32_t *marks, size_t marks_len);
+ * them); `detector_values` and `detector_tags` are the detectors' 11 doubles and 2 whole numbers. A filter `-` is
+ * stored as 5. */
+nonseq_scene nonseq_read_scene(const uint8_t *text, size_t text_len, double *run_values, size_t run_values_len,
+    uint32_t *run_tags, size_t run_tags_len, double *solid_values, size_t solid_values_len,
+    uint32_t *solid_tags, size_t solid_tags_len, double *detector_values, size_t detector_values_len,
+    uint32_t *detector_tags, size_t detector_tags_len, double *ray_values, size_t ray_values_len,
+    uint32_t *ray_tags, size_t ray_tags_len);
 /* Texts are written whole from the buffer's start on, or not at all where they do not fit; their length comes back. */
 
 /* The answer of a tracing. A filter over 4 (17), detectors (3, 5 to 8), slices that are not theirs or more than 4,096
  * pixels (9) are answered by the text of the refusal. NONSEQ_MAX_ANSWER bytes hold any answer. */
 size_t nonseq_put_answer(uint8_t *buf, size_t buf_len, nonseq_report report, nonseq_detectors detectors,
-                         uint32_t filter, const double *flux, size_t flux_len, const double *places, size_t places_len,
-                         const uint32_t *kinds, size_t kinds_len, size_t used);
+    uint32_t filter, const double *flux, size_t flux_len, const double *hit_values, size_t hit_values_len,
+    const uint32_t *hit_tags, size_t hit_tags_len, size_t used);
 size_t nonseq_put_refusal(uint8_t *buf, size_t buf_len, uint32_t refusal, uint32_t place);
 /* The answer to a scene text, as straymap prints it; NONSEQ_MAX_ANSWER bytes hold any answer. */
 size_t nonseq_stray_map(uint8_t *buf, size_t buf_len, const uint8_t *text, size_t text_len);

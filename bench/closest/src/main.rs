@@ -28,19 +28,19 @@ struct BenchHit {
 #[link(name = "bench", kind = "static")]
 extern "C" {
     #[allow(clippy::too_many_arguments)]
-    fn bench_closest(values: *const f64, nv: usize, tags: *const u32, nt: usize, count: u32, ox: f64, oy: f64, oz: f64, dx: f64, dy: f64, dz: f64) -> BenchHit;
+    fn bench_closest(solid_values: *const f64, nv: usize, solid_tags: *const u32, nt: usize, count: u32, ox: f64, oy: f64, oz: f64, dx: f64, dy: f64, dz: f64) -> BenchHit;
 }
 
 struct Scene {
     original: NonSeqScene,
-    values: Vec<f64>,
-    tags: Vec<u32>,
+    solid_values: Vec<f64>,
+    solid_tags: Vec<u32>,
     solids: Vec<Solid>,
 }
 
 impl Scene {
     fn new() -> Self {
-        Scene { original: NonSeqScene::new(), values: vec![], tags: vec![], solids: vec![] }
+        Scene { original: NonSeqScene::new(), solid_values: vec![], solid_tags: vec![], solids: vec![] }
     }
 
     fn add(&mut self, g: PrimitiveGeometry, transform: Transform3D) {
@@ -54,11 +54,11 @@ impl Scene {
             PrimitiveGeometry::Box { half_x, half_y, half_z } => (4, [half_x, half_y, half_z], Shape::Box { half: [half_x, half_y, half_z] }),
             _ => unreachable!(),
         };
-        self.tags.extend([tag, 1, 0, 0]);
-        self.values.extend(size);
-        self.values.extend([0.0; 7]);
-        self.values.extend(m.r.iter().flatten());
-        self.values.extend(w.r.iter().flatten());
+        self.solid_tags.extend([tag, 1, 0, 0]);
+        self.solid_values.extend(size);
+        self.solid_values.extend([0.0; 7]);
+        self.solid_values.extend(m.r.iter().flatten());
+        self.solid_values.extend(w.r.iter().flatten());
         self.solids.push(Solid { shape, active: true, m: m.r, w: w.r });
         self.original.add_object(NonSeqObject { id: 0, name: String::new(), geometry: g, transform, material: NonSeqMaterial::dielectric(OpticalMedium::Air), is_active: true });
     }
@@ -80,7 +80,7 @@ impl Scene {
 
 fn ours(s: &Scene, r: &Ray) -> BenchHit {
     let (o, d) = (r.origin, r.direction);
-    unsafe { bench_closest(s.values.as_ptr(), s.values.len(), s.tags.as_ptr(), s.tags.len(), s.tags.len() as u32 / 4, o.x, o.y, o.z, d.x, d.y, d.z) }
+    unsafe { bench_closest(s.solid_values.as_ptr(), s.solid_values.len(), s.solid_tags.as_ptr(), s.solid_tags.len(), s.solid_tags.len() as u32 / 4, o.x, o.y, o.z, d.x, d.y, d.z) }
 }
 
 fn packed(h: Option<Hit>) -> BenchHit {

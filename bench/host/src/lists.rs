@@ -9,12 +9,12 @@ pub const HITS: usize = 1 << 18;
 pub struct Lists {
     pub threshold: f64,
     pub bounces: u32,
-    pub values: Vec<f64>,
-    pub tags: Vec<u32>,
-    pub sizes: Vec<f64>,
-    pub pixels: Vec<u32>,
-    pub rays: Vec<f64>,
-    pub marks: Vec<u32>,
+    pub solid_values: Vec<f64>,
+    pub solid_tags: Vec<u32>,
+    pub detector_values: Vec<f64>,
+    pub detector_tags: Vec<u32>,
+    pub ray_values: Vec<f64>,
+    pub ray_tags: Vec<u32>,
 }
 
 fn double(t: &str) -> f64 {
@@ -45,44 +45,44 @@ impl Lists {
                     assert_eq!(f[3], "0", "the ambient medium is air");
                 }
                 "shape" => {
-                    l.values.extend(doubles([f[1], f[2], f[3], f[6]]));
-                    l.values.extend(doubles(f[8..14].iter().copied()));
-                    l.values.extend(doubles(f[14].split(',')));
-                    l.values.extend(doubles(f[15].split(',')));
-                    l.tags.extend([f[0], f[4], f[5], f[7]].map(whole));
+                    l.solid_values.extend(doubles([f[1], f[2], f[3], f[6]]));
+                    l.solid_values.extend(doubles(f[8..14].iter().copied()));
+                    l.solid_values.extend(doubles(f[14].split(',')));
+                    l.solid_values.extend(doubles(f[15].split(',')));
+                    l.solid_tags.extend([f[0], f[4], f[5], f[7]].map(whole));
                 }
                 "cx" => {
-                    l.sizes.extend(doubles(f[..11].iter().copied()));
-                    l.pixels.extend([f[11], f[12]].map(whole));
+                    l.detector_values.extend(doubles(f[..11].iter().copied()));
+                    l.detector_tags.extend([f[11], f[12]].map(whole));
                 }
                 _ => {
-                    l.rays.extend(doubles(f[..8].iter().copied()));
+                    l.ray_values.extend(doubles(f[..8].iter().copied()));
                     let mut media: Vec<u32> = if f[9] == "-" { vec![] } else { f[9].split(',').map(whole).collect() };
-                    l.marks.extend([whole(f[8]), media.len() as u32]);
+                    l.ray_tags.extend([whole(f[8]), media.len() as u32]);
                     media.resize(8, 0);
-                    l.marks.extend(media);
+                    l.ray_tags.extend(media);
                 }
             }
         }
-        assert_eq!((l.values.len(), l.sizes.len(), l.rays.len()), (l.tags.len() / 4 * 42, l.pixels.len() / 2 * 11, l.marks.len() / 10 * 8));
+        assert_eq!((l.solid_values.len(), l.detector_values.len(), l.ray_values.len()), (l.solid_tags.len() / 4 * 42, l.detector_tags.len() / 2 * 11, l.ray_tags.len() / 10 * 8));
         l
     }
 
     pub fn solids(&self) -> impl Iterator<Item = (&[f64], &[u32])> {
-        self.values.chunks(42).zip(self.tags.chunks(4))
+        self.solid_values.chunks(42).zip(self.solid_tags.chunks(4))
     }
 
     pub fn detectors(&self) -> impl Iterator<Item = (&[f64], &[u32])> {
-        self.sizes.chunks(11).zip(self.pixels.chunks(2))
+        self.detector_values.chunks(11).zip(self.detector_tags.chunks(2))
     }
 
     pub fn given(&self) -> impl Iterator<Item = (&[f64], &[u32])> {
-        self.rays.chunks(8).zip(self.marks.chunks(10))
+        self.ray_values.chunks(8).zip(self.ray_tags.chunks(10))
     }
 
     pub fn maps(&self) -> Maps {
-        let n = self.pixels.chunks(2).map(|p| (p[0] * p[1]) as usize).sum();
-        Maps { flux: vec![0.0; n], hits: vec![0; n], places: vec![0.0; 4 * HITS], kinds: vec![0; 4 * HITS], used: 0 }
+        let n = self.detector_tags.chunks(2).map(|p| (p[0] * p[1]) as usize).sum();
+        Maps { flux: vec![0.0; n], hits: vec![0; n], hit_values: vec![0.0; 4 * HITS], hit_tags: vec![0; 4 * HITS], used: 0 }
     }
 }
 

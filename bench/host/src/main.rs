@@ -40,7 +40,7 @@ fn measured(scene: (Lists, Vec<Transform3D>), ways: &[Way], passes: usize) -> Ti
         v.sort_by(f64::total_cmp);
         (v[0], v[v.len() / 2])
     };
-    Times { interactions, hits: want.kinds.len() / 4, differences, ns: ns.into_iter().map(ends).collect() }
+    Times { interactions, hits: want.hit_tags.len() / 4, differences, ns: ns.into_iter().map(ends).collect() }
 }
 
 fn typical() -> usize {

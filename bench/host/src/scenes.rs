@@ -70,22 +70,22 @@ pub fn row(n: usize, kind: Kind, rays: usize, bounces: u32) -> (Lists, Vec<Trans
             rotation_euler_deg: Vec3::new(3.0 * (k % 4) as f64, 2.0 * (k % 3) as f64, 0.0),
             scale: Vec3::new(1.0, 1.0, flat),
         };
-        l.values.extend(sizes);
-        l.values.extend([rho, index, 0.0, 0.0, 0.0, 0.0, 0.0]);
-        l.values.extend(t.to_matrix4().r.iter().flatten());
-        l.values.extend(t.inverse_matrix4().unwrap().r.iter().flatten());
-        l.tags.extend([number, 1, finish, medium]);
+        l.solid_values.extend(sizes);
+        l.solid_values.extend([rho, index, 0.0, 0.0, 0.0, 0.0, 0.0]);
+        l.solid_values.extend(t.to_matrix4().r.iter().flatten());
+        l.solid_values.extend(t.inverse_matrix4().unwrap().r.iter().flatten());
+        l.solid_tags.extend([number, 1, finish, medium]);
         transforms.push(t);
     }
     for (z, facing) in [(10.0 + 5.0 * n as f64, -1.0), (-6.0, 1.0)] {
-        l.sizes.extend([0.0, 0.0, z, 0.0, 0.0, facing, 0.0, 1.0, 0.0, 28.0, 28.0]);
-        l.pixels.extend([32, 32]);
+        l.detector_values.extend([0.0, 0.0, z, 0.0, 0.0, facing, 0.0, 1.0, 0.0, 28.0, 28.0]);
+        l.detector_tags.extend([32, 32]);
     }
     for i in 0..rays {
         let (u, v) = (i as f64 * 0.618_033_988_749_894_9 % 1.0, i as f64 * 0.754_877_666_246_692_8 % 1.0);
         let d = Vec3::new(0.1 * (v - 0.5), 0.1 * (u - 0.5), 1.0).normalize();
-        l.rays.extend([8.0 * (u - 0.5), 8.0 * (v - 0.5), -2.0, d.x, d.y, d.z, 587.56, 1.0]);
-        l.marks.extend([0; 10]);
+        l.ray_values.extend([8.0 * (u - 0.5), 8.0 * (v - 0.5), -2.0, d.x, d.y, d.z, 587.56, 1.0]);
+        l.ray_tags.extend([0; 10]);
     }
     (l, transforms)
 }

@@ -126,8 +126,8 @@ struct Active {
 pub struct Maps {
     pub flux: Vec<f64>,
     pub hits: Vec<u32>,
-    pub places: Vec<f64>,
-    pub kinds: Vec<u32>,
+    pub hit_values: Vec<f64>,
+    pub hit_tags: Vec<u32>,
     pub used: usize,
 }
 
@@ -190,7 +190,7 @@ fn crossing(d: &Detector, f: &Face, r: &Ray) -> Option<(f64, f64, f64)> {
 
 fn record(m: &mut Maps, d: &Detector, f: &Face, number: usize, x: f64, y: f64, a: &Active) -> Result<(), u32> {
     let k = m.used * 4;
-    if k + 4 > m.places.len() {
+    if k + 4 > m.hit_values.len() {
         return Err(12);
     }
     let u = ((x + d.width * 0.5) / d.width).clamp(0.0, 0.999999);
@@ -199,8 +199,8 @@ fn record(m: &mut Maps, d: &Detector, f: &Face, number: usize, x: f64, y: f64, a
     let at = f.first + py * d.resx + px;
     m.hits[at] = m.hits[at].checked_add(1).ok_or(13u32)?;
     m.flux[at] += a.ray.power;
-    m.places[k..k + 4].copy_from_slice(&[x, y, a.ray.power, a.ray.nm]);
-    m.kinds[k..k + 4].copy_from_slice(&[number as u32, a.bounce, a.reflections, a.totals]);
+    m.hit_values[k..k + 4].copy_from_slice(&[x, y, a.ray.power, a.ray.nm]);
+    m.hit_tags[k..k + 4].copy_from_slice(&[number as u32, a.bounce, a.reflections, a.totals]);
     m.used += 1;
     Ok(())
 }

@@ -17,7 +17,7 @@ use std::time::{Duration, Instant};
 fn original_scene(l: &Lists, transforms: &[Transform3D]) -> NonSeqScene {
     let mut s = NonSeqScene::new();
     let v3 = |v: &[f64]| Vec3::new(v[0], v[1], v[2]);
-    assert_eq!(l.tags.len(), 4 * transforms.len());
+    assert_eq!(l.solid_tags.len(), 4 * transforms.len());
     for ((v, t), transform) in l.solids().zip(transforms) {
         let geometry = match t[0] {
             0 => PrimitiveGeometry::Plane { half_width: v[0], half_height: v[1] },
@@ -137,9 +137,9 @@ impl Bench {
         let config = HostConfig { min_power_threshold: l.threshold, max_bounces: l.bounces, ambient: 0, a: 0.0, b: 0.0, c: 0.0, d: 0.0, e: 0.0, f: 0.0 };
         unsafe {
             nonseq::ffi::nonseq_trace_rays(
-                config, l.values.as_ptr(), l.values.len(), l.tags.as_ptr(), l.tags.len(), l.tags.len() as u32 / 4,
-                l.rays.as_ptr(), l.rays.len(), l.marks.as_ptr(), l.marks.len(), l.marks.len() as u32 / 10, self.detectors,
-                m.flux.as_mut_ptr(), m.flux.len(), m.hits.as_mut_ptr(), m.hits.len(), m.places.as_mut_ptr(), m.places.len(), m.kinds.as_mut_ptr(), m.kinds.len(), m.used,
+                config, l.solid_values.as_ptr(), l.solid_values.len(), l.solid_tags.as_ptr(), l.solid_tags.len(), l.solid_tags.len() as u32 / 4,
+                l.ray_values.as_ptr(), l.ray_values.len(), l.ray_tags.as_ptr(), l.ray_tags.len(), l.ray_tags.len() as u32 / 10, self.detectors,
+                m.flux.as_mut_ptr(), m.flux.len(), m.hits.as_mut_ptr(), m.hits.len(), m.hit_values.as_mut_ptr(), m.hit_values.len(), m.hit_tags.as_mut_ptr(), m.hit_tags.len(), m.used,
             )
         }
     }
@@ -163,21 +163,21 @@ pub struct Answer {
     hits: Vec<u32>,
     totals: Vec<f64>,
     caught: Vec<u32>,
-    places: Vec<f64>,
-    pub kinds: Vec<u32>,
+    hit_values: Vec<f64>,
+    pub hit_tags: Vec<u32>,
 }
 
 impl Answer {
     /// The maps as they stand; a detector's total is summed over its hits.
     fn of(b: &Bench, rays: u32, interactions: u32, ledger: [f64; 4], used: usize) -> Answer {
-        let n = b.lists.pixels.len() / 2;
+        let n = b.lists.detector_tags.len() / 2;
         let (mut totals, mut caught) = (vec![0.0; n], vec![0; n]);
-        let (places, kinds) = (b.maps.places[..4 * used].to_vec(), b.maps.kinds[..4 * used].to_vec());
-        for (p, k) in places.chunks(4).zip(kinds.chunks(4)) {
+        let (hit_values, hit_tags) = (b.maps.hit_values[..4 * used].to_vec(), b.maps.hit_tags[..4 * used].to_vec());
+        for (p, k) in hit_values.chunks(4).zip(hit_tags.chunks(4)) {
             totals[k[0] as usize] += p[2];
             caught[k[0] as usize] += 1;
         }
-        Answer { counts: vec![rays, interactions], ledger: ledger.to_vec(), flux: b.maps.flux.clone(), hits: b.maps.hits.clone(), totals, caught, places, kinds }
+        Answer { counts: vec![rays, interactions], ledger: ledger.to_vec(), flux: b.maps.flux.clone(), hits: b.maps.hits.clone(), totals, caught, hit_values, hit_tags }
     }
 
     fn proved(b: &mut Bench) -> Answer {
@@ -200,12 +200,12 @@ impl Answer {
         let r = b.original(true);
         let ds = &b.scene.detectors;
         let mut next = vec![0; ds.len()];
-        let (mut places, mut kinds) = (vec![], vec![]);
+        let (mut hit_values, mut hit_tags) = (vec![], vec![]);
         for k in r.paths.iter().filter_map(|p| p.hit_detector_id) {
             let h = &ds[k].hits[next[k]];
             next[k] += 1;
-            places.extend([h.local_x, h.local_y, h.flux_watts, h.wavelength_nm]);
-            kinds.extend([k, h.bounce_count, h.reflection_count, h.tir_count].map(|x| x as u32));
+            hit_values.extend([h.local_x, h.local_y, h.flux_watts, h.wavelength_nm]);
+            hit_tags.extend([k, h.bounce_count, h.reflection_count, h.tir_count].map(|x| x as u32));
         }
         assert!(next.iter().zip(ds).all(|(&n, d)| n == d.hits.len()), "each hit is in a path");
         Answer {
@@ -215,8 +215,8 @@ impl Answer {
             hits: ds.iter().flat_map(|d| d.pixel_hit_counts.iter().map(|&x| x as u32)).collect(),
             totals: ds.iter().map(|d| d.total_flux_watts).collect(),
             caught: ds.iter().map(|d| d.total_rays_hit as u32).collect(),
-            places,
-            kinds,
+            hit_values,
+            hit_tags,
         }
     }
 
@@ -230,8 +230,8 @@ impl Answer {
             ("pixels' hits", u(&self.hits)),
             ("detectors' flux", f(&self.totals)),
             ("detectors' hits", u(&self.caught)),
-            ("hit list's x, y, flux, nm", f(&self.places)),
-            ("hit list's detector, bounce, reflections, totals", u(&self.kinds)),
+            ("hit list's x, y, flux, nm", f(&self.hit_values)),
+            ("hit list's detector, bounce, reflections, totals", u(&self.hit_tags)),
         ]
     }
 

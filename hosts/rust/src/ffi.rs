@@ -30,36 +30,36 @@ extern "C" {
     pub fn nonseq_pixel_area_m2(detector: crate::Detector) -> HostReading;
     pub fn nonseq_record_hit_classified(
         detectors: Detectors, flux: *mut f64, flux_len: usize, hits: *mut u32, hits_len: usize,
-        places: *mut f64, places_len: usize, kinds: *mut u32, kinds_len: usize, used: usize, hit: crate::Hit,
+        hit_values: *mut f64, hit_values_len: usize, hit_tags: *mut u32, hit_tags_len: usize, used: usize, hit: crate::Hit,
     ) -> HostRecorded;
     pub fn nonseq_refilter(
         detectors: Detectors, asked: u32, filter: u32, flux: *const f64, flux_len: usize, work: *mut f64, work_len: usize,
-        places: *const f64, places_len: usize, kinds: *const u32, kinds_len: usize, used: usize,
+        hit_values: *const f64, hit_values_len: usize, hit_tags: *const u32, hit_tags_len: usize, used: usize,
     ) -> HostFiltered;
     pub fn nonseq_pixels_of(detectors: Detectors, asked: u32) -> HostPart;
     pub fn nonseq_irradiance_at(detectors: Detectors, asked: u32, flux: *const f64, flux_len: usize, px: u32, py: u32) -> HostReading;
     pub fn nonseq_trace_rays(
-        config: HostConfig, values: *const f64, values_len: usize, tags: *const u32, tags_len: usize, count: u32,
-        rays: *const f64, rays_len: usize, marks: *const u32, marks_len: usize, given: u32, detectors: Detectors,
+        config: HostConfig, solid_values: *const f64, solid_values_len: usize, solid_tags: *const u32, solid_tags_len: usize, count: u32,
+        ray_values: *const f64, ray_values_len: usize, ray_tags: *const u32, ray_tags_len: usize, given: u32, detectors: Detectors,
         flux: *mut f64, flux_len: usize, hits: *mut u32, hits_len: usize,
-        places: *mut f64, places_len: usize, kinds: *mut u32, kinds_len: usize, used: usize,
+        hit_values: *mut f64, hit_values_len: usize, hit_tags: *mut u32, hit_tags_len: usize, used: usize,
     ) -> HostTraced;
     pub fn nonseq_trace_given_rays(
-        config: HostConfig, values: *const f64, values_len: usize, tags: *const u32, tags_len: usize, count: u32,
+        config: HostConfig, solid_values: *const f64, solid_values_len: usize, solid_tags: *const u32, solid_tags_len: usize, count: u32,
         rays: *const crate::GivenRay, rays_len: usize, detectors: Detectors,
         flux: *mut f64, flux_len: usize, hits: *mut u32, hits_len: usize,
-        places: *mut f64, places_len: usize, kinds: *mut u32, kinds_len: usize, used: usize,
+        hit_values: *mut f64, hit_values_len: usize, hit_tags: *mut u32, hit_tags_len: usize, used: usize,
     ) -> HostTraced;
     pub fn nonseq_energy_conservation_ratio(ledger: crate::Ledger) -> f64;
     pub fn nonseq_read_scene(
-        text: *const u8, text_len: usize, run: *mut f64, run_len: usize, runs: *mut u32, runs_len: usize,
-        values: *mut f64, values_len: usize, tags: *mut u32, tags_len: usize,
-        faces: *mut f64, faces_len: usize, sizes: *mut u32, sizes_len: usize,
-        rays: *mut f64, rays_len: usize, marks: *mut u32, marks_len: usize,
+        text: *const u8, text_len: usize, run_values: *mut f64, run_values_len: usize, run_tags: *mut u32, run_tags_len: usize,
+        solid_values: *mut f64, solid_values_len: usize, solid_tags: *mut u32, solid_tags_len: usize,
+        detector_values: *mut f64, detector_values_len: usize, detector_tags: *mut u32, detector_tags_len: usize,
+        ray_values: *mut f64, ray_values_len: usize, ray_tags: *mut u32, ray_tags_len: usize,
     ) -> HostScene;
     pub fn nonseq_put_answer(
         buf: *mut u8, buf_len: usize, report: crate::Report, detectors: Detectors, filter: u32,
-        flux: *const f64, flux_len: usize, places: *const f64, places_len: usize, kinds: *const u32, kinds_len: usize, used: usize,
+        flux: *const f64, flux_len: usize, hit_values: *const f64, hit_values_len: usize, hit_tags: *const u32, hit_tags_len: usize, used: usize,
     ) -> usize;
     pub fn nonseq_put_refusal(buf: *mut u8, buf_len: usize, refusal: u32, place: u32) -> usize;
     pub fn nonseq_stray_map(buf: *mut u8, buf_len: usize, text: *const u8, text_len: usize) -> usize;

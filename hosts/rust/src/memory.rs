@@ -8,8 +8,8 @@ pub struct Memory {
     detectors: Detectors,
     flux: Vec<f64>,
     hits: Vec<u32>,
-    places: Vec<f64>,
-    kinds: Vec<u32>,
+    hit_values: Vec<f64>,
+    hit_tags: Vec<u32>,
     used: usize,
 }
 
@@ -59,7 +59,7 @@ impl Memory {
         Error::check(r.refusal, r.place)?;
         let pixels: usize = list[..count as usize].iter().map(|d| d.res_x as usize * d.res_y as usize).sum();
         let numbers = capacity.saturating_mul(4);
-        Ok(Memory { detectors, flux: vec![0.0; pixels], hits: vec![0; pixels], places: vec![0.0; numbers], kinds: vec![0; numbers], used: 0 })
+        Ok(Memory { detectors, flux: vec![0.0; pixels], hits: vec![0; pixels], hit_values: vec![0.0; numbers], hit_tags: vec![0; numbers], used: 0 })
     }
 
     /// The detectors, and what they have caught.
@@ -79,7 +79,7 @@ impl Memory {
 
     /// The hits in the order in which they came.
     pub fn hits(&self) -> impl Iterator<Item = Hit> + '_ {
-        self.places.chunks_exact(4).zip(self.kinds.chunks_exact(4)).take(self.used).map(|(p, k)| Hit {
+        self.hit_values.chunks_exact(4).zip(self.hit_tags.chunks_exact(4)).take(self.used).map(|(p, k)| Hit {
             local_x: p[0],
             local_y: p[1],
             flux_watts: p[2],
@@ -95,23 +95,23 @@ impl Memory {
     pub fn trace(&mut self, config: &Config, scene: &Scene, rays: &[GivenRay]) -> Result<Report, Refused> {
         let r = unsafe {
             ffi::nonseq_trace_given_rays(
-                config.numbers(), scene.values.as_ptr(), scene.values.len(), scene.tags.as_ptr(), scene.tags.len(), scene.count,
+                config.numbers(), scene.solid_values.as_ptr(), scene.solid_values.len(), scene.solid_tags.as_ptr(), scene.solid_tags.len(), scene.count,
                 rays.as_ptr(), rays.len(), self.detectors,
                 self.flux.as_mut_ptr(), self.flux.len(), self.hits.as_mut_ptr(), self.hits.len(),
-                self.places.as_mut_ptr(), self.places.len(), self.kinds.as_mut_ptr(), self.kinds.len(), self.used,
+                self.hit_values.as_mut_ptr(), self.hit_values.len(), self.hit_tags.as_mut_ptr(), self.hit_tags.len(), self.used,
             )
         };
         self.traced(r)
     }
 
     /// The same with the rays as numbers: 8 doubles and 10 whole numbers a ray.
-    pub fn trace_flat(&mut self, config: &Config, scene: &Scene, rays: &[f64], marks: &[u32], given: u32) -> Result<Report, Refused> {
+    pub fn trace_flat(&mut self, config: &Config, scene: &Scene, ray_values: &[f64], ray_tags: &[u32], given: u32) -> Result<Report, Refused> {
         let r = unsafe {
             ffi::nonseq_trace_rays(
-                config.numbers(), scene.values.as_ptr(), scene.values.len(), scene.tags.as_ptr(), scene.tags.len(), scene.count,
-                rays.as_ptr(), rays.len(), marks.as_ptr(), marks.len(), given, self.detectors,
+                config.numbers(), scene.solid_values.as_ptr(), scene.solid_values.len(), scene.solid_tags.as_ptr(), scene.solid_tags.len(), scene.count,
+                ray_values.as_ptr(), ray_values.len(), ray_tags.as_ptr(), ray_tags.len(), given, self.detectors,
                 self.flux.as_mut_ptr(), self.flux.len(), self.hits.as_mut_ptr(), self.hits.len(),
-                self.places.as_mut_ptr(), self.places.len(), self.kinds.as_mut_ptr(), self.kinds.len(), self.used,
+                self.hit_values.as_mut_ptr(), self.hit_values.len(), self.hit_tags.as_mut_ptr(), self.hit_tags.len(), self.used,
             )
         };
         self.traced(r)
@@ -131,7 +131,7 @@ impl Memory {
         let r = unsafe {
             ffi::nonseq_record_hit_classified(
                 self.detectors, self.flux.as_mut_ptr(), self.flux.len(), self.hits.as_mut_ptr(), self.hits.len(),
-                self.places.as_mut_ptr(), self.places.len(), self.kinds.as_mut_ptr(), self.kinds.len(), self.used, hit,
+                self.hit_values.as_mut_ptr(), self.hit_values.len(), self.hit_tags.as_mut_ptr(), self.hit_tags.len(), self.used, hit,
             )
         };
         self.detectors = r.detectors;
@@ -152,7 +152,7 @@ impl Memory {
         let r = unsafe {
             ffi::nonseq_refilter(
                 self.detectors, detector, filter.number(), self.flux.as_ptr(), self.flux.len(), work.as_mut_ptr(), work.len(),
-                self.places.as_ptr(), self.places.len(), self.kinds.as_ptr(), self.kinds.len(), self.used,
+                self.hit_values.as_ptr(), self.hit_values.len(), self.hit_tags.as_ptr(), self.hit_tags.len(), self.used,
             )
         };
         Error::check(r.refusal, r.place)?;
@@ -169,7 +169,7 @@ impl Memory {
         unsafe {
             ffi::nonseq_put_answer(
                 buf.as_mut_ptr(), buf.len(), *report, self.detectors, filter.number(), self.flux.as_ptr(), self.flux.len(),
-                self.places.as_ptr(), self.places.len(), self.kinds.as_ptr(), self.kinds.len(), self.used,
+                self.hit_values.as_ptr(), self.hit_values.len(), self.hit_tags.as_ptr(), self.hit_tags.len(), self.used,
             )
         }
     }

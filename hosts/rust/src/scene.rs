@@ -124,8 +124,8 @@ pub struct Solid {
 /// A list of solids; a solid's number is its place.
 #[derive(Clone, Debug, Default, PartialEq)]
 pub struct Scene {
-    pub(crate) values: Vec<f64>,
-    pub(crate) tags: Vec<u32>,
+    pub(crate) solid_values: Vec<f64>,
+    pub(crate) solid_tags: Vec<u32>,
     pub(crate) count: u32,
 }
 
@@ -137,8 +137,8 @@ impl Scene {
 
     /// A scene from the library's own numbers, 42 doubles and 4 whole numbers a solid. A wrong length or number is
     /// refused when it is traced (17).
-    pub fn from_numbers(values: Vec<f64>, tags: Vec<u32>, count: u32) -> Scene {
-        Scene { values, tags, count }
+    pub fn from_numbers(solid_values: Vec<f64>, solid_tags: Vec<u32>, count: u32) -> Scene {
+        Scene { solid_values, solid_tags, count }
     }
 
     /// One solid more, at the end. More than 32 are refused when they are traced (3).
@@ -146,12 +146,12 @@ impl Scene {
         let (shape, sizes) = solid.shape.numbers();
         let (finish, rho) = solid.finish.numbers();
         let (medium, coefficients) = solid.medium.numbers();
-        self.values.extend_from_slice(&sizes);
-        self.values.push(rho);
-        self.values.extend_from_slice(&coefficients);
-        self.values.extend_from_slice(&solid.matrix);
-        self.values.extend_from_slice(&solid.inverse);
-        self.tags.extend_from_slice(&[shape, solid.active as u32, finish, medium]);
+        self.solid_values.extend_from_slice(&sizes);
+        self.solid_values.push(rho);
+        self.solid_values.extend_from_slice(&coefficients);
+        self.solid_values.extend_from_slice(&solid.matrix);
+        self.solid_values.extend_from_slice(&solid.inverse);
+        self.solid_tags.extend_from_slice(&[shape, solid.active as u32, finish, medium]);
         self.count = self.count.saturating_add(1);
     }
 

@@ -8,21 +8,21 @@ pub const MAX_ANSWER: usize = 131_072;
 #[derive(Clone, Debug, PartialEq)]
 pub struct SceneText {
     /// Threshold and the ambient medium's coefficients.
-    pub run: Vec<f64>,
+    pub run_values: Vec<f64>,
     /// Bounces, filter (5 for `-`), ambient medium.
-    pub runs: Vec<u32>,
+    pub run_tags: Vec<u32>,
     /// 42 doubles a solid.
-    pub values: Vec<f64>,
+    pub solid_values: Vec<f64>,
     /// Shape, active, finish and medium of each solid.
-    pub tags: Vec<u32>,
+    pub solid_tags: Vec<u32>,
     /// 11 doubles a detector.
-    pub faces: Vec<f64>,
+    pub detector_values: Vec<f64>,
     /// Columns and rows of each detector.
-    pub sizes: Vec<u32>,
+    pub detector_tags: Vec<u32>,
     /// 8 doubles a ray.
-    pub rays: Vec<f64>,
+    pub ray_values: Vec<f64>,
     /// Bounce, number of media and 8 media of each ray.
-    pub marks: Vec<u32>,
+    pub ray_tags: Vec<u32>,
     /// How many solids.
     pub solids: u32,
     /// How many detectors.
@@ -43,35 +43,35 @@ pub fn stray_map(text: &[u8]) -> Vec<u8> {
 pub fn read_scene(text: &[u8]) -> Result<SceneText, Error> {
     let lines = text.iter().filter(|&&b| b == b'\n').count();
     let mut s = SceneText {
-        run: vec![0.0; 7],
-        runs: vec![0; 3],
-        values: vec![0.0; 42 * lines],
-        tags: vec![0; 4 * lines],
-        faces: vec![0.0; 11 * lines],
-        sizes: vec![0; 2 * lines],
-        rays: vec![0.0; 8 * lines],
-        marks: vec![0; 10 * lines],
+        run_values: vec![0.0; 7],
+        run_tags: vec![0; 3],
+        solid_values: vec![0.0; 42 * lines],
+        solid_tags: vec![0; 4 * lines],
+        detector_values: vec![0.0; 11 * lines],
+        detector_tags: vec![0; 2 * lines],
+        ray_values: vec![0.0; 8 * lines],
+        ray_tags: vec![0; 10 * lines],
         solids: 0,
         detectors: 0,
         given: 0,
     };
     let r = unsafe {
         ffi::nonseq_read_scene(
-            text.as_ptr(), text.len(), s.run.as_mut_ptr(), s.run.len(), s.runs.as_mut_ptr(), s.runs.len(),
-            s.values.as_mut_ptr(), s.values.len(), s.tags.as_mut_ptr(), s.tags.len(),
-            s.faces.as_mut_ptr(), s.faces.len(), s.sizes.as_mut_ptr(), s.sizes.len(),
-            s.rays.as_mut_ptr(), s.rays.len(), s.marks.as_mut_ptr(), s.marks.len(),
+            text.as_ptr(), text.len(), s.run_values.as_mut_ptr(), s.run_values.len(), s.run_tags.as_mut_ptr(), s.run_tags.len(),
+            s.solid_values.as_mut_ptr(), s.solid_values.len(), s.solid_tags.as_mut_ptr(), s.solid_tags.len(),
+            s.detector_values.as_mut_ptr(), s.detector_values.len(), s.detector_tags.as_mut_ptr(), s.detector_tags.len(),
+            s.ray_values.as_mut_ptr(), s.ray_values.len(), s.ray_tags.as_mut_ptr(), s.ray_tags.len(),
         )
     };
     Error::check(r.refusal, r.place)?;
     (s.solids, s.detectors, s.given) = (r.solids, r.detectors, r.rays);
     let (solids, detectors, rays) = (r.solids as usize, r.detectors as usize, r.rays as usize);
-    s.values.truncate(42 * solids);
-    s.tags.truncate(4 * solids);
-    s.faces.truncate(11 * detectors);
-    s.sizes.truncate(2 * detectors);
-    s.rays.truncate(8 * rays);
-    s.marks.truncate(10 * rays);
+    s.solid_values.truncate(42 * solids);
+    s.solid_tags.truncate(4 * solids);
+    s.detector_values.truncate(11 * detectors);
+    s.detector_tags.truncate(2 * detectors);
+    s.ray_values.truncate(8 * rays);
+    s.ray_tags.truncate(10 * rays);
     Ok(s)
 }
 

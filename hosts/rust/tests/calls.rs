@@ -106,11 +106,11 @@ fn structs_and_numbers_alike() {
             rays[i].media_count = 9;
         }
         let flat: Vec<f64> = rays.iter().flat_map(|r| [r.origin.x, r.origin.y, r.origin.z, r.direction.x, r.direction.y, r.direction.z, r.wavelength_nm, r.energy]).collect();
-        let marks: Vec<u32> = rays.iter().flat_map(|r| [r.bounce_count, r.media_count].into_iter().chain(r.media)).collect();
+        let ray_tags: Vec<u32> = rays.iter().flat_map(|r| [r.bounce_count, r.media_count].into_iter().chain(r.media)).collect();
         let mut a = Memory::new(&detectors, 400).unwrap();
         let mut b = a.clone();
         let x = a.trace(&config(), &scene, &rays);
-        let y = b.trace_flat(&config(), &scene, &flat, &marks, 40);
+        let y = b.trace_flat(&config(), &scene, &flat, &ray_tags, 40);
         assert_eq!(x, y);
         assert_eq!(a, b);
         match spoiled {
@@ -230,9 +230,9 @@ fn texts() {
     assert_eq!(stray_map(&vec![b'0'; 65_537]), b"refusal place\n17 0\n");
     let s = read_scene(SCENE).unwrap();
     assert_eq!((s.solids, s.detectors, s.given), (0, 1, 1));
-    assert_eq!((s.run[0], &s.runs[..]), (0.0, &[4, 5, 0][..]));
-    assert_eq!((s.faces.len(), &s.sizes[..]), (11, &[2, 2][..]));
-    assert_eq!((&s.rays[..], s.marks[0], s.marks[1]), (&[1.0, 1.0, 0.0, 0.0, 0.0, 1.0, 550.0, 1.0][..], 0, 0));
+    assert_eq!((s.run_values[0], &s.run_tags[..]), (0.0, &[4, 5, 0][..]));
+    assert_eq!((s.detector_values.len(), &s.detector_tags[..]), (11, &[2, 2][..]));
+    assert_eq!((&s.ray_values[..], s.ray_tags[0], s.ray_tags[1]), (&[1.0, 1.0, 0.0, 0.0, 0.0, 1.0, 550.0, 1.0][..], 0, 0));
     assert_eq!(number(read_scene(b"threshold\n")), (17, 1));
     assert_eq!(write_refusal(&Error { number: 17, place: 4_294_967_295 }), b"refusal place\n17 4294967295\n");
     let mut small = [7u8; 18];
@@ -250,12 +250,12 @@ fn a_text_read_and_traced() {
     let text = include_bytes!("../../../crates/test_worked/data/lens.txt");
     let answer = include_bytes!("../../../crates/test_worked/data/lens.answer.txt");
     let s = read_scene(text).unwrap();
-    let v = |i: usize| Vec3::new(s.faces[i], s.faces[i + 1], s.faces[i + 2]);
-    let d = Detector::new(v(0), v(3), v(6), (s.faces[9], s.faces[10]), (s.sizes[0], s.sizes[1])).unwrap();
+    let v = |i: usize| Vec3::new(s.detector_values[i], s.detector_values[i + 1], s.detector_values[i + 2]);
+    let d = Detector::new(v(0), v(3), v(6), (s.detector_values[9], s.detector_values[10]), (s.detector_tags[0], s.detector_tags[1])).unwrap();
     let mut m = Memory::new(&[d], 1024).unwrap();
-    let rules = Config { min_power_threshold: s.run[0], max_bounces: s.runs[0], ambient: Medium::Air };
-    let scene = Scene::from_numbers(s.values, s.tags, s.solids);
-    let report = m.trace_flat(&rules, &scene, &s.rays, &s.marks, s.given).unwrap();
+    let rules = Config { min_power_threshold: s.run_values[0], max_bounces: s.run_tags[0], ambient: Medium::Air };
+    let scene = Scene::from_numbers(s.solid_values, s.solid_tags, s.solids);
+    let report = m.trace_flat(&rules, &scene, &s.ray_values, &s.ray_tags, s.given).unwrap();
     assert_eq!(write_answer(&m, &report, Filter::All), answer);
     assert_eq!(stray_map(text), answer);
 }

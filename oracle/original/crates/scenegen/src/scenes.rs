@@ -31,11 +31,11 @@ const FLAGS: [&str; 32] = [
 
 /// What the memory holds: the original's detectors, and their hits in the order in which they came.
 #[derive(Clone)]
-struct Memory { dets: Vec<Detector2D>, list: Vec<(usize, DetectorHit)>, flux: Vec<f64>, hits: Vec<u64>, places: Vec<f64>, kinds: Vec<u64> }
+struct Memory { dets: Vec<Detector2D>, list: Vec<(usize, DetectorHit)>, flux: Vec<f64>, hits: Vec<u64>, hit_values: Vec<f64>, hit_tags: Vec<u64> }
 
 impl Memory {
     fn empty(c: &Case) -> Memory {
-        Memory { dets: c.scene.detectors.clone(), list: Vec::new(), flux: vec![0.0; PIXELS], hits: vec![0; PIXELS], places: vec![0.0; 4 * ROOM], kinds: vec![0; 4 * ROOM] }
+        Memory { dets: c.scene.detectors.clone(), list: Vec::new(), flux: vec![0.0; PIXELS], hits: vec![0; PIXELS], hit_values: vec![0.0; 4 * ROOM], hit_tags: vec![0; 4 * ROOM] }
     }
     /// With the detectors and the hits as they are now.
     fn with(&self, dets: Vec<Detector2D>, list: Vec<(usize, DetectorHit)>) -> Memory {
@@ -45,8 +45,8 @@ impl Memory {
             m.hits[k] = *d.1;
         }
         for (k, (d, h)) in list.iter().enumerate() {
-            m.places[4 * k..4 * k + 4].copy_from_slice(&[h.local_x, h.local_y, h.flux_watts, h.wavelength_nm]);
-            m.kinds[4 * k..4 * k + 4].copy_from_slice(&[*d as u64, h.bounce_count as u64, h.reflection_count as u64, h.tir_count as u64]);
+            m.hit_values[4 * k..4 * k + 4].copy_from_slice(&[h.local_x, h.local_y, h.flux_watts, h.wavelength_nm]);
+            m.hit_tags[4 * k..4 * k + 4].copy_from_slice(&[*d as u64, h.bounce_count as u64, h.reflection_count as u64, h.tir_count as u64]);
         }
         m.dets = dets;
         m.list = list;
@@ -251,12 +251,12 @@ fn put(o: &mut String, c: &Case, t: &Told, m: &Memory, fresh: bool, e: &mut Expe
     w.extend(e.flags.iter().map(|&b| (b as u8).to_string()));
     w.extend(n(&a.hits[..t.pixels]));
     w.extend(a.dets.iter().map(|q| q.total_rays_hit.to_string()));
-    w.extend(n(&a.kinds[..4 * t.room]));
+    w.extend(n(&a.hit_tags[..4 * t.room]));
     e.powers.resize(4, 0.0);
     let mut f = d(&e.powers);
     f.extend(d(&a.flux[..t.pixels]));
     f.extend(a.dets.iter().map(|q| hx(q.total_flux_watts)));
-    f.extend(d(&a.places[..4 * t.room]));
+    f.extend(d(&a.hit_values[..4 * t.room]));
     let _ = writeln!(o, "{}\n{}", w.join(" "), f.join(" "));
 }
 
