@@ -19,8 +19,8 @@ pub(crate) fn traced(
     n: u32,
     flux: &mut [f64],
     hits: &mut [u32],
-    places: &mut [f64],
-    tags: &mut [u32],
+    hit_values: &mut [f64],
+    hit_tags: &mut [u32],
     ds: &mut [u64],
     used: usize,
 ) -> Answer {
@@ -35,8 +35,8 @@ pub(crate) fn traced(
         records::detectors(ds),
         flux,
         hits,
-        places,
-        tags,
+        hit_values,
+        hit_tags,
         used,
     );
     let check = r.check;
@@ -52,8 +52,8 @@ fn halved(
     cut: u32,
     flux: &mut [f64],
     hits: &mut [u32],
-    places: &mut [f64],
-    tags: &mut [u32],
+    hit_values: &mut [f64],
+    hit_tags: &mut [u32],
     ds: &mut [u64],
     used: usize,
 ) -> Answer {
@@ -70,8 +70,8 @@ fn halved(
         records::detectors(ds),
         flux,
         hits,
-        places,
-        tags,
+        hit_values,
+        hit_tags,
         used,
     );
     let check = r.check;
@@ -86,8 +86,8 @@ fn recorded(
     w: &[u32],
     flux: &mut [f64],
     hits: &mut [u32],
-    places: &mut [f64],
-    tags: &mut [u32],
+    hit_values: &mut [f64],
+    hit_tags: &mut [u32],
     ds: &mut [u64],
     used: usize,
 ) -> Answer {
@@ -95,8 +95,8 @@ fn recorded(
         records::detectors(ds),
         flux,
         hits,
-        places,
-        tags,
+        hit_values,
+        hit_tags,
         used,
         kinds::hit(u, w),
     );
@@ -114,8 +114,8 @@ fn parted(
     d: &[f64],
     flux: &mut [f64],
     hits: &mut [u32],
-    places: &mut [f64],
-    tags: &mut [u32],
+    hit_values: &mut [f64],
+    hit_tags: &mut [u32],
     ds: &mut [u64],
     used: usize,
 ) -> Answer
@@ -128,7 +128,7 @@ fn parted(
         k -= 1;
         let from = cuts[k];
         let n = std::num::wrapping_sub_u32(cuts[k + 1], from);
-        a = traced(w, d, from, n, flux, hits, places, tags, ds, a.used);
+        a = traced(w, d, from, n, flux, hits, hit_values, hit_tags, ds, a.used);
         a.parts = done;
         if a.number != 0 {
             return a;
@@ -144,8 +144,8 @@ fn filtered_in(
     asked: u32,
     map: &mut [f64],
     flux: &[f64],
-    places: &[f64],
-    tags: &[u32],
+    hit_values: &[f64],
+    hit_tags: &[u32],
     ds: &[u64],
     used: usize,
 ) -> Answer {
@@ -153,8 +153,26 @@ fn filtered_in(
     let asked = DetectorNo(asked);
     let filter = RayPathFilter::numbered(drawn::up_to(u, 4, 4));
     let n = map.len();
-    let r = filter::refilter(detectors, asked, filter, flux, map, places, tags, used);
-    let part = filter::filtered_part(detectors, asked, filter, flux, map, places, tags, used);
+    let r = filter::refilter(
+        detectors,
+        asked,
+        filter,
+        flux,
+        map,
+        hit_values,
+        hit_tags,
+        used,
+    );
+    let part = filter::filtered_part(
+        detectors,
+        asked,
+        filter,
+        flux,
+        map,
+        hit_values,
+        hit_tags,
+        used,
+    );
     let check = r.check;
     if part.len() == n {
         return answers::of_check(check, 0, used);
@@ -167,15 +185,24 @@ fn filtered(
     u: &[f64],
     w: &[u32],
     flux: &[f64],
-    places: &[f64],
-    tags: &[u32],
+    hit_values: &[f64],
+    hit_tags: &[u32],
     ds: &[u64],
     used: usize,
 ) -> Answer {
     let mut map = [7.0f64; 9];
     let asked = kinds::asked(u, w);
     let n = laid::pixels_of(w, asked) as usize;
-    filtered_in(u, asked, &mut map[0..n], flux, places, tags, ds, used)
+    filtered_in(
+        u,
+        asked,
+        &mut map[0..n],
+        flux,
+        hit_values,
+        hit_tags,
+        ds,
+        used,
+    )
 }
 
 // The irradiance of a pixel.
@@ -195,13 +222,13 @@ fn looked_up(
     u: &[f64],
     w: &[u32],
     flux: &[f64],
-    places: &[f64],
-    tags: &[u32],
+    hit_values: &[f64],
+    hit_tags: &[u32],
     ds: &[u64],
     used: usize,
 ) -> Answer {
     if kind == 5 {
-        return filtered(u, w, flux, places, tags, ds, used);
+        return filtered(u, w, flux, hit_values, hit_tags, ds, used);
     }
     read(u, w, flux, ds, used)
 }
@@ -214,13 +241,23 @@ fn traced_as(
     d: &[f64],
     flux: &mut [f64],
     hits: &mut [u32],
-    places: &mut [f64],
-    tags: &mut [u32],
+    hit_values: &mut [f64],
+    hit_tags: &mut [u32],
     ds: &mut [u64],
     used: usize,
 ) -> Answer {
     if kinds::is_halved(kind, u) {
-        return halved(w, d, kinds::cut(u), flux, hits, places, tags, ds, used);
+        return halved(
+            w,
+            d,
+            kinds::cut(u),
+            flux,
+            hits,
+            hit_values,
+            hit_tags,
+            ds,
+            used,
+        );
     }
     let cuts = kinds::cuts(u, lists::whole_at(w, 2), kind);
     parted(
@@ -230,8 +267,8 @@ fn traced_as(
         d,
         flux,
         hits,
-        places,
-        tags,
+        hit_values,
+        hit_tags,
         ds,
         used,
     )
@@ -245,16 +282,16 @@ pub(crate) fn act(
     d: &[f64],
     flux: &mut [f64],
     hits: &mut [u32],
-    places: &mut [f64],
-    tags: &mut [u32],
+    hit_values: &mut [f64],
+    hit_tags: &mut [u32],
     ds: &mut [u64],
     used: usize,
 ) -> Answer {
     if kind >= 5 {
-        return looked_up(kind, u, w, flux, places, tags, ds, used);
+        return looked_up(kind, u, w, flux, hit_values, hit_tags, ds, used);
     }
     if kind == 3 {
-        return recorded(u, w, flux, hits, places, tags, ds, used);
+        return recorded(u, w, flux, hits, hit_values, hit_tags, ds, used);
     }
-    traced_as(kind, u, w, d, flux, hits, places, tags, ds, used)
+    traced_as(kind, u, w, d, flux, hits, hit_values, hit_tags, ds, used)
 }

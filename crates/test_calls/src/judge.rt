@@ -71,9 +71,16 @@ fn is_answer(list: u32, call: u32, a: Answer, e: Answer) -> bool {
 }
 
 // The hit list.
-fn is_list(list: u32, call: u32, places: &[f64], tags: &[u32], book: &[u64], len: usize) -> bool {
-    let a = pattern::are_doubles(places, book, len);
-    let b = pattern::are_wholes(tags, book, len);
+fn is_list(
+    list: u32,
+    call: u32,
+    hit_values: &[f64],
+    hit_tags: &[u32],
+    book: &[u64],
+    len: usize,
+) -> bool {
+    let a = pattern::are_doubles(hit_values, book, len);
+    let b = pattern::are_wholes(hit_tags, book, len);
     both(
         told(a, list, call, b"doubles of the hit list"),
         told(b, list, call, b"whole numbers of the hit list"),
@@ -122,13 +129,13 @@ pub(crate) fn is_as_told(
     d: &[f64],
     flux: &[f64],
     hits: &[u32],
-    places: &[f64],
-    tags: &[u32],
+    hit_values: &[f64],
+    hit_tags: &[u32],
     ds: &[u64],
     book: &[u64],
 ) -> bool {
     let x = is_answer(list, call, a, e);
-    let y = is_list(list, call, places, tags, book, e.used);
+    let y = is_list(list, call, hit_values, hit_tags, book, e.used);
     let z = are_views(list, call, w, d, flux, hits, ds, book, e.used);
     both(x, both(y, z))
 }

@@ -52,15 +52,28 @@ fn made_and_judged(
     d: &[f64],
     flux: &mut [f64],
     hits: &mut [u32],
-    places: &mut [f64],
-    tags: &mut [u32],
+    hit_values: &mut [f64],
+    hit_tags: &mut [u32],
     ds: &mut [u64],
     used: usize,
     book: &[u64],
     e: Answer,
 ) -> Course {
-    let a = acts::act(kind, u, x, y, flux, hits, places, tags, ds, used);
-    let ok = judge::is_as_told(list, k, a, e, w, d, flux, hits, places, tags, ds, book);
+    let a = acts::act(kind, u, x, y, flux, hits, hit_values, hit_tags, ds, used);
+    let ok = judge::is_as_told(
+        list,
+        k,
+        a,
+        e,
+        w,
+        d,
+        flux,
+        hits,
+        hit_values,
+        hit_tags,
+        ds,
+        book,
+    );
     course(kind, a, e, ok)
 }
 
@@ -73,8 +86,8 @@ fn call(
     d: &[f64],
     flux: &mut [f64],
     hits: &mut [u32],
-    places: &mut [f64],
-    tags: &mut [u32],
+    hit_values: &mut [f64],
+    hit_tags: &mut [u32],
     ds: &mut [u64],
     book: &mut [u64],
     c: Course,
@@ -96,8 +109,8 @@ fn call(
         d,
         flux,
         hits,
-        places,
-        tags,
+        hit_values,
+        hit_tags,
         ds,
         c.used,
         book,
@@ -113,8 +126,8 @@ fn calls(
     d: &[f64],
     flux: &mut [f64],
     hits: &mut [u32],
-    places: &mut [f64],
-    tags: &mut [u32],
+    hit_values: &mut [f64],
+    hit_tags: &mut [u32],
     ds: &mut [u64],
     t: &mut [u32],
 ) {
@@ -125,7 +138,20 @@ fn calls(
     let mut k: u32 = 0;
     while k < n {
         let before = c.used;
-        c = call(list, k, u, w, d, flux, hits, places, tags, ds, &mut book, c);
+        c = call(
+            list,
+            k,
+            u,
+            w,
+            d,
+            flux,
+            hits,
+            hit_values,
+            hit_tags,
+            ds,
+            &mut book,
+            c,
+        );
         all = tally::count_call(t, u, k, before, c, all);
         k += 1;
     }
@@ -151,13 +177,13 @@ fn run(list: u32, t: &mut [u32]) {
 fn run_in(list: u32, u: &[f64], w: &[u32], d: &[f64], t: &mut [u32]) {
     let mut flux = [0.0f64; 27];
     let mut hits = [0u32; 27];
-    let mut places = [0.0f64; 384];
-    let mut tags = [0u32; 384];
+    let mut hit_values = [0.0f64; 384];
+    let mut hit_tags = [0u32; 384];
     let mut ds = [0u64; 121];
     let p = laid::pixels(w);
     let k = 4 * laid::room(w);
-    pattern::fill_doubles(&mut places);
-    pattern::fill_wholes(&mut tags);
+    pattern::fill_doubles(&mut hit_values);
+    pattern::fill_wholes(&mut hit_tags);
     records::fresh(&mut ds, w, d);
     calls(
         list,
@@ -166,8 +192,8 @@ fn run_in(list: u32, u: &[f64], w: &[u32], d: &[f64], t: &mut [u32]) {
         d,
         &mut flux[0..p],
         &mut hits[0..p],
-        &mut places[0..k],
-        &mut tags[0..k],
+        &mut hit_values[0..k],
+        &mut hit_tags[0..k],
         &mut ds,
         t,
     );

@@ -10,16 +10,16 @@ use crate::records;
 ghost use Prim.Native.Nat.{_≤_};
 
 // One hit behind the others.
-fn append(book: &mut [u64], i: usize, values: &[f64], tags: &[u32]) {
+fn append(book: &mut [u64], i: usize, values: &[f64], hit_tags: &[u32]) {
     let numbers = [
         doubles::to_bits(lists::double_at(values, 0)),
         doubles::to_bits(lists::double_at(values, 1)),
         doubles::to_bits(lists::double_at(values, 2)),
         doubles::to_bits(lists::double_at(values, 3)),
-        lists::whole_at(tags, 0) as u64,
-        lists::whole_at(tags, 1) as u64,
-        lists::whole_at(tags, 2) as u64,
-        lists::whole_at(tags, 3) as u64,
+        lists::whole_at(hit_tags, 0) as u64,
+        lists::whole_at(hit_tags, 1) as u64,
+        lists::whole_at(hit_tags, 2) as u64,
+        lists::whole_at(hit_tags, 3) as u64,
     ];
     if i <= 96 {
         lists::put_all_bits(book, 8 * i, &numbers);
@@ -27,7 +27,7 @@ fn append(book: &mut [u64], i: usize, values: &[f64], tags: &[u32]) {
 }
 
 // The first n hits of a hit list.
-fn append_hits(book: &mut [u64], len: usize, n: usize, values: &[f64], tags: &[u32])
+fn append_hits(book: &mut [u64], len: usize, n: usize, values: &[f64], hit_tags: &[u32])
     requires { ⌜ n ≤ 96 ⌝ }
 {
     let mut i: usize = 0;
@@ -36,7 +36,7 @@ fn append_hits(book: &mut [u64], len: usize, n: usize, values: &[f64], tags: &[u
             book,
             std::num::wrapping_add_usize(len, i),
             lists::doubles_from(values, 4 * i, 4),
-            lists::wholes_from(tags, 4 * i, 4),
+            lists::wholes_from(hit_tags, 4 * i, 4),
         );
         i += 1;
     }
@@ -68,16 +68,16 @@ fn traced_in(
     d: &[f64],
     flux: &mut [f64],
     hits: &mut [u32],
-    places: &mut [f64],
-    tags: &mut [u32],
+    hit_values: &mut [f64],
+    hit_tags: &mut [u32],
     book: &mut [u64],
     len: usize,
 ) -> Answer {
     let mut ds = [0u64; 121];
     let n = lists::whole_at(w, 2);
     records::fresh(&mut ds, w, d);
-    let a = acts::traced(w, d, 0, n, flux, hits, places, tags, &mut ds, 0);
-    append_hits(book, len, most(a.used), places, tags);
+    let a = acts::traced(w, d, 0, n, flux, hits, hit_values, hit_tags, &mut ds, 0);
+    append_hits(book, len, most(a.used), hit_values, hit_tags);
     Answer {
         number: a.number,
         place: a.place,
@@ -90,8 +90,8 @@ fn traced_in(
 fn traced(w: &[u32], d: &[f64], book: &mut [u64], len: usize) -> Answer {
     let mut flux = [0.0f64; 27];
     let mut hits = [0u32; 27];
-    let mut places = [0.0f64; 384];
-    let mut tags = [0u32; 384];
+    let mut hit_values = [0.0f64; 384];
+    let mut hit_tags = [0u32; 384];
     let p = laid::pixels(w);
     let k = 4 * left(w, len);
     traced_in(
@@ -99,8 +99,8 @@ fn traced(w: &[u32], d: &[f64], book: &mut [u64], len: usize) -> Answer {
         d,
         &mut flux[0..p],
         &mut hits[0..p],
-        &mut places[0..k],
-        &mut tags[0..k],
+        &mut hit_values[0..k],
+        &mut hit_tags[0..k],
         book,
         len,
     )
@@ -116,13 +116,13 @@ fn recorded(u: &[f64], w: &[u32], book: &mut [u64], len: usize) -> Answer {
         return answers::refused(12, len);
     }
     let values = [h.local_x, h.local_y, h.flux_watts, h.wavelength_nm];
-    let tags = [
+    let hit_tags = [
         h.detector.0,
         h.bounce_count,
         h.reflection_count,
         h.tir_count,
     ];
-    append(book, len, &values, &tags);
+    append(book, len, &values, &hit_tags);
     answers::passed(std::num::wrapping_add_usize(len, 1))
 }
 

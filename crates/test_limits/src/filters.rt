@@ -9,14 +9,14 @@ use detectors::Detectors;
 use memory::Recorded;
 
 // The work map starts with sevens.
-fn one(q: Question, stored: &[f64], values: &[f64], tags: &[u32]) {
+fn one(q: Question, stored: &[f64], hit_values: &[f64], hit_tags: &[u32]) {
     let mut work = [7.0f64; 4];
-    sifted::sift(b"detector 1", q, stored, &mut work, values, tags);
+    sifted::sift(b"detector 1", q, stored, &mut work, hit_values, hit_tags);
     report::all_bits(b"  work map", &work);
     report::text(b"\n");
 }
 
-fn each(detectors: Detectors, used: usize, stored: &[f64], values: &[f64], tags: &[u32]) {
+fn each(detectors: Detectors, used: usize, stored: &[f64], hit_values: &[f64], hit_tags: &[u32]) {
     report::whole(b"Filters, used ", used as u64);
     report::text(b"\n");
     let mut n: u32 = 0;
@@ -28,10 +28,10 @@ fn each(detectors: Detectors, used: usize, stored: &[f64], values: &[f64], tags:
             used,
             in_one_call: false,
         };
-        one(q, stored, values, tags);
+        one(q, stored, hit_values, hit_tags);
         let mut p = q;
         p.in_one_call = true;
-        one(p, stored, values, tags);
+        one(p, stored, hit_values, hit_tags);
         n += 1;
     }
 }
@@ -51,13 +51,13 @@ fn listed(i: u32) -> DetectorHit {
 fn record_six(
     flux: &mut [f64],
     hits: &mut [u32],
-    values: &mut [f64],
-    tags: &mut [u32],
+    hit_values: &mut [f64],
+    hit_tags: &mut [u32],
 ) -> Recorded {
     let mut r = tried::start(made::pair(made::fresh(1, 1), made::fresh(2, 2)));
     let mut i: u32 = 0;
     while i < 6 {
-        let next = tried::more(r, flux, hits, values, tags, listed(i));
+        let next = tried::more(r, flux, hits, hit_values, hit_tags, listed(i));
         r = next;
         i += 1;
     }
@@ -67,13 +67,13 @@ fn record_six(
 pub(crate) fn six_hits() {
     let mut flux = [0.0f64; 5];
     let mut hits = [0u32; 5];
-    let mut values = [0.0f64; 24];
-    let mut tags = [0u32; 24];
-    made::fill_doubles(&mut values, 100.0, 1.0);
-    made::fill_wholes(&mut tags, 1000, 1);
+    let mut hit_values = [0.0f64; 24];
+    let mut hit_tags = [0u32; 24];
+    made::fill_doubles(&mut hit_values, 100.0, 1.0);
+    made::fill_wholes(&mut hit_tags, 1000, 1);
     report::text(b"Six hits\n");
-    let r = record_six(&mut flux, &mut hits, &mut values, &mut tags);
+    let r = record_six(&mut flux, &mut hits, &mut hit_values, &mut hit_tags);
     let ds = r.detectors;
-    each(ds, r.used, &flux, &values, &tags);
-    each(ds, 0, &flux, &values, &tags);
+    each(ds, r.used, &flux, &hit_values, &hit_tags);
+    each(ds, 0, &flux, &hit_values, &hit_tags);
 }

@@ -9,14 +9,14 @@ use crate::tried;
 ghost use Prim.Native.Nat.{_≤_};
 
 // A hit on the first pixel of detector 1.
-fn record(words: &[u8], flux: usize, hits: usize, values: usize, tags: usize, used: usize)
-    requires { ⌜ (flux ≤ 4104) × (hits ≤ 4104) × (values ≤ 32) × (tags ≤ 32) ⌝ }
+fn record(words: &[u8], flux: usize, hits: usize, hit_values: usize, hit_tags: usize, used: usize)
+    requires { ⌜ (flux ≤ 4104) × (hits ≤ 4104) × («hit_values» ≤ 32) × («hit_tags» ≤ 32) ⌝ }
 {
     let lent = Lent {
         flux,
         hits,
-        values,
-        tags,
+        hit_values,
+        hit_tags,
         first_count: 1,
     };
     tried::once(words, made::two(), lent, used, made::hit(1, -2.0, 0.0, 1.5));
@@ -35,14 +35,14 @@ pub(crate) fn recordings() {
     record(b"3 used of 2", 7, 7, 8, 8, 3);
 }
 
-fn sift(words: &[u8], stored: usize, work: usize, values: usize, tags: usize, used: usize)
-    requires { ⌜ (stored ≤ 32) × (work ≤ 32) × (values ≤ 32) × (tags ≤ 32) ⌝ }
+fn sift(words: &[u8], stored: usize, work: usize, hit_values: usize, hit_tags: usize, used: usize)
+    requires { ⌜ (stored ≤ 32) × (work ≤ 32) × («hit_values» ≤ 32) × («hit_tags» ≤ 32) ⌝ }
 {
     let lent = Maps {
         stored,
         work,
-        values,
-        tags,
+        hit_values,
+        hit_tags,
     };
     sifted::each_way(words, made::two(), 1, used, lent);
 }

@@ -22,16 +22,16 @@ pub(crate) fn eight_detectors() {
 fn three_hits() {
     let mut flux = [0.0f64; 1];
     let mut hits = [0u32; 1];
-    let mut values = [0.0f64; 8];
-    let mut tags = [0u32; 8];
-    made::fill_doubles(&mut values, 100.0, 1.0);
-    made::fill_wholes(&mut tags, 1000, 1);
+    let mut hit_values = [0.0f64; 8];
+    let mut hit_tags = [0u32; 8];
+    made::fill_doubles(&mut hit_values, 100.0, 1.0);
+    made::fill_wholes(&mut hit_tags, 1000, 1);
     let h = made::hit(0, 0.0, 0.0, 1.5);
     let d = made::fresh(1, 1);
     let r = tried::start(made::three(d, d, d, 1));
-    let r = tried::more(r, &mut flux, &mut hits, &mut values, &mut tags, h);
-    let r = tried::more(r, &mut flux, &mut hits, &mut values, &mut tags, h);
-    tried::more(r, &mut flux, &mut hits, &mut values, &mut tags, h);
+    let r = tried::more(r, &mut flux, &mut hits, &mut hit_values, &mut hit_tags, h);
+    let r = tried::more(r, &mut flux, &mut hits, &mut hit_values, &mut hit_tags, h);
+    tried::more(r, &mut flux, &mut hits, &mut hit_values, &mut hit_tags, h);
 }
 
 pub(crate) fn hit_list() {

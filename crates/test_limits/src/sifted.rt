@@ -35,33 +35,51 @@ fn tell_changed(
     stored_copy: &[f64],
     work: &[f64],
     work_copy: &[f64],
-    values: &[f64],
+    hit_values: &[f64],
     values_copy: &[f64],
-    tags: &[u32],
+    hit_tags: &[u32],
     tags_copy: &[u32],
 ) {
     report::whole(b", changed ", kept::doubles_changed(stored, stored_copy));
     report::whole(b" ", kept::doubles_changed(work, work_copy));
-    report::whole(b" ", kept::doubles_changed(values, values_copy));
-    report::whole(b" ", kept::wholes_changed(tags, tags_copy));
+    report::whole(b" ", kept::doubles_changed(hit_values, values_copy));
+    report::whole(b" ", kept::wholes_changed(hit_tags, tags_copy));
     report::text(b"\n");
 }
 
 // `refilter`, then `filtered_part`.
-fn ask_twice(q: Question, stored: &[f64], work: &mut [f64], values: &[f64], tags: &[u32]) {
+fn ask_twice(q: Question, stored: &[f64], work: &mut [f64], hit_values: &[f64], hit_tags: &[u32]) {
     let detectors = q.detectors;
     let kind = RayPathFilter::numbered(q.filter);
     let asked = DetectorNo(q.asked);
-    let r = filter::refilter(detectors, asked, kind, stored, work, values, tags, q.used);
+    let r = filter::refilter(
+        detectors,
+        asked,
+        kind,
+        stored,
+        work,
+        hit_values,
+        hit_tags,
+        q.used,
+    );
     let check = r.check;
     report::check(check);
     report::whole(b", count ", r.hit_count as u64);
     report::bits(b", total ", r.total_flux_watts);
-    tell_part(filter::filtered_part(detectors, asked, kind, stored, work, values, tags, q.used));
+    tell_part(filter::filtered_part(
+        detectors,
+        asked,
+        kind,
+        stored,
+        work,
+        hit_values,
+        hit_tags,
+        q.used,
+    ));
 }
 
 // `filtered_pixel_flux`; the four places for its answer hold 99 before.
-fn ask_once(q: Question, stored: &[f64], work: &mut [f64], values: &[f64], tags: &[u32]) {
+fn ask_once(q: Question, stored: &[f64], work: &mut [f64], hit_values: &[f64], hit_tags: &[u32]) {
     let detectors = q.detectors;
     let kind = RayPathFilter::numbered(q.filter);
     let mut refusal: u32 = 99;
@@ -74,8 +92,8 @@ fn ask_once(q: Question, stored: &[f64], work: &mut [f64], values: &[f64], tags:
         kind,
         stored,
         work,
-        values,
-        tags,
+        hit_values,
+        hit_tags,
         q.used,
         &mut refusal,
         &mut at,
@@ -88,15 +106,15 @@ fn ask_once(q: Question, stored: &[f64], work: &mut [f64], values: &[f64], tags:
     tell_part(part);
 }
 
-fn ask(q: Question, stored: &[f64], work: &mut [f64], values: &[f64], tags: &[u32]) {
+fn ask(q: Question, stored: &[f64], work: &mut [f64], hit_values: &[f64], hit_tags: &[u32]) {
     report::whole(b", filter ", q.filter as u64);
     if q.in_one_call {
         report::text(b" in one call: ");
-        ask_once(q, stored, work, values, tags);
+        ask_once(q, stored, work, hit_values, hit_tags);
         return;
     }
     report::text(b": ");
-    ask_twice(q, stored, work, values, tags);
+    ask_twice(q, stored, work, hit_values, hit_tags);
 }
 
 pub(crate) fn sift(
@@ -104,8 +122,8 @@ pub(crate) fn sift(
     q: Question,
     stored: &[f64],
     work: &mut [f64],
-    values: &[f64],
-    tags: &[u32],
+    hit_values: &[f64],
+    hit_tags: &[u32],
 ) {
     let mut stored_copy = [0.0f64; 32];
     let mut work_copy = [0.0f64; 32];
@@ -113,18 +131,18 @@ pub(crate) fn sift(
     let mut tags_copy = [0u32; 32];
     kept::copy_doubles(stored, &mut stored_copy);
     kept::copy_doubles(work, &mut work_copy);
-    kept::copy_doubles(values, &mut values_copy);
-    kept::copy_wholes(tags, &mut tags_copy);
+    kept::copy_doubles(hit_values, &mut values_copy);
+    kept::copy_wholes(hit_tags, &mut tags_copy);
     report::text(words);
-    ask(q, stored, work, values, tags);
+    ask(q, stored, work, hit_values, hit_tags);
     tell_changed(
         stored,
         &stored_copy,
         work,
         &work_copy,
-        values,
+        hit_values,
         &values_copy,
-        tags,
+        hit_tags,
         &tags_copy,
     );
 }
@@ -136,14 +154,14 @@ fn fill_and_sift(
     q: Question,
     stored: &mut [f64],
     work: &mut [f64],
-    values: &mut [f64],
-    tags: &mut [u32],
+    hit_values: &mut [f64],
+    hit_tags: &mut [u32],
 ) {
     made::fill_doubles(stored, 0.25, 1.0);
     made::fill_doubles(work, 7.0, 0.0);
-    made::fill_doubles(values, 0.5, 0.0);
-    made::fill_wholes(tags, 1, 0);
-    sift(words, q, stored, work, values, tags);
+    made::fill_doubles(hit_values, 0.5, 0.0);
+    made::fill_wholes(hit_tags, 1, 0);
+    sift(words, q, stored, work, hit_values, hit_tags);
 }
 
 // The same over slices of these lengths.
@@ -152,8 +170,8 @@ pub(crate) fn once(words: &[u8], q: Question, lent: Maps)
 {
     let mut stored = [0.0f64; 32];
     let mut work = [0.0f64; 32];
-    let mut values = [0.0f64; 32];
-    let mut tags = [0u32; 32];
+    let mut hit_values = [0.0f64; 32];
+    let mut hit_tags = [0u32; 32];
     let a = lent.stored;
     let b = lent.work;
     let c = lent.values;
@@ -163,8 +181,8 @@ pub(crate) fn once(words: &[u8], q: Question, lent: Maps)
         q,
         &mut stored[0..a],
         &mut work[0..b],
-        &mut values[0..c],
-        &mut tags[0..d],
+        &mut hit_values[0..c],
+        &mut hit_tags[0..d],
     );
 }
 

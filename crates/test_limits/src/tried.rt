@@ -42,15 +42,15 @@ fn tell_changed(
     flux_copy: &[f64],
     hits: &[u32],
     hits_copy: &[u32],
-    values: &[f64],
+    hit_values: &[f64],
     values_copy: &[f64],
-    tags: &[u32],
+    hit_tags: &[u32],
     tags_copy: &[u32],
 ) -> usize {
     report::whole(b", changed ", kept::doubles_changed(flux, flux_copy));
     report::whole(b" ", kept::wholes_changed(hits, hits_copy));
-    report::whole(b" ", kept::doubles_changed(values, values_copy));
-    report::whole(b" ", kept::wholes_changed(tags, tags_copy));
+    report::whole(b" ", kept::doubles_changed(hit_values, values_copy));
+    report::whole(b" ", kept::wholes_changed(hit_tags, tags_copy));
     kept::first_changed(flux, flux_copy)
 }
 
@@ -78,8 +78,8 @@ fn record(
     detectors: Detectors,
     flux: &mut [f64],
     hits: &mut [u32],
-    values: &mut [f64],
-    tags: &mut [u32],
+    hit_values: &mut [f64],
+    hit_tags: &mut [u32],
     used: usize,
     h: DetectorHit,
 ) -> Recorded {
@@ -89,19 +89,19 @@ fn record(
     let mut tags_copy = [0u32; 32];
     kept::copy_doubles(flux, &mut flux_copy);
     kept::copy_wholes(hits, &mut hits_copy);
-    kept::copy_doubles(values, &mut values_copy);
-    kept::copy_wholes(tags, &mut tags_copy);
+    kept::copy_doubles(hit_values, &mut values_copy);
+    kept::copy_wholes(hit_tags, &mut tags_copy);
     report::text(words);
-    let r = memory::record_hit_classified(detectors, flux, hits, values, tags, used, h);
+    let r = memory::record_hit_classified(detectors, flux, hits, hit_values, hit_tags, used, h);
     tell_check(r);
     let p = tell_changed(
         flux,
         &flux_copy,
         hits,
         &hits_copy,
-        values,
+        hit_values,
         &values_copy,
-        tags,
+        hit_tags,
         &tags_copy,
     );
     tell_answer(r, detectors, h.detector.0, flux, hits, p);
@@ -122,12 +122,12 @@ pub(crate) fn more(
     r: Recorded,
     flux: &mut [f64],
     hits: &mut [u32],
-    values: &mut [f64],
-    tags: &mut [u32],
+    hit_values: &mut [f64],
+    hit_tags: &mut [u32],
     h: DetectorHit,
 ) -> Recorded {
     let ds = r.detectors;
-    record(b"hit", ds, flux, hits, values, tags, r.used, h)
+    record(b"hit", ds, flux, hits, hit_values, hit_tags, r.used, h)
 }
 
 // Into slices that are filled before.
@@ -137,16 +137,16 @@ fn fill_and_record(
     flux: &mut [f64],
     hits: &mut [u32],
     first_count: u32,
-    values: &mut [f64],
-    tags: &mut [u32],
+    hit_values: &mut [f64],
+    hit_tags: &mut [u32],
     used: usize,
     h: DetectorHit,
 ) {
     made::fill_doubles(flux, 0.25, 1.0);
     made::fill_wholes(hits, first_count, 1);
-    made::fill_doubles(values, 100.0, 1.0);
-    made::fill_wholes(tags, 1000, 1);
-    record(words, detectors, flux, hits, values, tags, used, h);
+    made::fill_doubles(hit_values, 100.0, 1.0);
+    made::fill_wholes(hit_tags, 1000, 1);
+    record(words, detectors, flux, hits, hit_values, hit_tags, used, h);
 }
 
 // One hit into slices of these lengths, filled before.
@@ -155,8 +155,8 @@ pub(crate) fn once(words: &[u8], detectors: Detectors, lent: Lent, used: usize, 
 {
     let mut flux = [0.0f64; 4104];
     let mut hits = [0u32; 4104];
-    let mut values = [0.0f64; 32];
-    let mut tags = [0u32; 32];
+    let mut hit_values = [0.0f64; 32];
+    let mut hit_tags = [0u32; 32];
     let a = lent.flux;
     let b = lent.hits;
     let c = lent.values;
@@ -167,8 +167,8 @@ pub(crate) fn once(words: &[u8], detectors: Detectors, lent: Lent, used: usize, 
         &mut flux[0..a],
         &mut hits[0..b],
         lent.first_count,
-        &mut values[0..c],
-        &mut tags[0..d],
+        &mut hit_values[0..c],
+        &mut hit_tags[0..d],
         used,
         h,
     );

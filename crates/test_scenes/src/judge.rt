@@ -169,16 +169,16 @@ fn is_memory(
     y: &[f64],
     flux: &[f64],
     hits: &[u32],
-    places: &[f64],
-    kinds: &[u32],
+    hit_values: &[f64],
+    hit_tags: &[u32],
 ) -> bool {
     let p = laid::pixels(w);
     let n = p + laid::detectors(w);
     let k = laid::places(w);
     let a = lists::are_same_doubles(flux, lists::doubles_from(y, 4, p));
     let b = lists::are_same_wholes(hits, lists::wholes_from(x, 45, p));
-    let c = lists::are_same_doubles(places, lists::doubles_from(y, 4 + n, k));
-    let d = lists::are_same_wholes(kinds, lists::wholes_from(x, 45 + n, k));
+    let c = lists::are_same_doubles(hit_values, lists::doubles_from(y, 4 + n, k));
+    let d = lists::are_same_wholes(hit_tags, lists::wholes_from(x, 45 + n, k));
     let maps = both(told(a, number, b"flux map"), told(b, number, b"hits map"));
     let list = both(
         told(c, number, b"doubles of the hit list"),
@@ -208,8 +208,8 @@ fn trace_scene(
     d: &[f64],
     flux: &mut [f64],
     hits: &mut [u32],
-    places: &mut [f64],
-    kinds: &mut [u32],
+    hit_values: &mut [f64],
+    hit_tags: &mut [u32],
 ) -> Traced {
     trace::trace_rays(
         laid::config(w, d),
@@ -222,8 +222,8 @@ fn trace_scene(
         laid::given_detectors(w, d),
         flux,
         hits,
-        places,
-        kinds,
+        hit_values,
+        hit_tags,
         lists::whole_at(w, 9) as usize,
     )
 }
@@ -237,22 +237,28 @@ fn judge_lent(
     y: &[f64],
     flux: &mut [f64],
     hits: &mut [u32],
-    places: &mut [f64],
-    kinds: &mut [u32],
+    hit_values: &mut [f64],
+    hit_tags: &mut [u32],
 ) -> bool {
-    let r = trace_scene(w, d, flux, hits, places, kinds);
+    let r = trace_scene(w, d, flux, hits, hit_values, hit_tags);
     let a = is_answer(r, number, w, d, x, y);
-    let m = is_memory(number, w, x, y, flux, hits, places, kinds);
+    let m = is_memory(number, w, x, y, flux, hits, hit_values, hit_tags);
     both(a, m)
 }
 
 // Empties the memory where a scene asks for it.
-fn prepare(w: &[u32], flux: &mut [f64], hits: &mut [u32], places: &mut [f64], kinds: &mut [u32]) {
+fn prepare(
+    w: &[u32],
+    flux: &mut [f64],
+    hits: &mut [u32],
+    hit_values: &mut [f64],
+    hit_tags: &mut [u32],
+) {
     if lists::whole_at(w, 0) == 1 {
         lists::clear_doubles(flux);
         lists::clear_wholes(hits);
-        lists::clear_doubles(places);
-        lists::clear_wholes(kinds);
+        lists::clear_doubles(hit_values);
+        lists::clear_wholes(hit_tags);
     }
 }
 
@@ -265,12 +271,12 @@ pub(crate) fn judge(
     y: &[f64],
     flux: &mut [f64],
     hits: &mut [u32],
-    places: &mut [f64],
-    kinds: &mut [u32],
+    hit_values: &mut [f64],
+    hit_tags: &mut [u32],
 ) -> bool
-    requires { ⌜ (120 ≤ length (now flux)) × (120 ≤ length (now hits)) × (240 ≤ length (now places)) × (240 ≤ length (now kinds)) ⌝ }
+    requires { ⌜ (120 ≤ length (now flux)) × (120 ≤ length (now hits)) × (240 ≤ length (now «hit_values»)) × (240 ≤ length (now «hit_tags»)) ⌝ }
 {
-    prepare(w, flux, hits, places, kinds);
+    prepare(w, flux, hits, hit_values, hit_tags);
     let p = laid::pixels(w);
     let k = laid::places(w);
     judge_lent(
@@ -281,7 +287,7 @@ pub(crate) fn judge(
         y,
         &mut flux[0..p],
         &mut hits[0..p],
-        &mut places[0..k],
-        &mut kinds[0..k],
+        &mut hit_values[0..k],
+        &mut hit_tags[0..k],
     )
 }

@@ -35,19 +35,19 @@ fn scene(
     number: u32,
     flux: &mut [f64],
     hits: &mut [u32],
-    places: &mut [f64],
-    kinds: &mut [u32],
+    hit_values: &mut [f64],
+    hit_tags: &mut [u32],
     seen: &mut [u32],
     agree: &mut [u32],
 )
-    requires { ⌜ (120 ≤ length (now flux)) × (120 ≤ length (now hits)) × (240 ≤ length (now places)) × (240 ≤ length (now kinds)) ⌝ }
+    requires { ⌜ (120 ≤ length (now flux)) × (120 ≤ length (now hits)) × (240 ≤ length (now «hit_values»)) × (240 ≤ length (now «hit_tags»)) ⌝ }
 {
     let mut w = [0u32; 200];
     let mut d = [0.0f64; 500];
     let mut x = [0u32; 420];
     let mut y = [0.0f64; 400];
     let laid = read(text, at, &mut w, &mut d, &mut x, &mut y);
-    let ok = judge::judge(number, &w, &d, &x, &y, flux, hits, places, kinds);
+    let ok = judge::judge(number, &w, &d, &x, &y, flux, hits, hit_values, hit_tags);
     tally::count_scene(seen, agree, &w, &x, judge::told_laid(laid, ok, number));
 }
 
@@ -61,8 +61,8 @@ fn next(text: &[u8], at: usize) -> usize {
 fn scenes(text: &[u8], first: u32, n: u32, seen: &mut [u32], agree: &mut [u32]) {
     let mut flux = [0.0f64; 120];
     let mut hits = [0u32; 120];
-    let mut places = [0.0f64; 240];
-    let mut kinds = [0u32; 240];
+    let mut hit_values = [0.0f64; 240];
+    let mut hit_tags = [0u32; 240];
     let mut at = reading::line_after(text, 0);
     let mut k: u32 = 0;
     while k < n {
@@ -72,8 +72,8 @@ fn scenes(text: &[u8], first: u32, n: u32, seen: &mut [u32], agree: &mut [u32]) 
             std::num::wrapping_add_u32(first, k),
             &mut flux,
             &mut hits,
-            &mut places,
-            &mut kinds,
+            &mut hit_values,
+            &mut hit_tags,
             seen,
             agree,
         );

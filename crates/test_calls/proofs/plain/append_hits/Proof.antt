@@ -7,10 +7,10 @@ use Rattle.test_calls.proofs.plain.append_hits.Statement.{statement}
 use Rattle.test_calls.proofs.plain.append_hits.Tie as tie
 
 abbrev Inv-loop : tie.InvT-loop
-Inv-loop book₀ len n values tags i₀ book i = (i ≤ n) × (length book ≡ length book₀)
+Inv-loop book₀ len n values hitTags i₀ book i = (i ≤ n) × (length book ≡ length book₀)
 
 abbrev μ-loop : tie.MeasureT-loop
-μ-loop book₀ len n values tags i₀ book i = n - i
+μ-loop book₀ len n values hitTags i₀ book i = n - i
 
 loop-holds : tie.Need-loop-holds Inv-loop μ-loop
 loop-holds c = search needs

@@ -5,10 +5,10 @@ use Rattle.test_limits.proofs.filters.each.Statement.{statement}
 use Rattle.test_limits.proofs.filters.each.Tie as tie
 
 abbrev Inv-loop : tie.InvT-loop
-Inv-loop detectors used stored values tags n₀ n = n ≤ 5
+Inv-loop detectors used stored hitValues hitTags n₀ n = n ≤ 5
 
 abbrev μ-loop : tie.MeasureT-loop
-μ-loop detectors used stored values tags n₀ n = 5 - n
+μ-loop detectors used stored hitValues hitTags n₀ n = 5 - n
 
 slice-aggregate-whole : tie.Need-slice-aggregate-whole Inv-loop μ-loop
 slice-aggregate-whole c = search needs

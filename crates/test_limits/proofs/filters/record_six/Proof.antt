@@ -7,10 +7,10 @@ use Rattle.test_limits.proofs.filters.record_six.Statement.{statement}
 use Rattle.test_limits.proofs.filters.record_six.Tie as tie
 
 abbrev Inv-loop : tie.InvT-loop
-Inv-loop flux₀ hits₀ values₀ tags₀ r₀ i₀ flux hits values tags r i = (i ≤ 6) × (length flux ≡ length flux₀) × (length hits ≡ length hits₀) × (length values ≡ length values₀) × (length tags ≡ length tags₀)
+Inv-loop flux₀ hits₀ hitValues₀ hitTags₀ r₀ i₀ flux hits hitValues hitTags r i = (i ≤ 6) × (length flux ≡ length flux₀) × (length hits ≡ length hits₀) × (length hitValues ≡ length hitValues₀) × (length hitTags ≡ length hitTags₀)
 
 abbrev μ-loop : tie.MeasureT-loop
-μ-loop flux₀ hits₀ values₀ tags₀ r₀ i₀ flux hits values tags r i = 6 - i
+μ-loop flux₀ hits₀ hitValues₀ hitTags₀ r₀ i₀ flux hits hitValues hitTags r i = 6 - i
 
 fresh-requires : tie.Need-fresh-requires Inv-loop μ-loop
 fresh-requires c κs = search needs
