@@ -7,7 +7,7 @@ use lib.ListN.{take, replicate}
 use borrow.Author.Tests.{eq-eqb, ne-eqb}
 use Rattle.error.specs.Refusals.{Checked, passed, refusedAt}
 use Rattle.filter.specs.declared.RayPathFilter.{RayPathFilter}
-use Rattle.filter.specs.declared.filtering.Filtered.{Filtered}
+use Rattle.filter.specs.declared.calls.Filtered.{Filtered}
 use Rattle.filter.specs.Handed.{Handed, Numbered, asHanded, refilterOf, filteredPixelFluxOf, filteredPlaced, inNumbers, withNumbers}
 use Rattle.printing.specs.Printing.{Out, out, putAll}
 use Rattle.answer_text.specs.declared.maps.Grid.{Grid}

@@ -13,21 +13,21 @@ use Rattle.answer_text.specs.Answer.{pixelText, pixelsFrom, eachFrom}
 
 module _ (l l2 : List ℕ) (p p2 : ℕ) (z : Out) where
   -- a text is written, and what follows it is left to be written
-  pub text-turn : (s t : List ℕ) → out l2 p2 ≡ putAll l p s → putAll l p (s ++ t) ≡ z → putAll l2 p2 t ≡ z
-  text-turn s t e f = ap (λ (o : Out). putAll (o .buf) (o .at) t) e ∙ put-append l p s t ∙ f
+  pub text-again : (s t : List ℕ) → out l2 p2 ≡ putAll l p s → putAll l p (s ++ t) ≡ z → putAll l2 p2 t ≡ z
+  text-again s t e f = ap (λ (o : Out). putAll (o .buf) (o .at) t) e ∙ put-append l p s t ∙ f
 
-  pub pixels-turn : (d w i : ℕ) (m : List Float) → i < length m → out l2 p2 ≡ putAll l p (pixelText d (i % w) (i / w) (getD m i nan)) → putAll l p (pixelsFrom d w i (drop i m)) ≡ z
+  pub pixels-again : (d w i : ℕ) (m : List Float) → i < length m → out l2 p2 ≡ putAll l p (pixelText d (i % w) (i / w) (getD m i nan)) → putAll l p (pixelsFrom d w i (drop i m)) ≡ z
       → putAll l2 p2 (pixelsFrom d w (i + 1) (drop (i + 1) m)) ≡ z
   unfolding pixelsFrom
-  pixels-turn d w i m h e f =
+  pixels-again d w i m h e f =
       let f2 = rw (drop-cons m i nan h) at f in
-      rw (add-one i) (rw (add-one i) at (text-turn (pixelText d (i % w) (i / w) (getD m i nan)) (pixelsFrom d w (i + 1) (drop (suc i) m)) e f2))
+      rw (add-one i) (rw (add-one i) at (text-again (pixelText d (i % w) (i / w) (getD m i nan)) (pixelsFrom d w (i + 1) (drop (suc i) m)) e f2))
 
-  pub each-turn : (text : ℕ → List ℕ) (n d : ℕ) → d < n → out l2 p2 ≡ putAll l p (text d) → putAll l p (eachFrom text (n - d) d) ≡ z → putAll l2 p2 (eachFrom text (n - (d + 1)) (d + 1)) ≡ z
+  pub each-again : (text : ℕ → List ℕ) (n d : ℕ) → d < n → out l2 p2 ≡ putAll l p (text d) → putAll l p (eachFrom text (n - d) d) ≡ z → putAll l2 p2 (eachFrom text (n - (d + 1)) (d + 1)) ≡ z
   unfolding eachFrom
-  each-turn text n d h e f =
+  each-again text n d h e f =
       let q : n - d ≡ suc (n - (d + 1)) = omega arith in
-      text-turn (text d) (eachFrom text (n - (d + 1)) (d + 1)) e (rw q at f)
+      text-again (text d) (eachFrom text (n - (d + 1)) (d + 1)) e (rw q at f)
 
 pub pixels-end : (d w i : ℕ) (m : List Float) (l : List ℕ) (p : ℕ) (z : Out) → length m ≤ i → putAll l p (pixelsFrom d w i (drop i m)) ≡ z → out l p ≡ z
 unfolding pixelsFrom putAll

@@ -30,8 +30,8 @@ module _ (l : List Detector2D) (n i : ℕ) (r : Check) (z : Checked Unit) (p : i
   unfolding checkListOf
   one = let q : n - i ≡ suc (n - (i + 1)) = omega arith in rw f (rw q at e)
 
-  pub check-turn : r ≡ Passed → checkListOf l (n - (i + 1)) (i + 1) ≡ z
-  check-turn g = rw g at one
+  pub check-again : r ≡ Passed → checkListOf l (n - (i + 1)) (i + 1) ≡ z
+  check-again g = rw g at one
 
   pub check-refused : (x : NonSeqError) (place : ℕ) → r ≡ Refused x place → refusedAt (numberOf x) place ≡ z
   check-refused x place g = rw g at one
@@ -46,8 +46,8 @@ pub first-more : (l : List Detector2D) (i : ℕ) → firstPixelOf l (i + 1) ≡ 
 unfolding firstPixelOf
 first-more l i = ap (firstPixelOf l) (add-one i)
 
-pub first-turn : (l : List Detector2D) (i m sum : ℕ) → sum ≡ firstPixelOf l i → m ≡ pixelsOf (detectorAt l i) → sum + m ≡ firstPixelOf l (i + 1)
-first-turn l i m sum e f = rw (e, f) (sym (first-more l i))
+pub first-again : (l : List Detector2D) (i m sum : ℕ) → sum ≡ firstPixelOf l i → m ≡ pixelsOf (detectorAt l i) → sum + m ≡ firstPixelOf l (i + 1)
+first-again l i m sum e f = rw (e, f) (sym (first-more l i))
 
 -- at most 2 ^ 24 each
 pub first-most : (l : List Detector2D) (i sum : ℕ) → sum ≡ firstPixelOf l i → sum ≤ i * 2 ^ 24

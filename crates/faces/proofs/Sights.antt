@@ -9,7 +9,7 @@ use Rattle.detector.specs.declared.face.Crossed.{Crossed}
 use Rattle.detector.specs.declared.face.Crossed.the-variants.{At, Miss}
 use Rattle.detector.specs.Faces.{asCrossing}
 use Rattle.nearest.specs.Nearest.{isNearerOf, distanceOf, nearerOf}
-use Rattle.nearest.proofs.Turns.{nearer-nothing, nearer-taken, nearer-kept}
+use Rattle.nearest.proofs.Loops.{nearer-nothing, nearer-taken, nearer-kept}
 use Rattle.faces.specs.declared.Sight.{Sight}
 use Rattle.faces.specs.Faces.{sightDistance, sightFrom}
 

@@ -17,16 +17,16 @@ clash e = subst T (sym e) tt
 
 -- ---- a hex digit more
 
-pub pow-turn : (v i d : ℕ) → v < 16 ^ i → d < 16 → v * 16 + d < 16 ^ (i + 1)
-pow-turn v i d p q = rw (add-one, pow-suc) (omega arith)
+pub pow-again : (v i d : ℕ) → v < 16 ^ i → d < 16 → v * 16 + d < 16 ^ (i + 1)
+pow-again v i d p q = rw (add-one, pow-suc) (omega arith)
 
 pub pow-fits : (v i d : ℕ) → v < 16 ^ i → i < 16 → d < 16 → v * 16 + d < 2 ^ 64
-pow-fits v i d p h q = lt-of-lt-of-le (pow-turn v i d p q) (let k : i + 1 ≤ 16 = omega arith in let z : 0 < 16 = omega arith in pow-le-pow-right z {i = i + 1} {j = 16} k)
+pow-fits v i d p h q = lt-of-lt-of-le (pow-again v i d p q) (let k : i + 1 ≤ 16 = omega arith in let z : 0 < 16 = omega arith in pow-le-pow-right z {i = i + 1} {j = 16} k)
 
 module _ (t : List ℕ) (i : ℕ) (h : i < length t) where
-  pub hex-turn : (z : Bool) → digitOf (getD t i 0) < 16 → isHexOf (drop i t) ≡ z → isHexOf (drop (i + 1) t) ≡ z
+  pub hex-again : (z : Bool) → digitOf (getD t i 0) < 16 → isHexOf (drop i t) ≡ z → isHexOf (drop (i + 1) t) ≡ z
   unfolding isHexOf
-  hex-turn z q e = let e2 = rw (drop-cons t i 0 h) at e in rw add-one (simp (lt-ltb _ _ q) at e2)
+  hex-again z q e = let e2 = rw (drop-cons t i 0 h) at e in rw add-one (simp (lt-ltb _ _ q) at e2)
 
   pub hex-stop : (z : Bool) → 16 ≤ digitOf (getD t i 0) → isHexOf (drop i t) ≡ z → false ≡ z
   unfolding isHexOf
@@ -40,9 +40,9 @@ module _ (t : List ℕ) (i : ℕ) (h : i < length t) where
       go true q e = ltb-true _ _ q
       go false q e = absurd (clash (simp q at e))
 
-  pad-turn : (v w : ℕ) → i < 16 → hexPadOf v (16 - i) (drop i t) ≡ w → hexPadOf (v * 16 + digitOf (getD t i 0)) (16 - (i + 1)) (drop (i + 1) t) ≡ w
+  pad-again : (v w : ℕ) → i < 16 → hexPadOf v (16 - i) (drop i t) ≡ w → hexPadOf (v * 16 + digitOf (getD t i 0)) (16 - (i + 1)) (drop (i + 1) t) ≡ w
   unfolding hexPadOf
-  pad-turn v w p e =
+  pad-again v w p e =
       let q : 16 - i ≡ suc (16 - (i + 1)) = omega arith in
       let e2 = rw (drop-cons t i 0 h, q) at e in
       rw (add-one i) (rw (add-one i) at e2)
@@ -65,7 +65,7 @@ unfolding digitAtOf
 pad-step t v i w p e = go (ltb i (length t)) refl
   where
     go : (b : Bool) → ltb i (length t) ≡ b → hexPadOf (v * 16 + cond (ltb i (length t)) (digitOf (getD t i 0)) 0) (16 - (i + 1)) (drop (i + 1) t) ≡ w
-    go true q = rw q (pad-turn t i (ltb-true _ _ q) v w p e)
+    go true q = rw q (pad-again t i (ltb-true _ _ q) v w p e)
     go false q = rw q (pad-zeros t v i w (ltb-false _ _ q) p e)
 
 pub pad-done : (t : List ℕ) (v i w : ℕ) → 16 ≤ i → hexPadOf v (16 - i) (drop i t) ≡ w → v ≡ w
@@ -97,17 +97,17 @@ digit-at-lt t i e = go (ltb i (length t)) refl
 -- ---- a decimal digit more
 
 module _ (t : List ℕ) (i : ℕ) (h : i < length t) where
-  pub dec-turn : (z : Bool) → digitOf (getD t i 0) < 10 → isDecimal (drop i t) ≡ z → isDecimal (drop (i + 1) t) ≡ z
+  pub dec-again : (z : Bool) → digitOf (getD t i 0) < 10 → isDecimal (drop i t) ≡ z → isDecimal (drop (i + 1) t) ≡ z
   unfolding isDecimal
-  dec-turn z q e = let e2 = rw (drop-cons t i 0 h) at e in rw add-one (simp (lt-ltb _ _ q) at e2)
+  dec-again z q e = let e2 = rw (drop-cons t i 0 h) at e in rw add-one (simp (lt-ltb _ _ q) at e2)
 
   pub dec-stop : (z : Bool) → 10 ≤ digitOf (getD t i 0) → isDecimal (drop i t) ≡ z → z ≡ false
   unfolding isDecimal
   dec-stop z q e = let e2 = rw (drop-cons t i 0 h) at e in sym (simp (le-ltb _ _ q) at e2)
 
-  pub from-turn : (v w : ℕ) → decimalFrom v (drop i t) ≡ w → decimalFrom (v * 10 + digitOf (getD t i 0)) (drop (i + 1) t) ≡ w
+  pub from-again : (v w : ℕ) → decimalFrom v (drop i t) ≡ w → decimalFrom (v * 10 + digitOf (getD t i 0)) (drop (i + 1) t) ≡ w
   unfolding decimalFrom
-  from-turn v w e = let e2 = rw (drop-cons t i 0 h) at e in rw (add-one i) e2
+  from-again v w e = let e2 = rw (drop-cons t i 0 h) at e in rw (add-one i) e2
 
 pub from-grows : (v : ℕ) (t : List ℕ) → v ≤ decimalFrom v t
 unfolding decimalFrom

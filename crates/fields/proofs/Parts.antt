@@ -41,9 +41,9 @@ module _ (s : List ℕ) (i b : ℕ) where
   unfolding before
   before-here h e = rw (drop-cons s i 0 h) (simp (eq-eqb _ _ e))
 
-  pub before-turn : i < length s → (getD s i 0 ≡ b → ⊥) → before b (drop i s) ≡ getD s i 0 ∷ before b (drop (suc i) s)
+  pub before-again : i < length s → (getD s i 0 ≡ b → ⊥) → before b (drop i s) ≡ getD s i 0 ∷ before b (drop (suc i) s)
   unfolding before
-  before-turn h n = rw (drop-cons s i 0 h) (simp (ne-eqb _ _ n))
+  before-again h n = rw (drop-cons s i 0 h) (simp (ne-eqb _ _ n))
 
   pub later-end : length s ≤ i → later b (drop i s) ≡ []
   unfolding later
@@ -53,9 +53,9 @@ module _ (s : List ℕ) (i b : ℕ) where
   unfolding later
   later-here h e = rw (drop-cons s i 0 h) (simp (eq-eqb _ _ e))
 
-  pub later-turn : i < length s → (getD s i 0 ≡ b → ⊥) → later b (drop i s) ≡ later b (drop (suc i) s)
+  pub later-again : i < length s → (getD s i 0 ≡ b → ⊥) → later b (drop i s) ≡ later b (drop (suc i) s)
   unfolding later
-  later-turn h n = rw (drop-cons s i 0 h) (simp (ne-eqb _ _ n))
+  later-again h n = rw (drop-cons s i 0 h) (simp (ne-eqb _ _ n))
 
 -- ---- a turn of the loops of `end_at` and `count_parts`
 
@@ -63,9 +63,9 @@ module _ (s : List ℕ) (b i e : ℕ) where
   pub end-here : i < length s → getD s i 0 ≡ b → i + length (before b (drop i s)) ≡ e → i ≡ e
   end-here h q p = sym (add-zero i) ∙ ap (λ (l : List ℕ). i + length l) (sym (before-here s i b h q)) ∙ p
 
-  pub end-turn : i < length s → (getD s i 0 ≡ b → ⊥) → i + length (before b (drop i s)) ≡ e → i + 1 + length (before b (drop (i + 1) s)) ≡ e
-  end-turn h q p =
-      let z = ap length (before-turn s i b h q) in
+  pub end-again : i < length s → (getD s i 0 ≡ b → ⊥) → i + length (before b (drop i s)) ≡ e → i + 1 + length (before b (drop (i + 1) s)) ≡ e
+  end-again h q p =
+      let z = ap length (before-again s i b h q) in
       rw (add-one i) (omega (arith, p, z))
 
   pub end-end : length s ≤ i → i + length (before b (drop i s)) ≡ e → i ≡ e
@@ -76,8 +76,8 @@ module _ (s : List ℕ) (b i e : ℕ) where
       let z = ap length (later-here s i b h q) in
       rw (add-one i) (omega (arith, p, z))
 
-  pub count-turn : (n : ℕ) → i < length s → (getD s i 0 ≡ b → ⊥) → n + length (later b (drop i s)) ≡ e → n + length (later b (drop (i + 1) s)) ≡ e
-  count-turn n h q p = rw (add-one i) (ap (λ (l : List (List ℕ)). n + length l) (sym (later-turn s i b h q)) ∙ p)
+  pub count-again : (n : ℕ) → i < length s → (getD s i 0 ≡ b → ⊥) → n + length (later b (drop i s)) ≡ e → n + length (later b (drop (i + 1) s)) ≡ e
+  count-again n h q p = rw (add-one i) (ap (λ (l : List (List ℕ)). n + length l) (sym (later-again s i b h q)) ∙ p)
 
   pub count-end : (n : ℕ) → length s ≤ i → n + length (later b (drop i s)) ≡ e → n ≡ e
   count-end n h p = sym (add-zero n) ∙ ap (λ (l : List (List ℕ)). n + length l) (sym (later-end s i b h)) ∙ p
@@ -157,9 +157,9 @@ later-after s at b h =
     next a n = omega arith
 
 -- going on to the next part
-pub after-turn : (s : List ℕ) (at b n : ℕ) → getD (partsAt b s (afterOf s at b)) n [] ≡ getD (partsAt b s at) (suc n) []
+pub after-again : (s : List ℕ) (at b n : ℕ) → getD (partsAt b s (afterOf s at b)) n [] ≡ getD (partsAt b s at) (suc n) []
 unfolding afterOf split
-after-turn s at b n = go (ltb (length s) at) refl
+after-again s at b n = go (ltb (length s) at) refl
   where
     go : (t : Bool) → ltb (length s) at ≡ t → getD (partsAt b s (cond (ltb (length s) at) at (endAtOf s at b + 1))) n [] ≡ getD (partsAt b s at) (suc n) []
     go true e =
@@ -190,10 +190,10 @@ module _ (s : List ℕ) (b k : ℕ) (z : List ℕ) where
   pub part-start : getD (partsAt b s 0) (k - 0) [] ≡ getD (split b s) k []
   part-start = let n : k - 0 ≡ k = omega arith in rw (n, parts-in b s 0 (omega arith))
 
-  pub part-turn : (at j r : ℕ) → j < k → r ≡ afterOf s at b → getD (partsAt b s at) (k - j) [] ≡ z → getD (partsAt b s r) (k - (j + 1)) [] ≡ z
-  part-turn at j r h q e =
+  pub part-again : (at j r : ℕ) → j < k → r ≡ afterOf s at b → getD (partsAt b s at) (k - j) [] ≡ z → getD (partsAt b s r) (k - (j + 1)) [] ≡ z
+  part-again at j r h q e =
       let n : k - j ≡ suc (k - (j + 1)) = omega arith in
-      rw q (after-turn s at b (k - (j + 1)) ∙ (rw n at e))
+      rw q (after-again s at b (k - (j + 1)) ∙ (rw n at e))
 
   pub part-end : (at j : ℕ) → k ≤ j → getD (partsAt b s at) (k - j) [] ≡ z → getD (partsAt b s at) 0 [] ≡ z
   part-end at j h e = let n : k - j ≡ 0 = omega arith in rw n at e
@@ -223,12 +223,12 @@ last-line s at h k = go (eqb (getD s at 0) 10) refl
     go true e =
         let z = ap length (before-here s at 10 h (eqb-true _ _ e)) in
         absurd (lt-irrefl at (lt-of-lt-of-le h (le-trans k (le-of-eq (rw z (add-zero at))))))
-    go false e = rw (before-turn s at 10 h (eqb-false _ _ e)) (ended-cons _ _)
+    go false e = rw (before-again s at 10 h (eqb-false _ _ e)) (ended-cons _ _)
 
 -- a text that is not at its end has a line first, and then the lines after it
-pub lines-turn : (s : List ℕ) (at : ℕ) → at < length s → textLines (drop at s) ≡ take (endAtOf s at 10 - at) (drop at s) ∷ textLines (drop (endAtOf s at 10 + 1) s)
+pub lines-again : (s : List ℕ) (at : ℕ) → at < length s → textLines (drop at s) ≡ take (endAtOf s at 10 - at) (drop at s) ∷ textLines (drop (endAtOf s at 10 + 1) s)
 unfolding textLines split
-lines-turn s at h =
+lines-again s at h =
     let e = endAtOf s at 10 in
     let k : at ≤ length s = omega arith in
     rw (end-part s at 10) (go (ltb (length s) (e + 1)) refl (later-after s at 10 k))

@@ -55,10 +55,10 @@ module _ (f : RayPathFilter) (asked : DetectorNo) (d : Detector2D) where
       go true = refl
       go false = refl
 
-  pub sift-turn : (m k z : Map) (v : List Float) (t : List ℕ) (used i : ℕ) (h : DetectorHit) → i < used → h ≡ hitAtOf v t i → k ≡ siftHitOf f asked d m h
+  pub sift-again : (m k z : Map) (v : List Float) (t : List ℕ) (used i : ℕ) (h : DetectorHit) → i < used → h ≡ hitAtOf v t i → k ≡ siftHitOf f asked d m h
       → plusEach d m (passing f asked (hitsFrom v t (used - i) i)) ≡ z → plusEach d k (passing f asked (hitsFrom v t (used - (i + 1)) (i + 1))) ≡ z
   unfolding hitsFrom
-  sift-turn m k z v t used i h p eh ek e =
+  sift-again m k z v t used i h p eh ek e =
       let q : used - i ≡ suc (used - (i + 1)) = omega arith in
       rw (ek, eh) (sym (one m (hitAtOf v t i) (hitsFrom v t (used - (i + 1)) (i + 1))) ∙ (rw q at e))
 

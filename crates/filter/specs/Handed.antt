@@ -14,7 +14,7 @@ use Rattle.detector.specs.declared.DetectorHit.{DetectorHit}
 use Rattle.detectors.specs.Detectors.{allPixelsOf, findOf}
 use Rattle.memory.specs.Memory.{hitsFrom, isHitListOf}
 use Rattle.filter.specs.declared.RayPathFilter.{RayPathFilter}
-use Rattle.filter.specs.declared.filtering.Filtered.{Filtered}
+use Rattle.filter.specs.declared.calls.Filtered.{Filtered}
 use Rattle.filter.specs.Filters.{Map, isAllOf, refillOf}
 use Rattle.doubles.specs.Doubles.{#0}
 

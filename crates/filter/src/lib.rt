@@ -1,5 +1,5 @@
 // The filters of document 01, "Maps and lists", after detector.rs: which hits each lets through, and the
-// map, the total and the count that they make; in `filtering` the calls that check what they are given.
+// map, the total and the count that they make; in `calls` the calls that check what they are given.
 //
 // What each lets through, by a hit's reflections and its total reflections:
 //   0 All           every hit
@@ -7,13 +7,13 @@
 //   2 GhostsOnly    hits with at least one reflection; light that was only totally reflected is left out
 //   3 TirOnly       hits with at least one total reflection, reflections or not
 //   4 StrayLight    hits with either
-mod filtering;
+mod calls;
 mod sifting;
 
-pub use filtering::Filtered;
-pub use filtering::filtered_part;
-pub use filtering::filtered_pixel_flux;
-pub use filtering::refilter;
+pub use calls::Filtered;
+pub use calls::filtered_part;
+pub use calls::filtered_pixel_flux;
+pub use calls::refilter;
 pub use sifting::Tally;
 pub use sifting::refill;
 ghost use mathlib.Core.Path.{_≡_};

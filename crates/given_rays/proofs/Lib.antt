@@ -1,2 +1,2 @@
 -- What holds of the definitions.
-pub mod Turns
+pub mod Loops

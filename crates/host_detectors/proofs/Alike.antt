@@ -8,7 +8,7 @@ use Rattle.error.specs.declared.Check.the-variants.{Passed, Refused}
 use Rattle.error.specs.Refusals.{Checked, passed, refusedAt, asChecked}
 use Rattle.memory.specs.declared.recording.Recorded.{Recorded}
 use Rattle.memory.specs.Memory.{Memory, lentMemory, Outcome, asOutcome, asRecorded}
-use Rattle.filter.specs.declared.filtering.Filtered.{Filtered}
+use Rattle.filter.specs.declared.calls.Filtered.{Filtered}
 use Rattle.filter.specs.Handed.{Handed, asHanded}
 use Rattle.host_numbers.specs.declared.HostChecked.{HostChecked}
 use Rattle.host_numbers.specs.Numbers.{checkedOf}

@@ -68,9 +68,9 @@ room-past n a b h = simp (le-ltb n 4097 h)
 
 -- ---- the loop
 
-pub put-turn : (ys : List GivenRay) (s t z : Laid) (i : ℕ) → i < length ys → flattenOf (drop i ys) s ≡ z → t ≡ putRayOf (getD ys i no-ray) s → flattenOf (drop (i + 1) ys) t ≡ z
+pub put-again : (ys : List GivenRay) (s t z : Laid) (i : ℕ) → i < length ys → flattenOf (drop i ys) s ≡ z → t ≡ putRayOf (getD ys i no-ray) s → flattenOf (drop (i + 1) ys) t ≡ z
 unfolding flattenOf
-put-turn ys s t z i h p e = rw (e, add-one i) (rw (drop-cons ys i no-ray h) at p)
+put-again ys s t z i h p e = rw (e, add-one i) (rw (drop-cons ys i no-ray h) at p)
 
 pub put-end : (ys : List GivenRay) (s z : Laid) (i : ℕ) → length ys ≤ i → flattenOf (drop i ys) s ≡ z → s ≡ z
 unfolding flattenOf

@@ -29,9 +29,9 @@ unfolding lastPlaceOf
 last-none l zero s h = refl
 last-none l (suc i) s h = absurd (omega arith)
 
-pub down-turn : (e i : ℕ) (l z : List SolidNo) → i < e → moveDownOf (e - i) i l ≡ z → moveDownOf (e - (i + 1)) (i + 1) (set l i (solidIn l (i + 1))) ≡ z
+pub down-again : (e i : ℕ) (l z : List SolidNo) → i < e → moveDownOf (e - i) i l ≡ z → moveDownOf (e - (i + 1)) (i + 1) (set l i (solidIn l (i + 1))) ≡ z
 unfolding moveDownOf
-down-turn e i l z h p = let q : e - i ≡ suc (e - (i + 1)) = omega arith in rw q at p
+down-again e i l z h p = let q : e - i ≡ suc (e - (i + 1)) = omega arith in rw q at p
 
 pub down-end : (e i : ℕ) (l z : List SolidNo) → e ≤ i → moveDownOf (e - i) i l ≡ z → l ≡ z
 unfolding moveDownOf

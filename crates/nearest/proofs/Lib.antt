@@ -1,4 +1,4 @@
 -- What holds of the nearest offer.
 pub mod Order
 pub mod Laws
-pub mod Turns
+pub mod Loops

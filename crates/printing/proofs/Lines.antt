@@ -12,7 +12,7 @@ use lib.Seq.{drop-cons}
 use borrow.Author.Tests.{lt-ltb, le-ltb, eq-eqb, ne-eqb, ltb-true, ltb-false}
 use Rattle.printing.specs.Printing.{Out, out, putAll}
 use Rattle.printing.specs.Rows.{spaced, wholesText, doublesText, rowText, behindOf}
-use Rattle.printing.proofs.Writing.{put-turn, put-append, put-join}
+use Rattle.printing.proofs.Writing.{put-again, put-append, put-join}
 
 -- what stands behind a number that l follows
 abbrev sep : {A : Type 0} → List A → ℕ → ℕ
@@ -38,16 +38,16 @@ module _ {A : Type 0} (text : A → List ℕ) where
       go false e = let k : length l ≤ i + 1 = ltb-false (i + 1) (length l) e in rw (le-ltb 0 (length l - suc i) (omega arith))
 
   -- a number and what stands behind it are written
-  pub spaced-turn : (z : A) (l : List A) (i n last g : ℕ) (b b1 b2 : List ℕ) (p p1 p2 : ℕ) (w : Out) → i < n → n ≡ length l → out b1 p1 ≡ putAll b p (text (getD l i z)) → g ≡ behindOf i n last → out b2 p2 ≡ putAll b1 p1 (g ∷ [])
+  pub spaced-again : (z : A) (l : List A) (i n last g : ℕ) (b b1 b2 : List ℕ) (p p1 p2 : ℕ) (w : Out) → i < n → n ≡ length l → out b1 p1 ≡ putAll b p (text (getD l i z)) → g ≡ behindOf i n last → out b2 p2 ≡ putAll b1 p1 (g ∷ [])
       → putAll b p (spaced text (drop i l) last) ≡ w → putAll b2 p2 (spaced text (drop (i + 1) l) last) ≡ w
-  spaced-turn z l i n last g b b1 b2 p p1 p2 w h e f k q v =
+  spaced-again z l i n last g b b1 b2 p p1 p2 w h e f k q v =
       let i-in : i < length l = omega arith in
       let rest = spaced text (drop (suc i) l) last in
       let g-is : g ≡ sep (drop (suc i) l) last = k ∙ ap (λ m. behindOf i m last) e ∙ sym (after-is l i last i-in) in
       let s : putAll b p (text (getD l i z) ++ sep (drop (suc i) l) last ∷ rest) ≡ w = ap (putAll b p) (sym (ap (λ m. spaced text m last) (drop-cons l i z i-in) ∙ spaced-cons (getD l i z) (drop (suc i) l) last)) ∙ v in
       let t : putAll b1 p1 (g ∷ rest) ≡ w =
       ap (λ (o : Out). putAll (o .buf) (o .at) (g ∷ rest)) f ∙ put-append b p (text (getD l i z)) (g ∷ rest) ∙ ap (λ m. putAll b p (text (getD l i z) ++ m ∷ rest)) g-is ∙ s in
-      rw (add-one i) (put-turn b1 b2 p1 p2 g rest w q t)
+      rw (add-one i) (put-again b1 b2 p1 p2 g rest w q t)
 
   pub spaced-end : (l : List A) (i n last : ℕ) (b : List ℕ) (p : ℕ) (w : Out) → n ≤ i → n ≡ length l → putAll b p (spaced text (drop i l) last) ≡ w → out b p ≡ w
   unfolding spaced putAll

@@ -9,9 +9,9 @@ use lib.Seq.{drop-cons, set-out, sets, sets-eq, take-append-seam}
 use borrow.Author.Tests.{lt-ltb, le-ltb, ne-eqb, eq-eqb}
 use Rattle.printing.specs.Printing.{glyphOf, hexText, Out, out, nextAt, putAll}
 
-pub put-turn : (l l2 : List ℕ) (p p2 b : ℕ) (t : List ℕ) (z : Out) → out l2 p2 ≡ putAll l p (b ∷ []) → putAll l p (b ∷ t) ≡ z → putAll l2 p2 t ≡ z
+pub put-again : (l l2 : List ℕ) (p p2 b : ℕ) (t : List ℕ) (z : Out) → out l2 p2 ≡ putAll l p (b ∷ []) → putAll l p (b ∷ t) ≡ z → putAll l2 p2 t ≡ z
 unfolding putAll
-put-turn l l2 p p2 b t z e f = ap (λ (o : Out). putAll (o .buf) (o .at) t) e ∙ f
+put-again l l2 p p2 b t z e f = ap (λ (o : Out). putAll (o .buf) (o .at) t) e ∙ f
 
 pub put-in : (l : List ℕ) (p b : ℕ) → p < length l → out (set l p b) (p + 1) ≡ putAll l p (b ∷ [])
 unfolding putAll nextAt
@@ -26,7 +26,7 @@ unfolding putAll
 put-end l p i t z h e = rw (drop-of-length-le t h) at e
 
 pub put-next : (l l2 : List ℕ) (p p2 i : ℕ) (t : List ℕ) (z : Out) → i < length t → out l2 p2 ≡ putAll l p (getD t i 0 ∷ []) → putAll l p (drop i t) ≡ z → putAll l2 p2 (drop (i + 1) t) ≡ z
-put-next l l2 p p2 i t z h e f = put-turn l l2 p p2 (getD t i 0) (drop (i + 1) t) z e (rw (add-one i) (rw (drop-cons t i 0 h) at f))
+put-next l l2 p p2 i t z h e f = put-again l l2 p p2 (getD t i 0) (drop (i + 1) t) z e (rw (add-one i) (rw (drop-cons t i 0 h) at f))
 
 pub length-put : (l : List ℕ) (p : ℕ) (t : List ℕ) → length (putAll l p t .buf) ≡ length l
 unfolding putAll
@@ -40,7 +40,7 @@ unfolding hexText
 hex-put l l2 p p2 k r g z h n w e f =
     let q : 16 - k ≡ suc (16 - (k + 1)) = omega arith in
     let f2 = simp (ne-eqb _ _ n) at (rw q at f) in
-    put-turn l l2 p p2 g _ z e (rw w f2)
+    put-again l l2 p p2 g _ z e (rw w f2)
 
 pub hex-last : (l l2 : List ℕ) (p p2 k r g : ℕ) (z : Out) → k < 16 → r % 2 ^ 60 ≡ 0 → g ≡ glyphOf (r / 2 ^ 60) → out l2 p2 ≡ putAll l p (g ∷ []) → putAll l p (hexText (16 - k) r) ≡ z → out l2 p2 ≡ z
 unfolding hexText

@@ -1,4 +1,4 @@
 -- What holds of the definitions.
 pub mod Quiet
 pub mod Places
-pub mod Turns
+pub mod Steps

@@ -7,14 +7,14 @@ use lib.ListN.{getD}
 use Rattle.step.specs.declared.ActiveRay.{ActiveRay}
 use Rattle.detector.specs.declared.DetectorHit.{DetectorHit}
 use Rattle.step.specs.Rays.{Scene, Step}
-use Rattle.step.specs.Turn.{takeStepOf}
+use Rattle.step.specs.Steps.{takeStepOf}
 use Rattle.run.specs.declared.stack.Stack.{Stack}
 use Rattle.run.specs.declared.stack.Taken.{Taken}
 use Rattle.run.specs.declared.stack.Coming.{Coming}
 use Rattle.run.specs.declared.settling.Catch.{Catch}
 use Rattle.run.specs.declared.settling.Catch.the-variants.{Hit}
 use Rattle.run.specs.Run.{hitInOf, asCatch}
-use Rattle.run.proofs.Quiet.{turn-quiet}
+use Rattle.run.proofs.Quiet.{step-quiet}
 use Rattle.run.specs.Stack.{noRay, maxStack, loadOf, takenFrom, pushed, pushedIf, popped, stackAfter, topAtOf, takeOf, slotOf, raysComingOf, storedRays, heightOf}
 
 -- ---- the ray that is taken
@@ -53,6 +53,6 @@ module _ (s : Stack) (e : Step) where
 -- no ray comes of a ray that a detector catches
 pub after-hit : (s : Stack) (e : Step) (S : Scene) (a : ActiveRay) (at : ℕ) → at ≡ s .len - 1 → e ≡ takeStepOf S a → (k : Catch) → asCatch k ≡ hitInOf (e .end) → (d : DetectorHit) → k ≡ Hit d → (h : ℕ) → h ≡ heightOf (e .«first») (e .second) at → record { rays = s .rays; len = h } ≡ stackAfter s e
 after-hit s e S a at ea came k caught d ek h eh =
-    let none-comes = turn-quiet S a d (ap (λ (x : Step). hitInOf (x .end)) (sym came) ∙ sym caught ∙ ap asCatch ek) in
+    let none-comes = step-quiet S a d (ap (λ (x : Step). hitInOf (x .end)) (sym came) ∙ sym caught ∙ ap asCatch ek) in
     rw (eh, ea)
     (quiet-by s e (ltb (s .len - 1) 16) refl (ap (λ (x : Step). x .«first») came ∙ none-comes .0) (ap (λ (x : Step). x .second) came ∙ none-comes .1))

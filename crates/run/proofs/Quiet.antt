@@ -17,7 +17,7 @@ use Rattle.faces.specs.Faces.{nearestDetectorOf}
 use Rattle.surface.specs.Fresnel.{FresnelInteraction, total, split, computeSnellFresnelInteractionOf, mirroredPowerOf, mirroredOf}
 use Rattle.step.specs.declared.ActiveRay.{ActiveRay}
 use Rattle.step.specs.Rays.{Optics, Scene, Step, endsOf, dim, spent, gone, caught, stopped, parted, refusing}
-use Rattle.step.specs.Turn.{indexInOf, beyondOf, partedBy, partedOf, betweenOf, clearOf, mirrorFromOf, mirrorOf, surfaceBy, surfaceOf, Met, detector, solid, nothing, caughtByOf, firstMetOf, meetsWith, interactOf, takeStepOf}
+use Rattle.step.specs.Steps.{indexInOf, beyondOf, partedBy, partedOf, betweenOf, clearOf, mirrorFromOf, mirrorOf, surfaceBy, surfaceOf, Met, detector, solid, nothing, caughtByOf, firstMetOf, meetsWith, interactOf, takeStepOf}
 use Rattle.run.specs.Run.{hitInOf}
 
 -- if the step brings a hit, neither ray is made
@@ -67,9 +67,9 @@ meets-quiet S a (detector s) h e = (refl, refl)
 meets-quiet S a (solid g) h e = surface-quiet (S .optics) a g (S .optics .finish (g .«object_id»)) h e
 meets-quiet S a nothing h e = (refl, refl)
 
-pub turn-quiet : (S : Scene) (a : ActiveRay) → Quiet (takeStepOf S a)
+pub step-quiet : (S : Scene) (a : ActiveRay) → Quiet (takeStepOf S a)
 unfolding takeStepOf interactOf
-turn-quiet S a =
+step-quiet S a =
     cond-quiet (le (a .ray .energy) (S .optics .config .«min_power_threshold»)) (endsOf a dim) _
     (λ (h : DetectorHit) (e : hitInOf dim ≡ some h). (refl, refl))
     (cond-quiet (leb (S .optics .config .«max_bounces») (a .«bounce_count»)) (endsOf a spent) (interactOf S a)

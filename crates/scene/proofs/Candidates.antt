@@ -10,7 +10,7 @@ use Rattle.rays.specs.declared.vector.Vec3.{Vec3}
 use Rattle.geometry.specs.Transforms.{worldNormalOf}
 use Rattle.nearest.specs.Nearest.{isCounted, isNearerOf, distanceOf, nearerOf, nearestAmong, NoneCounts, NoneNearer, IsNearest}
 use Rattle.nearest.proofs.Laws.{nearest-is}
-use Rattle.nearest.proofs.Turns.{nearer-nothing, nearer-taken, nearer-kept}
+use Rattle.nearest.proofs.Loops.{nearer-nothing, nearer-taken, nearer-kept}
 use Rattle.scene.specs.declared.NonSeqObject.{NonSeqObject}
 use Rattle.scene.specs.declared.NonSeqHit.{NonSeqHit}
 use Rattle.scene.specs.declared.object.Approach.{Approach}

@@ -12,9 +12,9 @@ use Rattle.scene.specs.Solids.{tagsFitOf, checkTagsOf}
 abbrev pub fit-at : List ℕ → ℕ → Bool
 fit-at k i = tagsFitOf (getD k (i * 4) 0) (getD k (i * 4 + 1) 0) (getD k (i * 4 + 2) 0) (getD k (i * 4 + 3) 0)
 
-pub tags-turn : (k : List ℕ) (n i : ℕ) (t : Bool) (z : Checked Unit) → i < n → t ≡ fit-at k i → t ≡ true → checkTagsOf k (n - i) i ≡ z → checkTagsOf k (n - (i + 1)) (i + 1) ≡ z
+pub tags-again : (k : List ℕ) (n i : ℕ) (t : Bool) (z : Checked Unit) → i < n → t ≡ fit-at k i → t ≡ true → checkTagsOf k (n - i) i ≡ z → checkTagsOf k (n - (i + 1)) (i + 1) ≡ z
 unfolding checkTagsOf
-tags-turn k n i t z p f g e = let q : n - i ≡ suc (n - (i + 1)) = omega arith in rw (q, ← f, g) at e
+tags-again k n i t z p f g e = let q : n - i ≡ suc (n - (i + 1)) = omega arith in rw (q, ← f, g) at e
 
 pub tags-refused : (k : List ℕ) (n i : ℕ) (t : Bool) (z : Checked Unit) → i < n → t ≡ fit-at k i → t ≡ false → checkTagsOf k (n - i) i ≡ z → refusedAt 17 i ≡ z
 unfolding checkTagsOf

@@ -22,9 +22,9 @@ same-no (x ∷ a) [] h = refl
 same-no (x ∷ a) (y ∷ b) h = rw (← same-no a b (λ e. h (ap suc e))) (cond-same (eqb x y) false)
 
 module _ (a b : List ℕ) (i : ℕ) (h : i < length a) (g : i < length b) (z : Bool) where
-  pub same-turn : getD a i 0 ≡ getD b i 0 → sameOf (drop i a) (drop i b) ≡ z → sameOf (drop (i + 1) a) (drop (i + 1) b) ≡ z
+  pub same-again : getD a i 0 ≡ getD b i 0 → sameOf (drop i a) (drop i b) ≡ z → sameOf (drop (i + 1) a) (drop (i + 1) b) ≡ z
   unfolding sameOf
-  same-turn q e = let e2 = simp (eq-eqb _ _ q) at (rw (drop-cons a i 0 h, drop-cons b i 0 g) at e) in rw (add-one i) e2
+  same-again q e = let e2 = simp (eq-eqb _ _ q) at (rw (drop-cons a i 0 h, drop-cons b i 0 g) at e) in rw (add-one i) e2
 
   pub same-stop : (getD a i 0 ≡ getD b i 0 → ⊥) → sameOf (drop i a) (drop i b) ≡ z → false ≡ z
   unfolding sameOf

@@ -26,9 +26,9 @@ put-append l p [] t = refl
 put-append l p (x ∷ s) t = put-append (set l p x) (nextAt l p) s t
 
 -- one value, and then more
-pub put-turn : {A : Type 0} (l l2 : List A) (p p2 : ℕ) (x : A) (t : List A) (z : Filled A) → filled l2 p2 ≡ putAll l p (x ∷ []) → putAll l p (x ∷ t) ≡ z → putAll l2 p2 t ≡ z
+pub put-again : {A : Type 0} (l l2 : List A) (p p2 : ℕ) (x : A) (t : List A) (z : Filled A) → filled l2 p2 ≡ putAll l p (x ∷ []) → putAll l p (x ∷ t) ≡ z → putAll l2 p2 t ≡ z
 unfolding putAll
-put-turn {A = A} l l2 p p2 x t z e f = ap (λ (o : Filled A). putAll (o .list) (o .next) t) e ∙ f
+put-again {A = A} l l2 p p2 x t z e f = ap (λ (o : Filled A). putAll (o .list) (o .next) t) e ∙ f
 
 -- ---- a piece of text
 

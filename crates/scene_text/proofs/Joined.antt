@@ -15,7 +15,7 @@ use Rattle.fields.proofs.Parts.{parts-past, parts-in, later-after, end-part}
 use Rattle.scene_text.specs.Cells.{mediaParts, oneMoreOf, isNumber, countMediaOf, numberOrZeroOf, mediaFrom, mediaCell, readMediaOf}
 use Rattle.scene_text.specs.Tables.{Filled, filled, putAll}
 use Rattle.scene_text.specs.Steps.{table, put}
-use Rattle.scene_text.proofs.Filling.{put-turn}
+use Rattle.scene_text.proofs.Filling.{put-again}
 
 pub more-is : (n : ℕ) → n < 9 → n + 1 ≡ oneMoreOf n
 unfolding oneMoreOf
@@ -45,9 +45,9 @@ module _ (s : List ℕ) (at b e : ℕ) (q : e ≡ endAtOf s at b) (h : at ≤ le
   text = rw q (end-part s at b)
 
 module _ (f : List ℕ) (at e : ℕ) (q : e ≡ endAtOf f at 44) (h : at ≤ length f) where
-  pub count-turn : (v : ReadWhole) (x n : ℕ) (z : Read) → asWhole v ≡ readWholeOf (take (e - at) (drop at f)) → v ≡ ReadWhole'.Whole x → countMediaOf (partsAt 44 f at) n ≡ z → countMediaOf (partsAt 44 f (e + 1)) (oneMoreOf n) ≡ z
+  pub count-again : (v : ReadWhole) (x n : ℕ) (z : Read) → asWhole v ≡ readWholeOf (take (e - at) (drop at f)) → v ≡ ReadWhole'.Whole x → countMediaOf (partsAt 44 f at) n ≡ z → countMediaOf (partsAt 44 f (e + 1)) (oneMoreOf n) ≡ z
   unfolding countMediaOf isNumber
-  count-turn v x n z p r m =
+  count-again v x n z p r m =
       let p2 : readWholeOf (before 44 (drop at f)) ≡ number x = rw (← text f at 44 e q h) (sym p ∙ ap asWhole r) in
       let m2 = simp p2 at (rw (here f at 44 e q h) at m) in
       rw (next f at 44 e q h) m2
@@ -70,11 +70,11 @@ pub medium-past : (f : List ℕ) (at n : ℕ) → length f < at → _≡_ {A = L
 unfolding mediaFrom
 medium-past f at n h = rw (parts-past 44 f at h)
 
-pub media-turn : (f : List ℕ) (at at2 x j : ℕ) (w w2 : List ℕ) (p p2 : ℕ) (z : Filled ℕ) → j < 8 → ((n : ℕ) → _≡_ {A = List ℕ} (x ∷ mediaFrom n (partsAt 44 f at2)) (mediaFrom (suc n) (partsAt 44 f at))) → filled w2 p2 ≡ putAll w p (x ∷ []) → putAll w p (mediaFrom (8 - j) (partsAt 44 f at)) ≡ z → putAll w2 p2 (mediaFrom (8 - (j + 1)) (partsAt 44 f at2)) ≡ z
-media-turn f at at2 x j w w2 p p2 z h m a e =
+pub media-again : (f : List ℕ) (at at2 x j : ℕ) (w w2 : List ℕ) (p p2 : ℕ) (z : Filled ℕ) → j < 8 → ((n : ℕ) → _≡_ {A = List ℕ} (x ∷ mediaFrom n (partsAt 44 f at2)) (mediaFrom (suc n) (partsAt 44 f at))) → filled w2 p2 ≡ putAll w p (x ∷ []) → putAll w p (mediaFrom (8 - j) (partsAt 44 f at)) ≡ z → putAll w2 p2 (mediaFrom (8 - (j + 1)) (partsAt 44 f at2)) ≡ z
+media-again f at at2 x j w w2 p p2 z h m a e =
     let o : 8 - j ≡ suc (8 - (j + 1)) = omega arith in
     let e2 = rw o at e in
-    put-turn w w2 p p2 x (mediaFrom (8 - (j + 1)) (partsAt 44 f at2)) z a (ap (putAll w p) (m (8 - (j + 1))) ∙ e2)
+    put-again w w2 p p2 x (mediaFrom (8 - (j + 1)) (partsAt 44 f at2)) z a (ap (putAll w p) (m (8 - (j + 1))) ∙ e2)
 
 pub media-end : (f : List ℕ) (at j : ℕ) (w : List ℕ) (p : ℕ) (z : Filled ℕ) → 8 ≤ j → putAll w p (mediaFrom (8 - j) (partsAt 44 f at)) ≡ z → filled w p ≡ z
 unfolding mediaFrom putAll

@@ -54,8 +54,8 @@ module _ (l : List ℕ) (at b e : ℕ) (q : e ≡ endAtOf l at b) (h : at ≤ le
   line-cell k form g = rw (there g, onward)
 
   -- a cell that ends where it should
-  pub cell-turn : (k : ℕ) (o : Bool) (d : List Float) (nd : ℕ) (w : List ℕ) (nw : ℕ) (t : Table) (form : List ℕ) → e < length l → o ≡ true → t ≡ put (readCellOf k (take (e - at) (drop at l))) (table true d nd w nw) → lineFrom l (e + 1) form t ≡ lineFrom l at (k ∷ b ∷ form) (table o d nd w nw)
-  cell-turn k o d nd w nw t form g y p =
+  pub cell-again : (k : ℕ) (o : Bool) (d : List Float) (nd : ℕ) (w : List ℕ) (nw : ℕ) (t : Table) (form : List ℕ) → e < length l → o ≡ true → t ≡ put (readCellOf k (take (e - at) (drop at l))) (table true d nd w nw) → lineFrom l (e + 1) form t ≡ lineFrom l at (k ∷ b ∷ form) (table o d nd w nw)
+  cell-again k o d nd w nw t form g y p =
       let p2 : t ≡ put (readCellOf k (before b (drop at l))) (table true d nd w nw) = rw (← cell-text) p in
       let p3 = p2 ∙ put-any (readCellOf k (before b (drop at l))) o d nd w nw in
       ap (lineFrom l (e + 1) form) p3
@@ -98,8 +98,8 @@ two-more form k h =
     let n : suc (k + 1) ≡ k + 2 = omega arith in
     drop-cons form k 0 g ∙ ap (λ (m : List ℕ). getD form k 0 ∷ m) (ap (λ (m : ℕ). drop m form) (sym (add-one k)) ∙ drop-cons form (k + 1) 0 h ∙ ap (λ (m : ℕ). getD form (k + 1) 0 ∷ drop m form) n)
 
-pub line-turn : (l form : List ℕ) (k at at2 : ℕ) (t t2 z : Table) → k + 1 < length form → ((f : List ℕ) → lineFrom l at2 f t2 ≡ lineFrom l at (getD form k 0 ∷ getD form (k + 1) 0 ∷ f) t) → lineFrom l at (drop k form) t ≡ z → lineFrom l at2 (drop (k + 2) form) t2 ≡ z
-line-turn l form k at at2 t t2 z h m e = m (drop (k + 2) form) ∙ ap (λ (f : List ℕ). lineFrom l at f t) (sym (two-more form k h)) ∙ e
+pub line-again : (l form : List ℕ) (k at at2 : ℕ) (t t2 z : Table) → k + 1 < length form → ((f : List ℕ) → lineFrom l at2 f t2 ≡ lineFrom l at (getD form k 0 ∷ getD form (k + 1) 0 ∷ f) t) → lineFrom l at (drop k form) t ≡ z → lineFrom l at2 (drop (k + 2) form) t2 ≡ z
+line-again l form k at at2 t t2 z h m e = m (drop (k + 2) form) ∙ ap (λ (f : List ℕ). lineFrom l at f t) (sym (two-more form k h)) ∙ e
 
 short-form : (l : List ℕ) (at : ℕ) (f : List ℕ) (t : Table) → length f ≤ 1 → lineFrom l at [] t ≡ lineFrom l at f t
 unfolding lineFrom readRowOf

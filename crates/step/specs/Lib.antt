@@ -1,3 +1,3 @@
 -- Document 01, "How a ray lives": one step, which sees no memory.
 pub mod Rays
-pub mod Turn
+pub mod Steps

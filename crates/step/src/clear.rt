@@ -13,7 +13,7 @@ ghost use mathlib.Core.Path.{_≡_};
 ghost use Rattle.material.specs.Media.{asIndex};
 ghost use Rattle.surface.specs.Fresnel.{total, asInteraction};
 ghost use Rattle.step.specs.Rays.{listedOptics, asStep};
-ghost use Rattle.step.specs.Turn.{indexInOf, beyondOf, partedOf, betweenOf, clearOf, allReflectedOf, bothMadeOf};
+ghost use Rattle.step.specs.Steps.{indexInOf, beyondOf, partedOf, betweenOf, clearOf, allReflectedOf, bothMadeOf};
 
 // The index of the newest medium, else of the ambient.
 fn index_in(

@@ -18,7 +18,7 @@ use rays::Ray;
 use scene::NonSeqHit;
 ghost use mathlib.Core.Path.{_≡_};
 ghost use Rattle.step.specs.Rays.{listedOptics, listedScene, endsOf, moreOf, reflectedOf, transmittedOf, asEnd, asStep};
-ghost use Rattle.step.specs.Turn.{caughtByOf, surfaceOf, interactOf, takeStepOf};
+ghost use Rattle.step.specs.Steps.{caughtByOf, surfaceOf, interactOf, takeStepOf};
 
 // By which rules rays are traced.
 pub struct NonSeqTraceConfig {

@@ -6,7 +6,7 @@ use scene::NonSeqHit;
 ghost use mathlib.Core.Path.{_≡_};
 ghost use Rattle.scene.specs.Objects.{asHit};
 ghost use Rattle.faces.specs.Faces.{asSight};
-ghost use Rattle.step.specs.Turn.{nearerOf, firstMetOf, asMet};
+ghost use Rattle.step.specs.Steps.{nearerOf, firstMetOf, asMet};
 
 pub enum Met {
     Detector(Sight),

@@ -7,7 +7,7 @@ use scene::NonSeqHit;
 ghost use mathlib.Core.Path.{_≡_};
 ghost use Rattle.rays.specs.Rays.{asRay};
 ghost use Rattle.step.specs.Rays.{asStep};
-ghost use Rattle.step.specs.Turn.{mirrorFromOf, mirrorOf};
+ghost use Rattle.step.specs.Steps.{mirrorFromOf, mirrorOf};
 
 // The ray is on its way again, and the rest of its power stays; or it could not be made.
 fn mirror_from(a: ActiveRay, left: f64, made: NewRay) -> Step

@@ -12,12 +12,8 @@ mod sifted;
 mod tried;
 
 fn main() {
-    report::text(
-        b"Changed by a recording: places of flux, hits, values, tags, and records.\n",
-    );
-    report::text(
-        b"Changed by a filter: places of the stored map, the work map, values, tags.\n",
-    );
+    report::text(b"Changed by a recording: places of flux, hits, values, tags, and records.\n");
+    report::text(b"Changed by a filter: places of the stored map, the work map, values, tags.\n");
     recording::eight_detectors();
     refused::resolutions();
     refused::sizes();

@@ -17,9 +17,9 @@ module _ (l : List ℕ) (k : ℕ) (g : Rng64) (z : Bool) (i : drawsAgreeOf l (7 
     left : 7 - k ≡ suc (7 - (k + 1))
     left = omega arith
 
-    pub draw-turn : b ≡ true → drawsAgreeOf l (7 - (k + 1)) (k + 1) (d .rng) ≡ z
+    pub draw-again : b ≡ true → drawsAgreeOf l (7 - (k + 1)) (k + 1) (d .rng) ≡ z
     unfolding drawsAgreeOf
-    draw-turn t = let j = rw (left, ← e, ← q, t) at i in j
+    draw-again t = let j = rw (left, ← e, ← q, t) at i in j
 
     pub draw-stop : b ≡ false → false ≡ z
     unfolding drawsAgreeOf

@@ -7,7 +7,7 @@ use Rattle.memory.specs.Memory.{Outcome, done, refused, memoryLeft}
 use Rattle.memory.proofs.Plain.{mapOutcome}
 use Rattle.step.specs.declared.ActiveRay.{ActiveRay}
 use Rattle.step.specs.Rays.{Scene, Step, End, dim, spent, gone, caught, stopped, parted, refusing}
-use Rattle.step.specs.Turn.{takeStepOf}
+use Rattle.step.specs.Steps.{takeStepOf}
 use Rattle.report.specs.declared.NonSeqTraceReport.{NonSeqTraceReport}
 use Rattle.report.specs.Report.{reportAfterOf}
 use Rattle.run.specs.declared.stack.Taken.{Taken}

@@ -22,7 +22,7 @@ use Rattle.memory.specs.Memory.{Memory, done, refused, judged, cellOf, cellIn, 
 use Rattle.memory.specs.Plain.{Empty, sharing}
 use Rattle.filter.specs.declared.RayPathFilter.the-variants.{GhostsOnly}
 use Rattle.faces.specs.Faces.{newFacesOf, sightFrom, faceCountOf, nearestDetectorOf}
-use Rattle.step.specs.Turn.{firstMetOf, meetsWith, interactOf, takeStepOf}
+use Rattle.step.specs.Steps.{firstMetOf, meetsWith, interactOf, takeStepOf}
 use Rattle.given_rays.specs.Given.{readRayOf, readMediaOf, givenAtOf, checkListsOf, allSolidsOf, validMediaOf, checkRayOf, checkRaysOf, launchedFrom, launchedOf}
 use Rattle.run.specs.Stack.{emptyStackOf, loadOf, takenFrom, pushedIf, popped, stackAfter}
 use Rattle.run.specs.Run.{hitInOf, refusalInOf, isLeft, stepOn, drive}

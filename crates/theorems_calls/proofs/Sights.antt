@@ -20,7 +20,7 @@ use Rattle.faces.specs.declared.Sight.{Sight}
 use Rattle.faces.specs.Faces.{sightDistance, sightFrom, sights, faceCountOf, nearestDetectorOf}
 use Rattle.step.specs.declared.ActiveRay.{ActiveRay}
 use Rattle.step.specs.Rays.{Optics, Scene, Step, End, dim, spent, gone, caught, stopped, parted, refusing}
-use Rattle.step.specs.Turn.{Met, detector, nothing, partedBy, partedOf, betweenOf, clearOf, mirrorFromOf, mirrorOf, surfaceBy, surfaceOf, nearerOf, firstMetOf, meetsWith, interactOf, takeStepOf}
+use Rattle.step.specs.Steps.{Met, detector, nothing, partedBy, partedOf, betweenOf, clearOf, mirrorFromOf, mirrorOf, surfaceBy, surfaceOf, nearerOf, firstMetOf, meetsWith, interactOf, takeStepOf}
 use Rattle.theorems_runs.proofs.Bred.{pick, false-true}
 use Rattle.theorems_calls.proofs.Drives.{Brought}
 
@@ -92,9 +92,9 @@ module _ (n : ℕ) (a : ActiveRay) where
   meets-there S (some s) (some h) f =
       pick (λ (k : Met). There n (meetsWith S a k .end)) (lt (s .crossing .t) (h .t)) (λ q. f s refl) (λ q. by-there (S .optics) h _)
 
-turn-there : (S : Scene) (a : ActiveRay) → There (faceCountOf (S .faces .count)) (takeStepOf S a .end)
+step-there : (S : Scene) (a : ActiveRay) → There (faceCountOf (S .faces .count)) (takeStepOf S a .end)
 unfolding takeStepOf interactOf nearestDetectorOf
-turn-there S a =
+step-there S a =
     let n : ℕ = faceCountOf (S .faces .count) in
     pick (λ (s : Step). There n (s .end)) (le (a .ray .energy) (S .optics .config .«min_power_threshold»)) (λ q. tt)
     (λ q.
@@ -105,4 +105,4 @@ turn-there S a =
 
 -- a hit that a step brings
 pub brought-there : (S : Scene) (h : DetectorHit) → Brought S h → h .detector .0 < faceCountOf (S .faces .count)
-brought-there S h b = subst (There (faceCountOf (S .faces .count))) (b .1) (turn-there S (b .0))
+brought-there S h b = subst (There (faceCountOf (S .faces .count))) (b .1) (step-there S (b .0))

@@ -10,7 +10,7 @@ use Rattle.detector.specs.declared.DetectorHit.{DetectorHit}
 use Rattle.memory.specs.Memory.{Outcome, done}
 use Rattle.step.specs.declared.ActiveRay.{ActiveRay}
 use Rattle.step.specs.Rays.{Scene, Step, dim, spent, endsOf}
-use Rattle.step.specs.Turn.{takeStepOf, interactOf}
+use Rattle.step.specs.Steps.{takeStepOf, interactOf}
 use Rattle.report.specs.Report.{moreIfOf, isInteractionOf, reportAfterOf, startReportOf}
 use Rattle.run.specs.declared.Progress.{Progress}
 use Rattle.run.specs.declared.stack.Taken.{Taken}

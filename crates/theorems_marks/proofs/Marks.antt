@@ -17,7 +17,7 @@ use Rattle.surface.specs.Fresnel.{leavingOf, cosineOf, radicandOf, reflectedDir
 use Rattle.detector.proofs.Marks.{m8}
 use Rattle.step.specs.declared.ActiveRay.{ActiveRay}
 use Rattle.step.specs.Rays.{endsOf, stopped}
-use Rattle.step.specs.Turn.{mirrorOf, nearerOf, firstMetOf}
+use Rattle.step.specs.Steps.{mirrorOf, nearerOf, firstMetOf}
 use Rattle.report.specs.Report.{absorbOf, ledgerAfterOf, moreIfOf, addSurfaceOf, talliesAfterOf, reportAfterOf}
 use Rattle.theorems_marks.specs.Marks.{#-0, #¼, #¾, #3, #+x, #+z, #-z, #000, upward, sideways, facing, sentRay, M1, M2, M6, M7, M9, M10, M11, Marks}
 use Rattle.theorems_marks.proofs.Itself.{below-itself, above-zero}

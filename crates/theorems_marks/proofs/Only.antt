@@ -11,7 +11,7 @@ use Rattle.detector.specs.declared.DetectorHit.{DetectorHit}
 use Rattle.memory.specs.Memory.{Memory, hasPixel}
 use Rattle.step.specs.declared.ActiveRay.{ActiveRay}
 use Rattle.step.specs.Rays.{Scene, caught}
-use Rattle.step.specs.Turn.{takeStepOf}
+use Rattle.step.specs.Steps.{takeStepOf}
 use Rattle.trace.specs.Trace.{Batch, sceneIn, checkBatch}
 use Rattle.theorems_marks.specs.Refused.{StepRefused, Reached, RunRefused, ListFull, CountFull, BadWavelength, BadMedium, BadRay, Only, Refusals}
 use Rattle.theorems_marks.proofs.Early.{isEarly, check-refuses}

@@ -26,14 +26,14 @@ use Rattle.detector.specs.declared.DetectorHit.{DetectorHit}
 use Rattle.memory.specs.Memory.{Memory, Outcome, done, refused, memoryLeft, judged, putOf, recordOf, hasPixel, capacity, cellIn, hitDetector, writtenAt}
 use Rattle.step.specs.declared.ActiveRay.{ActiveRay}
 use Rattle.step.specs.Rays.{Optics, Scene, End, dim, spent, gone, caught, stopped, parted, refusing, endsOf}
-use Rattle.step.specs.Turn.{Met, detector, solid, nothing, indexInOf, beyondOf, partedBy, partedOf, betweenOf, clearOf, mirrorFromOf, mirrorOf, surfaceBy, surfaceOf, caughtByOf, meetsWith, interactOf, takeStepOf}
+use Rattle.step.specs.Steps.{Met, detector, solid, nothing, indexInOf, beyondOf, partedBy, partedOf, betweenOf, clearOf, mirrorFromOf, mirrorOf, surfaceBy, surfaceOf, caughtByOf, meetsWith, interactOf, takeStepOf}
 use Rattle.report.specs.declared.NonSeqTraceReport.{NonSeqTraceReport}
 use Rattle.run.specs.declared.Progress.{Progress}
 use Rattle.run.specs.Stack.{takenFrom}
 use Rattle.run.specs.Run.{Run, hitInOf, refusalInOf, putFrom, settleWith, isLeft, andThen, stepOn, drive}
 use Rattle.trace.specs.Trace.{Batch, raysIn, sceneIn, allSteps, startOf, runOn, checkBatch, traceAfter, traceRaysOf}
 use Rattle.theorems_marks.specs.Marks.{sentRay}
-use Rattle.theorems_marks.specs.Refused.{BadSquare, BadIndex, IndexRefused, cosineAt, rootAt, shareAt, mirroredRay, ClearRefused, HitRefused, metBy, SurfaceRefused, TurnRefused, StepRefused, Refusing, RunRefused}
+use Rattle.theorems_marks.specs.Refused.{BadSquare, BadIndex, IndexRefused, cosineAt, rootAt, shareAt, mirroredRay, ClearRefused, HitRefused, metBy, SurfaceRefused, RayRefused, StepRefused, Refusing, RunRefused}
 use Rattle.theorems_marks.proofs.Sent.{leaving-is}
 use Rattle.detector.specs.Pixels.{maxCount}
 
@@ -186,7 +186,7 @@ pub mirror-refuses : (r : Ray) (h : NonSeqHit) (power : Float) (n : ℕ) → mir
 unfolding mirroredOf
 mirror-refuses r h power n x = leaving-refuses r (h .point) _ power n x
 
--- ---- a turn
+-- ---- what becomes of a ray
 
 abbrev refusalOf : End → ℕ
 refusalOf dim = 0
@@ -239,9 +239,9 @@ module _ (O : Optics) (a : ActiveRay) (h : NonSeqHit) (n : ℕ) where
       go (value n1) (refusal k) e f x = inl (s, inr (inl (index-refuses _ w n (f ∙ ap refusal (ap refusalOf x)))))
       go (refusal k) j e f x = inl (s, inl (index-refuses _ w n (e ∙ ap refusal (ap refusalOf x))))
 
-  mirror-turn : (rho : Float) → O .finish (h .«object_id») ≡ Mirror rho → mirrorOf (O .config .«min_power_threshold») a h rho .end ≡ refusing n → SurfaceRefused O a h n
+  mirror-refuses : (rho : Float) → O .finish (h .«object_id») ≡ Mirror rho → mirrorOf (O .config .«min_power_threshold») a h rho .end ≡ refusing n → SurfaceRefused O a h n
   unfolding mirrorOf mirrorFromOf
-  mirror-turn rho s x = go (lt (O .config .«min_power_threshold») power) x
+  mirror-refuses rho s x = go (lt (O .config .«min_power_threshold») power) x
     where
       power : Float
       power = mirroredPowerOf (a .ray .energy) rho
@@ -265,19 +265,19 @@ module _ (O : Optics) (a : ActiveRay) (h : NonSeqHit) (n : ℕ) where
     where
       go : (f : SurfaceFinish) → O .finish (h .«object_id») ≡ f → surfaceBy O a h f .end ≡ refusing n → SurfaceRefused O a h n
       go Specular e x = clear-refuses e x
-      go (Mirror rho) e x = mirror-turn rho e x
+      go (Mirror rho) e x = mirror-refuses rho e x
       go Absorber e x = absurd (other (stopped (a .ray .energy)) refl x)
 
-pub turn-refuses : (S : Scene) (a : ActiveRay) (n : ℕ) → takeStepOf S a .end ≡ refusing n → TurnRefused S a n
+pub ray-refuses : (S : Scene) (a : ActiveRay) (n : ℕ) → takeStepOf S a .end ≡ refusing n → RayRefused S a n
 unfolding takeStepOf interactOf meetsWith
-turn-refuses S a n x = go (le (a .ray .energy) (S .optics .config .«min_power_threshold»)) (leb (S .optics .config .«max_bounces») (a .«bounce_count»)) x
+ray-refuses S a n x = go (le (a .ray .energy) (S .optics .config .«min_power_threshold»)) (leb (S .optics .config .«max_bounces») (a .«bounce_count»)) x
   where
-    meets : (m : Met) → metBy S a ≡ m → meetsWith S a m .end ≡ refusing n → TurnRefused S a n
+    meets : (m : Met) → metBy S a ≡ m → meetsWith S a m .end ≡ refusing n → RayRefused S a n
     meets (detector s) e x = absurd (other (caught (caughtByOf a s)) refl x)
     meets (solid h) e x = (h, (e, surface-refuses (S .optics) a h n x))
     meets nothing e x = absurd (other gone refl x)
 
-    go : (b c : Bool) → cond b (endsOf a dim) (cond c (endsOf a spent) (interactOf S a)) .end ≡ refusing n → TurnRefused S a n
+    go : (b c : Bool) → cond b (endsOf a dim) (cond c (endsOf a spent) (interactOf S a)) .end ≡ refusing n → RayRefused S a n
     go true c x = absurd (other dim refl x)
     go false true x = absurd (other spent refl x)
     go false false x = meets (metBy S a) refl x
@@ -327,7 +327,7 @@ why : (S : Scene) (a : ActiveRay) (m : Memory) (n : ℕ) (t : Memory) → Settli
 why S a m n t (inl (h, (e, (at, x)))) =
     let l = record-leaves m h n at t x in
     (l, inl (h, (e, subst (λ (s : Memory). HitRefused s h n) l (record-refuses m h n at t x))))
-why S a m n t (inr (e, l)) = (l, inr (turn-refuses S a n e))
+why S a m n t (inr (e, l)) = (l, inr (ray-refuses S a n e))
 
 left-is : (m t : Memory) (p : Progress) → m ≡ t → _≡_ {A = Run Memory} (record { outcome = done m; progress = p }) (record { outcome = done t; progress = p })
 left-is m t p e = rw e

@@ -26,7 +26,7 @@ use Rattle.memory.specs.Memory.{Outcome}
 use Rattle.faces.specs.declared.Sight.{Sight}
 use Rattle.step.specs.declared.ActiveRay.{ActiveRay}
 use Rattle.step.specs.Rays.{stopped}
-use Rattle.step.specs.Turn.{firstMetOf, solid, mirrorOf}
+use Rattle.step.specs.Steps.{firstMetOf, solid, mirrorOf}
 use Rattle.report.specs.declared.NonSeqTraceReport.{NonSeqTraceReport}
 use Rattle.report.specs.Report.{reportAfterOf}
 use Rattle.trace.specs.Trace.{Batch, runOn}

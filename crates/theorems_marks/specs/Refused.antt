@@ -26,7 +26,7 @@ use Rattle.memory.specs.Memory.{Memory, Outcome, done, refused, recordOf, hasPi
 use Rattle.faces.specs.Faces.{nearestDetectorOf}
 use Rattle.step.specs.declared.ActiveRay.{ActiveRay}
 use Rattle.step.specs.Rays.{Optics, Scene, caught}
-use Rattle.step.specs.Turn.{Met, solid, mediumFrom, indexInOf, beyondOf, firstMetOf, takeStepOf}
+use Rattle.step.specs.Steps.{Met, solid, mediumFrom, indexInOf, beyondOf, firstMetOf, takeStepOf}
 use Rattle.run.specs.declared.Progress.{Progress}
 use Rattle.run.specs.Stack.{takenFrom}
 use Rattle.run.specs.Run.{isLeft, stepOn, drive}
@@ -128,8 +128,8 @@ SurfaceRefused O a h n =
     (isFiniteRayOf (mirroredRay (a .ray) h (mirroredPowerOf (a .ray .energy) rho)) ≡ false))))
 
 -- a solid is met, and its surface is refused
-abbrev pub TurnRefused : Scene → ActiveRay → ℕ → Type 0
-TurnRefused S a n = (h : NonSeqHit) × ((metBy S a ≡ solid h) × SurfaceRefused (S .optics) a h n)
+abbrev pub RayRefused : Scene → ActiveRay → ℕ → Type 0
+RayRefused S a n = (h : NonSeqHit) × ((metBy S a ≡ solid h) × SurfaceRefused (S .optics) a h n)
 
 -- a detector is met, and the hit is refused
 abbrev pub CatchRefused : Memory → Scene → ActiveRay → ℕ → Type 0
@@ -137,7 +137,7 @@ CatchRefused m S a n = (h : DetectorHit) × ((takeStepOf S a .end ≡ caught h) 
 
 -- a refusal of one step with ray a, memory m
 abbrev pub StepRefused : Memory → Scene → ActiveRay → ℕ → Type 0
-StepRefused m S a n = CatchRefused m S a n ⊎ TurnRefused S a n
+StepRefused m S a n = CatchRefused m S a n ⊎ RayRefused S a n
 
 -- ---- a run
 

@@ -10,7 +10,7 @@ use Rattle.detector.specs.declared.DetectorHit.{DetectorHit}
 use Rattle.memory.specs.Memory.{Outcome, done, refused}
 use Rattle.step.specs.declared.ActiveRay.{ActiveRay}
 use Rattle.step.specs.Rays.{Scene, Step, End, dim, spent, gone, caught, stopped, parted, refusing, moreOf}
-use Rattle.step.specs.Turn.{takeStepOf}
+use Rattle.step.specs.Steps.{takeStepOf}
 use Rattle.report.specs.declared.tallies.Tallies.{Tallies}
 use Rattle.report.specs.declared.NonSeqTraceReport.{NonSeqTraceReport}
 use Rattle.report.specs.Report.{moreIfOf, addDimOf, addSpentOf, addCaughtOf, addGoneOf, addSurfaceOf, talliesAfterOf, isInteractionOf, reportAfterOf, startReportOf}

@@ -20,7 +20,7 @@ use Rattle.media.specs.declared.Media.{Media}
 use Rattle.media.specs.Media.{enteredOf, leftOf, lastPlaceOf, moveDownOf, withoutPlace, solidIn, maxMedia}
 use Rattle.step.specs.declared.ActiveRay.{ActiveRay}
 use Rattle.step.specs.Rays.{Optics, Scene, Step, End, endsOf, dim, spent, gone, caught, stopped, parted, refusing, moreOf, reflectedOf, transmittedOf}
-use Rattle.step.specs.Turn.{beyondOf, partedBy, partedOf, betweenOf, clearOf, mirrorFromOf, mirrorOf, surfaceBy, surfaceOf, Met, detector, solid, nothing, meetsWith, interactOf, takeStepOf}
+use Rattle.step.specs.Steps.{beyondOf, partedBy, partedOf, betweenOf, clearOf, mirrorFromOf, mirrorOf, surfaceBy, surfaceOf, Met, detector, solid, nothing, meetsWith, interactOf, takeStepOf}
 use Rattle.report.specs.Report.{isInteractionOf}
 use Rattle.theorems_runs.specs.Sums.{isSurface}
 

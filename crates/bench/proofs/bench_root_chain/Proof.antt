@@ -6,7 +6,7 @@ use Prim.Native.Nat.{_-_, _≤_}
 use lib.ListN.{length, drop}
 use lib.Ieee.{Float, binary64, add, ofBits}
 use Rattle.doubles.specs.Root.{sqrtOf}
-use Rattle.bench.proofs.Turns.{turn, done}
+use Rattle.bench.proofs.Loops.{turn, done}
 use Rattle.bench.specs.Loops.{benchRootChainOf}
 use Rattle.bench.proofs.bench_root_chain.Statement.{statement}
 use Rattle.bench.proofs.bench_root_chain.Tie as tie

@@ -3,7 +3,7 @@ use Prim.Native.Nat.{_≤_, _-_}
 use native.Mathlib.Nat.{sub-zero}
 use mathlib.Core.Path.{_≡_}
 use borrow.Author.Needs.{needs}
-use Rattle.detectors.proofs.Lists.{check-turn, check-refused, check-end}
+use Rattle.detectors.proofs.Lists.{check-again, check-refused, check-end}
 use borrow.Author.Needs.{needs}
 use Rattle.detectors.specs.Detectors.{checkListOf}
 use Rattle.detectors.proofs.check_list.Statement.{statement}
@@ -40,7 +40,7 @@ loop-less : tie.Need-loop-less Inv-loop μ-loop
 loop-less c = search needs
 
 loop-again : tie.Need-loop-again Inv-loop μ-loop
-loop-again c = (search needs, check-turn _ _ _ _ _ (c .before .before .before .before .loop-test .taken) (c .before .before .check .ensures) (c .before .before .before .before .before .loop .inv .1) (c .enum-told .given .1))
+loop-again c = (search needs, check-again _ _ _ _ _ (c .before .before .before .before .loop-test .taken) (c .before .before .check .ensures) (c .before .before .before .before .before .loop .inv .1) (c .enum-told .given .1))
 
 enum-known-error : tie.Need-enum-known-error Inv-loop μ-loop
 enum-known-error c = search needs

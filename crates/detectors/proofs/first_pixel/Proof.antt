@@ -4,7 +4,7 @@ use mathlib.Core.Path.{_≡_, refl}
 use native.Mathlib.Omega.{arith}
 use borrow.Author.Needs.{needs}
 use Rattle.detectors.specs.Detectors.{firstPixelOf}
-use Rattle.detectors.proofs.Lists.{first-turn, first-most, turn-most, first-end}
+use Rattle.detectors.proofs.Lists.{first-again, first-most, turn-most, first-end}
 use borrow.Author.Needs.{needs}
 use Rattle.detectors.proofs.first_pixel.Statement.{statement}
 use Rattle.detectors.proofs.first_pixel.Tie as tie
@@ -38,7 +38,7 @@ loop-less : tie.Need-loop-less Inv-loop μ-loop
 loop-less c = search needs
 
 loop-again : tie.Need-loop-again Inv-loop μ-loop
-loop-again c = (search needs, first-turn _ _ _ _ (c .before .before .before .loop .inv .1) (c .pixels .ensures))
+loop-again c = (search needs, first-again _ _ _ _ (c .before .before .before .loop .inv .1) (c .pixels .ensures))
 
 returns : tie.Need-returns Inv-loop μ-loop
 returns c = first-end _ _ _ _ (c .before .loop .inv .0) (c .loop-test .left) (c .before .loop .inv .1)

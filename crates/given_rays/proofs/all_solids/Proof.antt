@@ -3,7 +3,7 @@ use Prim.Native.Nat.{ℕ, _≤_, _<_, _-_, _+_, _*_}
 use mathlib.Core.Path.{_≡_}
 use native.Mathlib.Omega.{arith}
 use borrow.Author.Needs.{needs}
-use Rattle.given_rays.proofs.Turns.{solids-start, solids-turn, solids-not, solids-end}
+use Rattle.given_rays.proofs.Loops.{solids-start, solids-again, solids-not, solids-end}
 use Rattle.given_rays.specs.Given.{allSolidsOf}
 use Rattle.given_rays.proofs.all_solids.Statement.{statement}
 use Rattle.given_rays.proofs.all_solids.Tie as tie
@@ -30,7 +30,7 @@ loop-less : tie.Need-loop-less Inv-loop μ-loop
 loop-less c = search needs
 
 loop-again : tie.Need-loop-again Inv-loop μ-loop
-loop-again c = (search needs, solids-turn _ _ _ _ _ (c .before .before .before .loop-test .taken) (c .if1 .taken) (c .before .before .before .before .loop .inv .1))
+loop-again c = (search needs, solids-again _ _ _ _ _ (c .before .before .before .loop-test .taken) (c .if1 .taken) (c .before .before .before .before .loop .inv .1))
 
 returns : tie.Need-returns Inv-loop μ-loop
 returns c = solids-not _ _ _ _ _ (c .before .before .before .loop-test .taken) (c .if1 .left) (c .before .before .before .before .loop .inv .1)

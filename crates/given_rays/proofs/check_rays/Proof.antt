@@ -2,7 +2,7 @@
 use Prim.Native.Nat.{ℕ, _≤_, _<_, _-_, _+_, _*_}
 use mathlib.Core.Path.{_≡_}
 use borrow.Author.Needs.{needs}
-use Rattle.given_rays.proofs.Turns.{rays-start, rays-turn, rays-refused, rays-end}
+use Rattle.given_rays.proofs.Loops.{rays-start, rays-again, rays-refused, rays-end}
 use Rattle.given_rays.specs.Given.{checkRaysOf, givenAtOf}
 use Rattle.given_rays.proofs.check_rays.Statement.{statement}
 use Rattle.given_rays.proofs.check_rays.Tie as tie
@@ -32,7 +32,7 @@ loop-less : tie.Need-loop-less Inv-loop μ-loop
 loop-less c = search needs
 
 loop-again : tie.Need-loop-again Inv-loop μ-loop
-loop-again c = rays-turn _ _ _ _ _ _ _ (c .before .before .before .before .loop-test .taken) (c .before .before .before .given-at .ensures) (c .before .before .check-ray .ensures) (c .before .before .before .before .before .loop .inv) (c .enum-told .given .1)
+loop-again c = rays-again _ _ _ _ _ _ _ (c .before .before .before .before .loop-test .taken) (c .before .before .before .given-at .ensures) (c .before .before .check-ray .ensures) (c .before .before .before .before .before .loop .inv) (c .enum-told .given .1)
 
 enum-known-error : tie.Need-enum-known-error Inv-loop μ-loop
 enum-known-error c = search needs

@@ -3,7 +3,7 @@ use Prim.Native.Nat.{ℕ, _≤_, _<_, _-_, _+_, _*_}
 use mathlib.Core.Path.{_≡_}
 use borrow.Author.Needs.{needs}
 use Rattle.given_rays.specs.Given.{givenAtOf, launchedFrom}
-use Rattle.given_rays.proofs.Turns.{launch-start, launch-turn, launch-end}
+use Rattle.given_rays.proofs.Loops.{launch-start, launch-again, launch-end}
 use Rattle.given_rays.specs.Given.{givenAtOf, launchedFrom, launchedOf}
 use Rattle.given_rays.proofs.launched.Statement.{statement}
 use Rattle.given_rays.proofs.launched.Tie as tie
@@ -27,7 +27,7 @@ loop-less : tie.Need-loop-less Inv-loop μ-loop
 loop-less c = search needs
 
 loop-again : tie.Need-loop-again Inv-loop μ-loop
-loop-again c = launch-turn _ _ _ _ _ _ (c .before .before .loop-test .taken) (c .before .given-at .ensures) (c .before .before .before .loop .inv)
+loop-again c = launch-again _ _ _ _ _ _ (c .before .before .loop-test .taken) (c .before .given-at .ensures) (c .before .before .before .loop .inv)
 
 returns : tie.Need-returns Inv-loop μ-loop
 returns c = launch-end _ _ (c .before .loop .i) _ _ (c .loop-test .left) (c .before .loop .inv)

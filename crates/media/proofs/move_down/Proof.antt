@@ -4,7 +4,7 @@ use mathlib.Core.Path.{_≡_, refl}
 use lib.ListN.{length}
 use native.Mathlib.Omega.{arith}
 use borrow.Author.Needs.{needs}
-use Rattle.media.proofs.Places.{down-turn, down-end}
+use Rattle.media.proofs.Places.{down-again, down-end}
 use Rattle.media.specs.Media.{moveDownOf}
 use Rattle.media.proofs.move_down.Statement.{statement}
 use Rattle.media.proofs.move_down.Tie as tie
@@ -40,7 +40,7 @@ loop-less : tie.Need-loop-less Inv-loop μ-loop
 loop-less c = search needs
 
 loop-again : tie.Need-loop-again Inv-loop μ-loop
-loop-again c = (search needs, down-turn _ _ _ _ (c .before .loop-test .taken) (c .before .before .loop .inv .1))
+loop-again c = (search needs, down-again _ _ _ _ (c .before .loop-test .taken) (c .before .before .loop .inv .1))
 
 returns : tie.Need-returns Inv-loop μ-loop
 returns c = down-end _ _ _ _ (c .loop-test .left) (c .before .loop .inv .1)

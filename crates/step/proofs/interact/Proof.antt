@@ -1,5 +1,5 @@
 -- `step::interact` meets its contract. Assumes nothing.
-use Rattle.step.specs.Turn.{interactOf, meetsWith}
+use Rattle.step.specs.Steps.{interactOf, meetsWith}
 use borrow.Author.Needs.{needs}
 use Rattle.step.proofs.interact.Statement.{statement}
 use Rattle.step.proofs.interact.Tie as tie

@@ -1,5 +1,5 @@
 -- `step::surface` meets its contract. Assumes nothing.
-use Rattle.step.specs.Turn.{surfaceBy, surfaceOf}
+use Rattle.step.specs.Steps.{surfaceBy, surfaceOf}
 use borrow.Author.Needs.{needs}
 use Rattle.step.proofs.surface.Statement.{statement}
 use Rattle.step.proofs.surface.Tie as tie

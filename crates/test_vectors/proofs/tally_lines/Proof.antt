@@ -8,7 +8,7 @@ use lib.ListN.{length, drop}
 use Rattle.fields.specs.Split.{textLines}
 use Rattle.fields.proofs.Parts.{end-in}
 use Rattle.test_vectors.specs.Count.{tallyLinesOf, emptyOf}
-use Rattle.test_vectors.proofs.Turns.{turn, done}
+use Rattle.test_vectors.proofs.Loops.{turn, done}
 use Rattle.test_vectors.specs.Count.{emptyOf, tallyLinesOf}
 use Rattle.test_vectors.specs.Lines.{lineAgreesOf}
 use Rattle.test_vectors.proofs.tally_lines.Statement.{statement}

@@ -5,7 +5,7 @@ use lib.ListN.{length}
 use borrow.Author.Needs.{needs}
 use Rattle.printing.specs.Printing.{putAll}
 use Rattle.answer_text.specs.Answer.{held, mapText, eachFrom, detectorCountOf}
-use Rattle.answer_text.proofs.Texts.{each-start, each-turn, each-end}
+use Rattle.answer_text.proofs.Texts.{each-start, each-again, each-end}
 use Rattle.answer_text.proofs.detectors_text.put_maps.Statement.{statement}
 use Rattle.answer_text.proofs.detectors_text.put_maps.Tie as tie
 
@@ -33,7 +33,7 @@ loop-less c = search needs
 
 loop-again : tie.Need-loop-again Inv-loop μ-loop
 loop-again c =
-    (search needs, c .before .before .put-map .kept .0 ∙ c .before .before .before .before .before .loop .inv .1, each-turn _ _ _ _ _ _ _ (c .before .before .before .before .before .loop .d) (c .before .before .before .before .loop-test .taken) (c .before .before .put-map .ensures) (c .before .before .before .before .before .loop .inv .2))
+    (search needs, c .before .before .put-map .kept .0 ∙ c .before .before .before .before .before .loop .inv .1, each-again _ _ _ _ _ _ _ (c .before .before .before .before .before .loop .d) (c .before .before .before .before .loop-test .taken) (c .before .before .put-map .ensures) (c .before .before .before .before .before .loop .inv .2))
 
 same-length : tie.Need-same-length Inv-loop μ-loop
 same-length c = search needs

@@ -4,7 +4,7 @@ use mathlib.Core.Path.{_≡_, refl, _∙_}
 use lib.ListN.{length, drop}
 use borrow.Author.Needs.{needs}
 use Rattle.printing.specs.Printing.{putAll}
-use Rattle.answer_text.proofs.Texts.{pixels-turn, pixels-end}
+use Rattle.answer_text.proofs.Texts.{pixels-again, pixels-end}
 use Rattle.answer_text.specs.Answer.{pixelsFrom}
 use Rattle.answer_text.proofs.pixels.put_pixels.Statement.{statement}
 use Rattle.answer_text.proofs.pixels.put_pixels.Tie as tie
@@ -40,7 +40,7 @@ loop-less : tie.Need-loop-less Inv-loop μ-loop
 loop-less c = search needs
 
 loop-again : tie.Need-loop-again Inv-loop μ-loop
-loop-again c = (search needs, c .before .before .put-pixel .kept .0 ∙ c .before .before .before .before .before .before .loop .inv .1, pixels-turn _ _ _ _ _ _ _ (c .before .before .before .before .before .before .loop .i) _ (c .before .before .before .before .before .loop-test .taken) (c .before .before .put-pixel .ensures) (c .before .before .before .before .before .before .loop .inv .2))
+loop-again c = (search needs, c .before .before .put-pixel .kept .0 ∙ c .before .before .before .before .before .before .loop .inv .1, pixels-again _ _ _ _ _ _ _ (c .before .before .before .before .before .before .loop .i) _ (c .before .before .before .before .before .loop-test .taken) (c .before .before .put-pixel .ensures) (c .before .before .before .before .before .before .loop .inv .2))
 
 same-length : tie.Need-same-length Inv-loop μ-loop
 same-length c = search needs

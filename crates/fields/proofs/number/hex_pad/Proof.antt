@@ -4,7 +4,7 @@ use mathlib.Core.Path.{_≡_, refl}
 use Prim.Native.Nat.{_+_, _-_, _*_, _^_, _≤_, _<_}
 use native.Mathlib.Omega.{arith}
 use lib.ListN.{drop}
-use Rattle.fields.proofs.Digits.{pow-turn, pow-fits, pad-step, pad-done, digit-at-lt}
+use Rattle.fields.proofs.Digits.{pow-again, pow-fits, pad-step, pad-done, digit-at-lt}
 use Rattle.fields.specs.Number.{hexPadOf}
 use Rattle.fields.proofs.number.hex_pad.Statement.{statement}
 use Rattle.fields.proofs.number.hex_pad.Tie as tie
@@ -45,7 +45,7 @@ loop-again : tie.Need-loop-again Inv-loop μ-loop
 loop-again c =
     let l = c .before .before in (
       search needs,
-      pow-turn _ _ _ (l .loop .inv .1) (small c),
+      pow-again _ _ _ (l .loop .inv .1) (small c),
       rw (c .digit-at .ensures) (pad-step _ _ _ _ (omega arith) (l .loop .inv .2)),
     )
 

@@ -3,7 +3,7 @@ use borrow.Author.Needs.{needs}
 use mathlib.Core.Path.{_≡_, refl}
 use Prim.Native.Nat.{_-_}
 use lib.ListN.{length, drop}
-use Rattle.fields.proofs.Digits.{hex-turn, hex-stop, hex-end}
+use Rattle.fields.proofs.Digits.{hex-again, hex-stop, hex-end}
 use Rattle.fields.specs.Number.{isHexOf}
 use Rattle.fields.proofs.number.is_hex.Statement.{statement}
 use Rattle.fields.proofs.number.is_hex.Tie as tie
@@ -37,7 +37,7 @@ loop-less c = search needs
 loop-again : tie.Need-loop-again Inv-loop μ-loop
 loop-again c =
     let l = c .before .before .before .before in
-    hex-turn _ (l .loop .i) (c .before .before .before .loop-test .taken) _ (rw (c .before .digit .ensures) at (c .if1 .left)) (l .loop .inv)
+    hex-again _ (l .loop .i) (c .before .before .before .loop-test .taken) _ (rw (c .before .digit .ensures) at (c .if1 .left)) (l .loop .inv)
 
 returns-2 : tie.Need-returns-2 Inv-loop μ-loop
 returns-2 c = hex-end _ (c .before .loop .i) _ (c .loop-test .left) (c .before .loop .inv)

@@ -6,7 +6,7 @@ use native.Mathlib.Omega.{arith}
 use borrow.Author.Needs.{needs}
 use lib.ListN.{length, drop, getD}
 use Rattle.fields.specs.Number.{digitOf, isDecimal, decimalFrom}
-use Rattle.fields.proofs.Digits.{dec-turn, dec-stop, from-turn, from-grows, whole-none, whole-led, whole-bad, whole-big, whole-is, dec-end, from-end}
+use Rattle.fields.proofs.Digits.{dec-again, dec-stop, from-again, from-grows, whole-none, whole-led, whole-bad, whole-big, whole-is, dec-end, from-end}
 use Rattle.fields.proofs.number.read_whole.Statement.{statement}
 use Rattle.fields.proofs.number.read_whole.Tie as tie
 
@@ -51,7 +51,7 @@ returns-4 : tie.Need-returns-4 Inv-loop μ-loop
 returns-4 c =
     let l = c .before .before .before .before .before in
     let k = l .before in
-    let e = from-turn _ (l .loop .i) (c .before .before .before .before .loop-test .taken) _ _ (l .loop .inv .3) in
+    let e = from-again _ (l .loop .i) (c .before .before .before .before .loop-test .taken) _ _ (l .loop .inv .3) in
     let g = from-grows (l .loop .v * 10 + c .before .before .digit .result) (drop (l .loop .i + 1) (k .before .before .before .before .args .t .now)) in
     let m = rw (c .before .before .digit .ensures, e) at g in
     whole-big _ (k .before .before .if1 .left) (sym (k .before .is-led-by-zero .ensures) ∙ k .if2 .left) (omega (arith, c .before .before .digit .ensures))
@@ -69,8 +69,8 @@ loop-again c =
     let d = rw (c .before .before .digit .ensures) at (c .before .if3 .left) in (
       search needs,
       search needs,
-      dec-turn _ (l .loop .i) h _ d (l .loop .inv .2),
-      rw (c .before .before .digit .ensures) (from-turn _ (l .loop .i) h _ _ (l .loop .inv .3)),
+      dec-again _ (l .loop .i) h _ d (l .loop .inv .2),
+      rw (c .before .before .digit .ensures) (from-again _ (l .loop .i) h _ _ (l .loop .inv .3)),
     )
 
 cast-t12 : tie.Need-cast-t12 Inv-loop μ-loop

@@ -5,7 +5,7 @@ use Prim.Native.Nat.{suc, _+_, _-_, _≤_}
 use native.Mathlib.Omega.{arith}
 use lib.ListN.{length, drop}
 use Rattle.fields.specs.Split.{later}
-use Rattle.fields.proofs.Parts.{count-here, count-turn, count-end}
+use Rattle.fields.proofs.Parts.{count-here, count-again, count-end}
 use Rattle.fields.specs.Split.{split}
 use Rattle.fields.proofs.split.count_parts.Statement.{statement}
 use Rattle.fields.proofs.split.count_parts.Tie as tie
@@ -38,7 +38,7 @@ loop-less-2 : tie.Need-loop-less-2 Inv-loop μ-loop
 loop-less-2 c = search needs
 
 loop-again-2 : tie.Need-loop-again-2 Inv-loop μ-loop
-loop-again-2 c = (search needs, search needs, count-turn _ _ _ _ _ (c .before .before .loop-test .taken) (c .if1 .left) (c .before .before .before .loop .inv .2))
+loop-again-2 c = (search needs, search needs, count-again _ _ _ _ _ (c .before .before .loop-test .taken) (c .if1 .left) (c .before .before .before .loop .inv .2))
 
 returns : tie.Need-returns Inv-loop μ-loop
 unfolding split

@@ -4,7 +4,7 @@ use mathlib.Core.Path.{_≡_, refl}
 use Prim.Native.Nat.{_+_, _-_}
 use lib.ListN.{length, drop}
 use Rattle.fields.specs.Split.{before}
-use Rattle.fields.proofs.Parts.{end-here, end-turn, end-end}
+use Rattle.fields.proofs.Parts.{end-here, end-again, end-end}
 use Rattle.fields.specs.Split.{endAtOf}
 use Rattle.fields.proofs.split.end_at.Statement.{statement}
 use Rattle.fields.proofs.split.end_at.Tie as tie
@@ -32,7 +32,7 @@ loop-less : tie.Need-loop-less Inv-loop μ-loop
 loop-less c = search needs
 
 loop-again : tie.Need-loop-again Inv-loop μ-loop
-loop-again c = end-turn _ _ _ _ (c .before .before .loop-test .taken) (c .if1 .left) (c .before .before .before .loop .inv)
+loop-again c = end-again _ _ _ _ (c .before .before .loop-test .taken) (c .if1 .left) (c .before .before .before .loop .inv)
 
 returns-2 : tie.Need-returns-2 Inv-loop μ-loop
 unfolding endAtOf

@@ -5,7 +5,7 @@ use mathlib.Core.List.{[]}
 use Prim.Native.Nat.{_-_, _≤_}
 use lib.ListN.{getD}
 use Rattle.fields.specs.Split.{partsAt}
-use Rattle.fields.proofs.Parts.{part-start, part-turn, part-end}
+use Rattle.fields.proofs.Parts.{part-start, part-again, part-end}
 use Rattle.fields.specs.Split.{split}
 use Rattle.fields.proofs.split.part.Statement.{statement}
 use Rattle.fields.proofs.split.part.Tie as tie
@@ -29,7 +29,7 @@ loop-less : tie.Need-loop-less Inv-loop μ-loop
 loop-less c = search needs
 
 loop-again : tie.Need-loop-again Inv-loop μ-loop
-loop-again c = (search needs, part-turn _ _ _ _ _ _ _ (c .before .loop-test .taken) (c .after .ensures) (c .before .before .loop .inv .1))
+loop-again c = (search needs, part-again _ _ _ _ _ _ _ (c .before .loop-test .taken) (c .after .ensures) (c .before .before .loop .inv .1))
 
 part-at-requires : tie.Need-part-at-requires Inv-loop μ-loop
 part-at-requires c κs = search needs

@@ -7,7 +7,7 @@ use native.Mathlib.Omega.{arith}
 use lib.ListN.{length, length-replicate}
 use Rattle.memory.specs.Memory.{hitsFrom}
 use Rattle.filter.specs.Filters.{asMap, plusEach, passing, refillOf}
-use Rattle.filter.proofs.Sift.{sift-start, sift-turn, sift-end, turn-count, same-room}
+use Rattle.filter.proofs.Sift.{sift-start, sift-again, sift-end, turn-count, same-room}
 use Rattle.filter.proofs.sifting.refill.Statement.{statement}
 use Rattle.filter.proofs.sifting.refill.Tie as tie
 
@@ -44,7 +44,7 @@ loop-again c =
     let l = c .before .before .before .before .before .before .loop in
     let k = c .before .before .before .before .before .loop-test .taken in
     let g = c .before .before .sift-hit in
-    (omega (arith, k), g .kept .1 .1 .1 .0 ∙ l .inv .1, omega (arith, turn-count _ _ _ _ _ _ (g .ensures), l .inv .2), sift-turn _ _ _ _ _ _ _ _ _ _ _ k (c .before .before .before .before .hit-at .ensures) (g .ensures) (l .inv .3))
+    (omega (arith, k), g .kept .1 .1 .1 .0 ∙ l .inv .1, omega (arith, turn-count _ _ _ _ _ _ (g .ensures), l .inv .2), sift-again _ _ _ _ _ _ _ _ _ _ _ k (c .before .before .before .before .hit-at .ensures) (g .ensures) (l .inv .3))
 
 same-length : tie.Need-same-length Inv-loop μ-loop
 same-length c = c .before .loop .inv .1 ∙ ap length (c .before .before .before .before .clear .ensures) ∙ length-replicate _ _

@@ -5,7 +5,7 @@ use lib.Ieee.{nan}
 use lib.ListN.{length, drop}
 use borrow.Author.Needs.{needs}
 use Rattle.printing.specs.Printing.{doubleText}
-use Rattle.printing.proofs.Lines.{spaced-turn, spaced-end}
+use Rattle.printing.proofs.Lines.{spaced-again, spaced-end}
 use Rattle.printing.specs.Printing.{putAll}
 use Rattle.printing.specs.Rows.{doublesText, spaced}
 use Rattle.printing.proofs.rows.put_doubles.Statement.{statement}
@@ -43,7 +43,7 @@ loop-less : tie.Need-loop-less Inv-loop μ-loop
 loop-less c = search needs
 
 loop-again : tie.Need-loop-again Inv-loop μ-loop
-loop-again c = (search needs, c .before .before .before .before .before .before .before .before .before .before .before .loop .inv .1, c .before .before .put .kept .0 ∙ c .before .before .before .before .before .before .before .put-double .kept .0 ∙ c .before .before .before .before .before .before .before .before .before .before .before .loop .inv .2, spaced-turn doubleText nan _ (c .before .before .before .before .before .before .before .before .before .before .before .loop .i) _ _ (c .before .before .before .behind .result) _ _ _ _ _ _ _ (c .before .before .before .before .before .before .before .before .before .before .loop-test .taken) (c .before .before .before .before .before .before .before .before .before .before .before .loop .inv .1) (c .before .before .before .before .before .before .before .put-double .ensures) (c .before .before .before .behind .ensures) (c .before .before .put .ensures) (c .before .before .before .before .before .before .before .before .before .before .before .loop .inv .3))
+loop-again c = (search needs, c .before .before .before .before .before .before .before .before .before .before .before .loop .inv .1, c .before .before .put .kept .0 ∙ c .before .before .before .before .before .before .before .put-double .kept .0 ∙ c .before .before .before .before .before .before .before .before .before .before .before .loop .inv .2, spaced-again doubleText nan _ (c .before .before .before .before .before .before .before .before .before .before .before .loop .i) _ _ (c .before .before .before .behind .result) _ _ _ _ _ _ _ (c .before .before .before .before .before .before .before .before .before .before .loop-test .taken) (c .before .before .before .before .before .before .before .before .before .before .before .loop .inv .1) (c .before .before .before .before .before .before .before .put-double .ensures) (c .before .before .before .behind .ensures) (c .before .before .put .ensures) (c .before .before .before .before .before .before .before .before .before .before .before .loop .inv .3))
 
 same-length : tie.Need-same-length Inv-loop μ-loop
 same-length c = search needs

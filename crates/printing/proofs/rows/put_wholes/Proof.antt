@@ -4,7 +4,7 @@ use mathlib.Core.Path.{_≡_, refl, _∙_}
 use lib.ListN.{length, drop}
 use borrow.Author.Needs.{needs}
 use Rattle.printing.specs.Printing.{decimalText}
-use Rattle.printing.proofs.Lines.{spaced-turn, spaced-end}
+use Rattle.printing.proofs.Lines.{spaced-again, spaced-end}
 use Rattle.printing.specs.Printing.{putAll}
 use Rattle.printing.specs.Rows.{spaced, wholesText}
 use Rattle.printing.proofs.rows.put_wholes.Statement.{statement}
@@ -42,7 +42,7 @@ loop-less : tie.Need-loop-less Inv-loop μ-loop
 loop-less c = search needs
 
 loop-again : tie.Need-loop-again Inv-loop μ-loop
-loop-again c = (search needs, c .before .before .before .before .before .before .before .before .before .before .before .loop .inv .1, c .before .before .put .kept .0 ∙ c .before .before .before .before .before .before .before .put-decimal .kept .0 ∙ c .before .before .before .before .before .before .before .before .before .before .before .loop .inv .2, spaced-turn (decimalText 20) 0 _ (c .before .before .before .before .before .before .before .before .before .before .before .loop .i) _ _ (c .before .before .before .behind .result) _ _ _ _ _ _ _ (c .before .before .before .before .before .before .before .before .before .before .loop-test .taken) (c .before .before .before .before .before .before .before .before .before .before .before .loop .inv .1) (c .before .before .before .before .before .before .before .put-decimal .ensures) (c .before .before .before .behind .ensures) (c .before .before .put .ensures) (c .before .before .before .before .before .before .before .before .before .before .before .loop .inv .3))
+loop-again c = (search needs, c .before .before .before .before .before .before .before .before .before .before .before .loop .inv .1, c .before .before .put .kept .0 ∙ c .before .before .before .before .before .before .before .put-decimal .kept .0 ∙ c .before .before .before .before .before .before .before .before .before .before .before .loop .inv .2, spaced-again (decimalText 20) 0 _ (c .before .before .before .before .before .before .before .before .before .before .before .loop .i) _ _ (c .before .before .before .behind .result) _ _ _ _ _ _ _ (c .before .before .before .before .before .before .before .before .before .before .loop-test .taken) (c .before .before .before .before .before .before .before .before .before .before .before .loop .inv .1) (c .before .before .before .before .before .before .before .put-decimal .ensures) (c .before .before .before .behind .ensures) (c .before .before .put .ensures) (c .before .before .before .before .before .before .before .before .before .before .before .loop .inv .3))
 
 same-length : tie.Need-same-length Inv-loop μ-loop
 same-length c = search needs

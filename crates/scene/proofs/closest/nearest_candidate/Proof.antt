@@ -3,7 +3,7 @@ use Prim.Native.Nat.{_≤_, _-_}
 use mathlib.Core.Path.{_≡_}
 use borrow.Author.Needs.{needs}
 use Rattle.nearest.specs.Nearest.{nearestFrom, nearestAmong}
-use Rattle.nearest.proofs.Turns.{nearest-start, nearest-turn, nearest-end}
+use Rattle.nearest.proofs.Loops.{nearest-start, nearest-again, nearest-end}
 use Rattle.scene.specs.declared.closest.Candidate.{Candidate}
 use Rattle.scene.specs.Closest.{candidateDistance, candidatesIn, asCandidate}
 use Rattle.scene.specs.Solids.{objectAtOf}
@@ -31,7 +31,7 @@ loop-less : tie.Need-loop-less Inv-loop μ-loop
 loop-less c = search needs
 
 loop-again : tie.Need-loop-again Inv-loop μ-loop
-loop-again c = (search needs, nearest-turn _ _ _ _ _ _ _ _ (c .before .loop-test .taken) (c .nearer-candidate .ensures) (c .before .before .loop .inv .1))
+loop-again c = (search needs, nearest-again _ _ _ _ _ _ _ _ (c .before .loop-test .taken) (c .nearer-candidate .ensures) (c .before .before .loop .inv .1))
 
 returns : tie.Need-returns Inv-loop μ-loop
 returns c = nearest-end _ _ _ _ (c .before .loop .i) _ _ (c .loop-test .left) (c .before .loop .inv .1)

@@ -3,7 +3,7 @@ use Prim.Native.Nat.{_≤_, _-_}
 use native.Mathlib.Nat.{sub-zero}
 use mathlib.Core.Path.{_≡_}
 use borrow.Author.Needs.{needs}
-use Rattle.scene.proofs.Checks.{tags-turn, tags-refused, tags-end}
+use Rattle.scene.proofs.Checks.{tags-again, tags-refused, tags-end}
 use Rattle.scene.specs.Solids.{checkTagsOf}
 use Rattle.scene.proofs.solids.check_tags.Statement.{statement}
 use Rattle.scene.proofs.solids.check_tags.Tie as tie
@@ -66,7 +66,7 @@ loop-less : tie.Need-loop-less Inv-loop μ-loop
 loop-less c = search needs
 
 loop-again : tie.Need-loop-again Inv-loop μ-loop
-loop-again c = (search needs, tags-turn _ _ _ _ _ (c .before .before .before .before .before .before .loop-test .taken) (c .before .tags-fit .ensures) (c .if1 .taken) (c .before .before .before .before .before .before .before .loop .inv .1))
+loop-again c = (search needs, tags-again _ _ _ _ _ (c .before .before .before .before .before .before .loop-test .taken) (c .before .tags-fit .ensures) (c .if1 .taken) (c .before .before .before .before .before .before .before .loop .inv .1))
 
 returns : tie.Need-returns Inv-loop μ-loop
 returns c = tags-refused _ _ _ _ _ (c .before .before .before .before .before .before .loop-test .taken) (c .before .tags-fit .ensures) (c .if1 .left) (c .before .before .before .before .before .before .before .loop .inv .1)

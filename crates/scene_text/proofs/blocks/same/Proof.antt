@@ -5,7 +5,7 @@ use native.Mathlib.Omega.{arith}
 use borrow.Author.Needs.{needs}
 use lib.ListN.{drop}
 use Rattle.scene_text.specs.Blocks.{sameOf}
-use Rattle.scene_text.proofs.Alike.{same-no, same-turn, same-stop, same-end}
+use Rattle.scene_text.proofs.Alike.{same-no, same-again, same-stop, same-end}
 use Rattle.scene_text.proofs.blocks.same.Statement.{statement}
 use Rattle.scene_text.proofs.blocks.same.Tie as tie
 
@@ -43,7 +43,7 @@ loop-again : tie.Need-loop-again Inv-loop μ-loop
 loop-again c =
     let t = c .before .before .before in
     let l = t .before in
-    (search needs, same-turn _ _ (l .loop .i) (t .loop-test .taken) (omega arith) _ (c .if2 .left) (l .loop .inv .1))
+    (search needs, same-again _ _ (l .loop .i) (t .loop-test .taken) (omega arith) _ (c .if2 .left) (l .loop .inv .1))
 
 returns-3 : tie.Need-returns-3 Inv-loop μ-loop
 returns-3 c = same-end _ _ (c .before .loop .i) _ (c .loop-test .left) (omega arith) (c .before .loop .inv .1)

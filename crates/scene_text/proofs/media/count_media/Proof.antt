@@ -7,7 +7,7 @@ use lib.ListN.{length}
 use Rattle.fields.specs.Split.{partsAt}
 use Rattle.fields.proofs.Parts.{end-in}
 use Rattle.scene_text.specs.Cells.{countMediaOf}
-use Rattle.scene_text.proofs.Joined.{count-turn, count-bad, count-done}
+use Rattle.scene_text.proofs.Joined.{count-again, count-bad, count-done}
 use Rattle.scene_text.proofs.media.count_media.Statement.{statement}
 use Rattle.scene_text.proofs.media.count_media.Tie as tie
 
@@ -56,7 +56,7 @@ loop-less c = let h = end-in _ _ _ _ (c .before .before .before .before .before 
 loop-again : tie.Need-loop-again Inv-loop μ-loop
 loop-again c =
     let h = end-in _ _ _ _ (c .before .before .before .before .before .end-at .ensures) (c .before .before .before .before .before .before .loop-test .taken) in
-    (omega (arith, h .1), rw (c .one-more .ensures) (count-turn _ (c .before .before .before .before .before .before .before .loop .at) _ (c .before .before .before .before .before .end-at .ensures) (c .before .before .before .before .before .before .loop-test .taken) _ _ _ _ (c .before .before .before .read-whole .ensures) (c .before .enum-told .given .1) (c .before .before .before .before .before .before .before .loop .inv .1)))
+    (omega (arith, h .1), rw (c .one-more .ensures) (count-again _ (c .before .before .before .before .before .before .before .loop .at) _ (c .before .before .before .before .before .end-at .ensures) (c .before .before .before .before .before .before .loop-test .taken) _ _ _ _ (c .before .before .before .read-whole .ensures) (c .before .enum-told .given .1) (c .before .before .before .before .before .before .before .loop .inv .1)))
 
 returns-2 : tie.Need-returns-2 Inv-loop μ-loop
 returns-2 c = count-done _ (c .before .loop .at) _ _ (c .loop-test .left) (c .before .loop .inv .1)

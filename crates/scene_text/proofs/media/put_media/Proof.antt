@@ -6,7 +6,7 @@ use Prim.Native.Nat.{_+_, _-_, _≤_}
 use lib.ListN.{length}
 use Rattle.fields.specs.Split.{partsAt}
 use Rattle.scene_text.specs.Tables.{putAll}
-use Rattle.scene_text.proofs.Joined.{media-turn, media-end}
+use Rattle.scene_text.proofs.Joined.{media-again, media-end}
 use Rattle.scene_text.specs.Cells.{mediaFrom}
 use Rattle.scene_text.proofs.media.put_media.Statement.{statement}
 use Rattle.scene_text.proofs.media.put_media.Tie as tie
@@ -33,7 +33,7 @@ loop-less : tie.Need-loop-less Inv-loop μ-loop
 loop-less c = search needs
 
 loop-again : tie.Need-loop-again Inv-loop μ-loop
-loop-again c = (c .before .before .before .before .next-medium .ensures .1, c .before .before .put-u32 .kept .0 ∙ c .before .before .before .before .before .before .loop .inv .1, media-turn _ (c .before .before .before .before .before .before .loop .at) _ _ (c .before .before .before .before .before .before .loop .j) _ _ _ _ _ (omega (arith, c .before .before .before .before .before .loop-test .taken)) (c .before .before .before .before .next-medium .ensures .0) (c .before .before .put-u32 .ensures) (c .before .before .before .before .before .before .loop .inv .2))
+loop-again c = (c .before .before .before .before .next-medium .ensures .1, c .before .before .put-u32 .kept .0 ∙ c .before .before .before .before .before .before .loop .inv .1, media-again _ (c .before .before .before .before .before .before .loop .at) _ _ (c .before .before .before .before .before .before .loop .j) _ _ _ _ _ (omega (arith, c .before .before .before .before .before .loop-test .taken)) (c .before .before .before .before .next-medium .ensures .0) (c .before .before .put-u32 .ensures) (c .before .before .before .before .before .before .loop .inv .2))
 
 same-length : tie.Need-same-length Inv-loop μ-loop
 same-length c = search needs

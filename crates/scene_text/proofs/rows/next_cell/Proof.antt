@@ -1,6 +1,6 @@
 -- `scene_text::rows::next_cell` meets its contract. Assumes nothing.
 use Rattle.fields.proofs.Parts.{end-in}
-use Rattle.scene_text.proofs.Walking.{cell-turn, cell-none, cell-past}
+use Rattle.scene_text.proofs.Walking.{cell-again, cell-none, cell-past}
 use borrow.Author.Needs.{needs}
 use Rattle.scene_text.proofs.rows.next_cell.Statement.{statement}
 use Rattle.scene_text.proofs.rows.next_cell.Tie as tie
@@ -30,7 +30,7 @@ same-length-2 : tie.Need-same-length-2
 same-length-2 c = search needs
 
 returns : tie.Need-returns
-returns c = ((λ form. cell-turn _ _ _ _ (c .before .before .before .before .before .before .before .before .before .end-at .ensures) (search needs) _ _ _ _ _ _ _ form (c .before .before .before .before .before .before .before .before .if2 .taken) (c .before .before .before .before .before .before .before .before .before .before .if1 .taken) (c .before .before .before .before .read-cell .ensures)), search needs)
+returns c = ((λ form. cell-again _ _ _ _ (c .before .before .before .before .before .before .before .before .before .end-at .ensures) (search needs) _ _ _ _ _ _ _ form (c .before .before .before .before .before .before .before .before .if2 .taken) (c .before .before .before .before .before .before .before .before .before .before .if1 .taken) (c .before .before .before .before .read-cell .ensures)), search needs)
 
 returns-2 : tie.Need-returns-2
 returns-2 c = ((λ form. cell-none _ _ _ _ (c .before .end-at .ensures) (search needs) _ _ _ _ _ _ form (c .if2 .left) (c .before .before .if1 .taken)), search needs)

@@ -7,7 +7,7 @@ use Prim.Native.Nat.{_-_, _≤_}
 use lib.ListN.{length, drop}
 use Rattle.scene_text.specs.Lines.{readRowOf}
 use Rattle.scene_text.specs.Steps.{table, put, lineFrom}
-use Rattle.scene_text.proofs.Walking.{line-start, line-turn, line-end}
+use Rattle.scene_text.proofs.Walking.{line-start, line-again, line-end}
 use Rattle.scene_text.proofs.rows.read_row.Statement.{statement}
 use Rattle.scene_text.proofs.rows.read_row.Tie as tie
 
@@ -54,7 +54,7 @@ loop-again c =
       n .next-cell .ensures .1,
       n .next-cell .kept .1 .1 .1 .1 .0 ∙ l .loop .inv .2,
       n .next-cell .kept .1 .1 .1 .1 .1 .0 ∙ l .loop .inv .3,
-      line-turn _ _ (l .loop .k) _ _ _ _ _ (c .before .before .before .before .before .before .before .before .before .loop-test .taken) (n .next-cell .ensures .0) (l .loop .inv .4),
+      line-again _ _ (l .loop .k) _ _ _ _ _ (c .before .before .before .before .before .before .before .before .before .loop-test .taken) (n .next-cell .ensures .0) (l .loop .inv .4),
     )
 
 ends-there-requires : tie.Need-ends-there-requires Inv-loop μ-loop

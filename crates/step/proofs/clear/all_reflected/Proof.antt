@@ -1,5 +1,5 @@
 -- `step::clear::all_reflected` meets its contract. Assumes nothing.
-use Rattle.step.specs.Turn.{partedBy}
+use Rattle.step.specs.Steps.{partedBy}
 use borrow.Author.Needs.{needs}
 use Rattle.step.proofs.clear.all_reflected.Statement.{statement}
 use Rattle.step.proofs.clear.all_reflected.Tie as tie

@@ -1,5 +1,5 @@
 -- `step::clear::between` meets its contract. Assumes nothing.
-use Rattle.step.specs.Turn.{betweenOf}
+use Rattle.step.specs.Steps.{betweenOf}
 use borrow.Author.Needs.{needs}
 use Rattle.step.proofs.clear.between.Statement.{statement}
 use Rattle.step.proofs.clear.between.Tie as tie

@@ -1,5 +1,5 @@
 -- `step::clear::beyond` meets its contract. Assumes nothing.
-use Rattle.step.specs.Turn.{beyondOf}
+use Rattle.step.specs.Steps.{beyondOf}
 use borrow.Author.Needs.{needs}
 use Rattle.step.proofs.clear.beyond.Statement.{statement}
 use Rattle.step.proofs.clear.beyond.Tie as tie

@@ -1,5 +1,5 @@
 -- `step::clear::both_made` meets its contract. Assumes nothing.
-use Rattle.step.specs.Turn.{partedBy}
+use Rattle.step.specs.Steps.{partedBy}
 use borrow.Author.Needs.{needs}
 use Rattle.step.proofs.clear.both_made.Statement.{statement}
 use Rattle.step.proofs.clear.both_made.Tie as tie

@@ -1,5 +1,5 @@
 -- `step::clear::clear` meets its contract. Assumes nothing.
-use Rattle.step.specs.Turn.{clearOf}
+use Rattle.step.specs.Steps.{clearOf}
 use borrow.Author.Needs.{needs}
 use Rattle.step.proofs.clear.clear.Statement.{statement}
 use Rattle.step.proofs.clear.clear.Tie as tie

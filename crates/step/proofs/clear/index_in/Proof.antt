@@ -1,5 +1,5 @@
 -- `step::clear::index_in` meets its contract. Assumes nothing.
-use Rattle.step.specs.Turn.{indexInOf, mediumFrom}
+use Rattle.step.specs.Steps.{indexInOf, mediumFrom}
 use borrow.Author.Needs.{needs}
 use Rattle.step.proofs.clear.index_in.Statement.{statement}
 use Rattle.step.proofs.clear.index_in.Tie as tie

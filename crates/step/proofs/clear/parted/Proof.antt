@@ -1,5 +1,5 @@
 -- `step::clear::parted` meets its contract. Assumes nothing.
-use Rattle.step.specs.Turn.{partedOf}
+use Rattle.step.specs.Steps.{partedOf}
 use borrow.Author.Needs.{needs}
 use Rattle.step.proofs.clear.parted.Statement.{statement}
 use Rattle.step.proofs.clear.parted.Tie as tie

@@ -1,5 +1,5 @@
 -- `step::meeting::first_met` meets its contract. Assumes nothing.
-use Rattle.step.specs.Turn.{firstMetOf}
+use Rattle.step.specs.Steps.{firstMetOf}
 use borrow.Author.Needs.{needs}
 use Rattle.step.proofs.meeting.first_met.Statement.{statement}
 use Rattle.step.proofs.meeting.first_met.Tie as tie

@@ -1,5 +1,5 @@
 -- `step::meeting::nearer` meets its contract. Assumes nothing.
-use Rattle.step.specs.Turn.{nearerOf}
+use Rattle.step.specs.Steps.{nearerOf}
 use Rattle.step.proofs.meeting.nearer.Statement.{statement}
 use Rattle.step.proofs.meeting.nearer.Tie as tie
 

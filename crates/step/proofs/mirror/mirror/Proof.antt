@@ -1,5 +1,5 @@
 -- `step::mirror::mirror` meets its contract. Assumes nothing.
-use Rattle.step.specs.Turn.{mirrorOf}
+use Rattle.step.specs.Steps.{mirrorOf}
 use borrow.Author.Needs.{needs}
 use Rattle.step.proofs.mirror.mirror.Statement.{statement}
 use Rattle.step.proofs.mirror.mirror.Tie as tie

@@ -1,5 +1,5 @@
 -- `step::mirror::mirror_from` meets its contract. Assumes nothing.
-use Rattle.step.specs.Turn.{mirrorFromOf, mirrorOf}
+use Rattle.step.specs.Steps.{mirrorFromOf, mirrorOf}
 use borrow.Author.Needs.{needs}
 use Rattle.step.proofs.mirror.mirror_from.Statement.{statement}
 use Rattle.step.proofs.mirror.mirror_from.Tie as tie

@@ -2,7 +2,7 @@
 use borrow.Author.Needs.{needs}
 use mathlib.Core.Path.{_≡_, refl}
 use Prim.Native.Nat.{_-_, _≤_}
-use Rattle.test_vectors.proofs.Draws.{draw-turn, draw-stop, draw-end}
+use Rattle.test_vectors.proofs.Draws.{draw-again, draw-stop, draw-end}
 use Rattle.test_vectors.specs.Lines.{drawsAgreeOf}
 use Rattle.test_vectors.proofs.lines.draws_agree.Statement.{statement}
 use Rattle.test_vectors.proofs.lines.draws_agree.Tie as tie
@@ -31,7 +31,7 @@ loop-less c = search needs
 loop-again : tie.Need-loop-again Inv-loop μ-loop
 loop-again c =
     let l = c .before .before .before .before .before in
-    (search needs, draw-turn _ _ _ _ (l .loop .inv .1) _ _ (c .before .before .before .before .loop-test .taken) (c .before .before .before .next-u64 .ensures) (c .before .before .is-bits .ensures) (c .before .if1 .taken))
+    (search needs, draw-again _ _ _ _ (l .loop .inv .1) _ _ (c .before .before .before .before .loop-test .taken) (c .before .before .before .next-u64 .ensures) (c .before .before .is-bits .ensures) (c .before .if1 .taken))
 
 returns : tie.Need-returns Inv-loop μ-loop
 returns c =

@@ -1,7 +1,7 @@
 -- `test_vectors::lines::is_refusal` meets its contract. Assumes nothing.
 use mathlib.Core.Path.{ap, _∙_}
 use Rattle.fields.specs.Number.{readWholeOf}
-use Rattle.test_vectors.proofs.Turns.{all-but-first}
+use Rattle.test_vectors.proofs.Loops.{all-but-first}
 use borrow.Author.Tests.{lt-ltb, le-ltb, eq-eqb, ne-eqb}
 use Rattle.test_vectors.specs.Lines.{isRefusalOf}
 use borrow.Author.Needs.{needs}

@@ -2,7 +2,7 @@
 use borrow.Author.Needs.{needs}
 use mathlib.Core.Path.{_≡_, refl}
 use Prim.Native.Nat.{_-_}
-use Rattle.test_vectors.proofs.PartTurns.{bits-turn, bits-stop, bits-end}
+use Rattle.test_vectors.proofs.PartLoops.{bits-again, bits-stop, bits-end}
 use Rattle.test_vectors.specs.Parts.{bitsFrom}
 use Rattle.test_vectors.proofs.parts.are_bits.Statement.{statement}
 use Rattle.test_vectors.proofs.parts.are_bits.Tie as tie
@@ -26,7 +26,7 @@ loop-less : tie.Need-loop-less Inv-loop μ-loop
 loop-less c = search needs
 
 loop-again : tie.Need-loop-again Inv-loop μ-loop
-loop-again c = bits-turn _ _ _ _ (c .before .before .before .loop .inv) _ (c .before .before .loop-test .taken) (c .before .is-any-bits .ensures) (c .if1 .taken)
+loop-again c = bits-again _ _ _ _ (c .before .before .before .loop .inv) _ (c .before .before .loop-test .taken) (c .before .is-any-bits .ensures) (c .if1 .taken)
 
 returns : tie.Need-returns Inv-loop μ-loop
 returns c = bits-stop _ _ _ _ (c .before .before .before .loop .inv) _ (c .before .before .loop-test .taken) (c .before .is-any-bits .ensures) (c .if1 .left)

@@ -27,9 +27,9 @@ module _ (l : List SolidNo) (s : ℕ) where
   solids-start n = rw sub-zero
 
   module _ (n i : ℕ) (z : Bool) where
-    pub solids-turn : i < n → solidIn l i .0 < s → allSolidsOf l s (n - i) i ≡ z → allSolidsOf l s (n - (i + 1)) (i + 1) ≡ z
+    pub solids-again : i < n → solidIn l i .0 < s → allSolidsOf l s (n - i) i ≡ z → allSolidsOf l s (n - (i + 1)) (i + 1) ≡ z
     unfolding allSolidsOf
-    solids-turn h e p = rw (lt-ltb _ _ e) at (rw (left-one n i h) at p)
+    solids-again h e p = rw (lt-ltb _ _ e) at (rw (left-one n i h) at p)
 
     pub solids-not : i < n → s ≤ solidIn l i .0 → allSolidsOf l s (n - i) i ≡ z → false ≡ z
     unfolding allSolidsOf
@@ -45,9 +45,9 @@ module _ (given : ℕ → ActiveRay) where
   launch-start n = rw sub-zero
 
   module _ (n i : ℕ) (sum z : Float) where
-    pub launch-turn : (a : ActiveRay) → i < n → a ≡ given i → launchedFrom given (n - i) i sum ≡ z → launchedFrom given (n - (i + 1)) (i + 1) (add binary64 sum (a .ray .energy)) ≡ z
+    pub launch-again : (a : ActiveRay) → i < n → a ≡ given i → launchedFrom given (n - i) i sum ≡ z → launchedFrom given (n - (i + 1)) (i + 1) (add binary64 sum (a .ray .energy)) ≡ z
     unfolding launchedFrom
-    launch-turn a h e p = rw e (rw (left-one n i h) at p)
+    launch-again a h e p = rw e (rw (left-one n i h) at p)
 
     pub launch-end : n ≤ i → launchedFrom given (n - i) i sum ≡ z → sum ≡ z
     unfolding launchedFrom
@@ -67,8 +67,8 @@ module _ (given : ℕ → ActiveRay) where
         unfolding checkRaysOf
         unfolded = rw (said, e) (rw (left-one n i h) at p)
 
-        pub rays-turn : r ≡ Passed → checkRaysOf given s (n - (i + 1)) (i + 1) ≡ z
-        rays-turn k = rw k at unfolded
+        pub rays-again : r ≡ Passed → checkRaysOf given s (n - (i + 1)) (i + 1) ≡ z
+        rays-again k = rw k at unfolded
 
         pub rays-refused : (x : NonSeqError) (place : ℕ) → r ≡ Refused x place → refusedAt (numberOf x) place ≡ z
         rays-refused x place k = rw k at unfolded

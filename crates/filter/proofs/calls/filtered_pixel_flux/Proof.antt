@@ -1,10 +1,10 @@
--- `filter::filtering::filtered_pixel_flux` meets its contract. Assumes nothing.
+-- `filter::calls::filtered_pixel_flux` meets its contract. Assumes nothing.
 use mathlib.Core.Path.{refl, ap}
 use Rattle.filter.specs.Handed.{inNumbers}
 use Rattle.filter.proofs.Hands.{part-fits, flux-refused, flux-all, flux-sifted, not-passed, not-other, not-all}
 use borrow.Author.Needs.{needs}
-use Rattle.filter.proofs.filtering.filtered_pixel_flux.Statement.{statement}
-use Rattle.filter.proofs.filtering.filtered_pixel_flux.Tie as tie
+use Rattle.filter.proofs.calls.filtered_pixel_flux.Statement.{statement}
+use Rattle.filter.proofs.calls.filtered_pixel_flux.Tie as tie
 
 check-filter-requires : tie.Need-check-filter-requires
 check-filter-requires c κs = search needs

@@ -12,9 +12,9 @@ module _ (l : List ℕ) (k to : ℕ) (z : Bool) (i : bitsFrom l k (to - k) ≡ z
     left : to - k ≡ suc (to - (k + 1))
     left = omega arith
 
-    pub bits-turn : b ≡ true → bitsFrom l (k + 1) (to - (k + 1)) ≡ z
+    pub bits-again : b ≡ true → bitsFrom l (k + 1) (to - (k + 1)) ≡ z
     unfolding bitsFrom
-    bits-turn t = rw (left, ← q, t) at i
+    bits-again t = rw (left, ← q, t) at i
 
     pub bits-stop : b ≡ false → false ≡ z
     unfolding bitsFrom

@@ -1,8 +1,8 @@
--- `filter::filtering::refilter` meets its contract. Assumes nothing.
+-- `filter::calls::refilter` meets its contract. Assumes nothing.
 use Rattle.filter.proofs.Hands.{refilter-refused, refilter-all, refilter-sifted}
 use borrow.Author.Needs.{needs}
-use Rattle.filter.proofs.filtering.refilter.Statement.{statement}
-use Rattle.filter.proofs.filtering.refilter.Tie as tie
+use Rattle.filter.proofs.calls.refilter.Statement.{statement}
+use Rattle.filter.proofs.calls.refilter.Tie as tie
 
 check-filter-requires : tie.Need-check-filter-requires
 check-filter-requires c κs = search needs

@@ -24,9 +24,9 @@ pub nearest-start : (A : Type 0) (d : A → Float) (f : ℕ → Option A) (n : �
 unfolding nearestAmong
 nearest-start A d f n = rw sub-zero
 
-pub nearest-turn : (A : Type 0) (d : A → Float) (f : ℕ → Option A) (n i : ℕ) (b c z : Option A) → i < n → c ≡ nearerOf A d b (f i) → nearestFrom A d f (n - i) i b ≡ z → nearestFrom A d f (n - (i + 1)) (i + 1) c ≡ z
+pub nearest-again : (A : Type 0) (d : A → Float) (f : ℕ → Option A) (n i : ℕ) (b c z : Option A) → i < n → c ≡ nearerOf A d b (f i) → nearestFrom A d f (n - i) i b ≡ z → nearestFrom A d f (n - (i + 1)) (i + 1) c ≡ z
 unfolding nearestFrom
-nearest-turn A d f n i b c z p g e = let q : n - i ≡ suc (n - (i + 1)) = omega arith in rw g (rw q at e)
+nearest-again A d f n i b c z p g e = let q : n - i ≡ suc (n - (i + 1)) = omega arith in rw g (rw q at e)
 
 pub nearest-end : (A : Type 0) (d : A → Float) (f : ℕ → Option A) (n i : ℕ) (b z : Option A) → n ≤ i → nearestFrom A d f (n - i) i b ≡ z → b ≡ z
 unfolding nearestFrom

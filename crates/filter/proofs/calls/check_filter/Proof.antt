@@ -1,9 +1,9 @@
--- `filter::filtering::check_filter` meets its contract. Assumes nothing.
+-- `filter::calls::check_filter` meets its contract. Assumes nothing.
 use borrow.Author.Tests.{eq-eqb, ne-eqb}
 use Rattle.filter.specs.Handed.{checkFilterOf, checkPlaced}
 use borrow.Author.Needs.{needs}
-use Rattle.filter.proofs.filtering.check_filter.Statement.{statement}
-use Rattle.filter.proofs.filtering.check_filter.Tie as tie
+use Rattle.filter.proofs.calls.check_filter.Statement.{statement}
+use Rattle.filter.proofs.calls.check_filter.Tie as tie
 
 find-requires : tie.Need-find-requires
 find-requires c κs = search needs

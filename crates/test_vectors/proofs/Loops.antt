@@ -7,7 +7,7 @@ use native.Mathlib.Nat.{le-of-eq}
 use lib.ListN.{length, take, drop, drop-of-length-le, length-drop}
 use lib.Seq.{take-all}
 use Rattle.fields.specs.Split.{textLines, endAtOf}
-use Rattle.fields.proofs.Parts.{lines-turn, lines-none}
+use Rattle.fields.proofs.Parts.{lines-again, lines-none}
 use Rattle.test_vectors.specs.declared.tally.Tally.{Tally}
 use Rattle.test_vectors.specs.Count.{countOf, tallyLinesOf}
 
@@ -15,7 +15,7 @@ module _ (agrees : List ℕ → Bool) (s : List ℕ) (z : Tally) where
   pub turn : (at e : ℕ) (t u : Tally) (b : Bool) → at < length s → e ≡ endAtOf s at 10 → b ≡ agrees (take (e - at) (drop at s)) → u ≡ countOf t b
       → tallyLinesOf agrees t (textLines (drop at s)) ≡ z → tallyLinesOf agrees u (textLines (drop (e + 1) s)) ≡ z
   unfolding tallyLinesOf
-  turn at e t u b h q p w i = rw (w, p, q) ((rw (lines-turn s at h) at i))
+  turn at e t u b h q p w i = rw (w, p, q) ((rw (lines-again s at h) at i))
 
   pub done : (at : ℕ) (t : Tally) → length s ≤ at → tallyLinesOf agrees t (textLines (drop at s)) ≡ z → t ≡ z
   unfolding tallyLinesOf

@@ -1,9 +1,9 @@
--- `filter::filtering::filtered_part` meets its contract. Assumes nothing.
+-- `filter::calls::filtered_part` meets its contract. Assumes nothing.
 use mathlib.Core.Path.{refl}
 use Rattle.filter.proofs.Hands.{part-fits, part-refused, part-all, part-work, not-passed, not-other, not-all}
 use borrow.Author.Needs.{needs}
-use Rattle.filter.proofs.filtering.filtered_part.Statement.{statement}
-use Rattle.filter.proofs.filtering.filtered_part.Tie as tie
+use Rattle.filter.proofs.calls.filtered_part.Statement.{statement}
+use Rattle.filter.proofs.calls.filtered_part.Tie as tie
 
 check-filter-requires : tie.Need-check-filter-requires
 check-filter-requires c κs = search needs

@@ -1,9 +1,9 @@
--- `filter::filtering::stored_part` meets its contract. Assumes nothing.
+-- `filter::calls::stored_part` meets its contract. Assumes nothing.
 use mathlib.Core.Path.{refl}
 use Rattle.filter.proofs.Hands.{part-ends}
 use borrow.Author.Needs.{needs}
-use Rattle.filter.proofs.filtering.stored_part.Statement.{statement}
-use Rattle.filter.proofs.filtering.stored_part.Tie as tie
+use Rattle.filter.proofs.calls.stored_part.Statement.{statement}
+use Rattle.filter.proofs.calls.stored_part.Tie as tie
 
 pixels-requires : tie.Need-pixels-requires
 pixels-requires c κs = search needs

@@ -1,4 +1,4 @@
--- One turn of the loop of `advance`, and its end. Assumes nothing.
+-- One step of the loop of `advance`, and its end. Assumes nothing.
 use Prim.Native.Nat.{ℕ, zero, suc, _<_, _-_}
 use mathlib.Core.Path.{_≡_, refl, sym, ap, _∙_}
 use mathlib.Core.Bool.{Bool, true, false, cond, _&&_, _||_}
@@ -19,7 +19,7 @@ use Rattle.memory.proofs.Records.{both}
 use Rattle.step.specs.declared.ActiveRay.{ActiveRay}
 use Rattle.step.specs.declared.Step as code
 use Rattle.step.specs.Rays.{Scene, Step, asStep}
-use Rattle.step.specs.Turn.{takeStepOf}
+use Rattle.step.specs.Steps.{takeStepOf}
 use Rattle.report.specs.declared.NonSeqTraceReport.{NonSeqTraceReport}
 use Rattle.report.specs.Report.{reportAfterOf}
 use Rattle.run.specs.declared.stack.Stack.{Stack}
@@ -89,13 +89,13 @@ module _ (S : Scene) (given : ℕ → ActiveRay) where
     turned = ap go-on (sym (step-is m (progressOf stack left report) t (asStep e) took came)) ∙ goes c k m (progressOf stack left report) b z tested on inv
 
     -- a hit is recorded
-    pub turn-hit : (h : DetectorHit) → q ≡ Hit h → (n : Memory) (d : Check) → asOutcome d n ≡ recordOf m h → (r : NonSeqTraceReport) → r ≡ settledOf d report after → (f : Check) → f ≡ placedOf d (t .left) → andThen (drive recordOf S given (k - 1)) (asOutcome f n) (progressOf next (t .left) r) ≡ z
-    turn-hit h g n d said r er f ef =
+    pub step-hit : (h : DetectorHit) → q ≡ Hit h → (n : Memory) (d : Check) → asOutcome d n ≡ recordOf m h → (r : NonSeqTraceReport) → r ≡ settledOf d report after → (f : Check) → f ≡ placedOf d (t .left) → andThen (drive recordOf S given (k - 1)) (asOutcome f n) (progressOf next (t .left) r) ≡ z
+    step-hit h g n d said r er f ef =
         rw (er, ef, added, pushed)
         (ap (λ (x : Settled Memory). go-on (with-settled (stackAfter stack (asStep e)) x)) (sym (settled-hit m n (t .left) report (t .ray .ray .energy) (asStep e) h d (sym caught ∙ ap asCatch g) said)) ∙ turned)
 
     -- no hit: the step goes on or is refused
-    pub turn-no-hit : q ≡ Nothing → (f : Check) → asChecked f ≡ refusalInOf (asStep e .end) (t .left) → andThen (drive recordOf S given (k - 1)) (asOutcome f m) (progressOf next (t .left) after) ≡ z
-    turn-no-hit g f said =
+    pub step-no-hit : q ≡ Nothing → (f : Check) → asChecked f ≡ refusalInOf (asStep e .end) (t .left) → andThen (drive recordOf S given (k - 1)) (asOutcome f m) (progressOf next (t .left) after) ≡ z
+    step-no-hit g f said =
         rw (added, pushed)
         (ap (λ (x : Settled Memory). go-on (with-settled (stackAfter stack (asStep e)) x)) (sym (settled-no-hit m (t .left) report (t .ray .ray .energy) (asStep e) f (sym caught ∙ ap asCatch g) said)) ∙ turned)
