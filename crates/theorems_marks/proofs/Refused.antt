@@ -239,9 +239,9 @@ module _ (O : Optics) (a : ActiveRay) (h : NonSeqHit) (n : ℕ) where
       go (value n1) (refusal k) e f x = inl (s, inr (inl (index-refuses _ w n (f ∙ ap refusal (ap refusalOf x)))))
       go (refusal k) j e f x = inl (s, inl (index-refuses _ w n (e ∙ ap refusal (ap refusalOf x))))
 
-  mirror-refuses : (rho : Float) → O .finish (h .«object_id») ≡ Mirror rho → mirrorOf (O .config .«min_power_threshold») a h rho .end ≡ refusing n → SurfaceRefused O a h n
+  mirrored-refuses : (rho : Float) → O .finish (h .«object_id») ≡ Mirror rho → mirrorOf (O .config .«min_power_threshold») a h rho .end ≡ refusing n → SurfaceRefused O a h n
   unfolding mirrorOf mirrorFromOf
-  mirror-refuses rho s x = go (lt (O .config .«min_power_threshold») power) x
+  mirrored-refuses rho s x = go (lt (O .config .«min_power_threshold») power) x
     where
       power : Float
       power = mirroredPowerOf (a .ray .energy) rho
@@ -265,7 +265,7 @@ module _ (O : Optics) (a : ActiveRay) (h : NonSeqHit) (n : ℕ) where
     where
       go : (f : SurfaceFinish) → O .finish (h .«object_id») ≡ f → surfaceBy O a h f .end ≡ refusing n → SurfaceRefused O a h n
       go Specular e x = clear-refuses e x
-      go (Mirror rho) e x = mirror-refuses rho e x
+      go (Mirror rho) e x = mirrored-refuses rho e x
       go Absorber e x = absurd (other (stopped (a .ray .energy)) refl x)
 
 pub ray-refuses : (S : Scene) (a : ActiveRay) (n : ℕ) → takeStepOf S a .end ≡ refusing n → RayRefused S a n
