@@ -26,7 +26,7 @@ pub record Sound (ds : Detectors) : Type 0 where
   pub most : ds .count ≤ maxDetectors
   pub each : (i : ℕ) → i < ds .count → Gridded (detectorAt (ds .list) i)
 
-both-passed : {A : Type 0} (a : A) (c : Checked Unit) (x : Checked A) → after c x ≡ passed a → (c ≡ passed tt) × (x ≡ passed a)
+pub both-passed : {A : Type 0} (a : A) (c : Checked Unit) (x : Checked A) → after c x ≡ passed a → (c ≡ passed tt) × (x ≡ passed a)
 both-passed a (passed tt) x e = (refl, e)
 both-passed a (refusedAt n p) x e = never n p a e
 

@@ -15,13 +15,14 @@ use lib.Ieee.Exact.{HasValue, round-exact}
 use lib.Ieee.Scale.{round-same}
 use Rattle.doubles.specs.Doubles.{absOf, isFiniteOf}
 use Rattle.doubles.proofs.Floats.{clash}
+use Rattle.doubles.proofs.Patterns.{ofBits-is}
 
 clash' : false ≡ true → ⊥
 clash' e = clash (sym e)
 
 -- ---- abs
 
-abs-odd : (d : ℕ) (s : Bool) (q k l : ℕ) → absOf (odd d s q k l) ≡ odd d false q k l
+pub abs-odd : (d : ℕ) (s : Bool) (q k l : ℕ) → absOf (odd d s q k l) ≡ odd d false q k l
 unfolding absOf odd
 abs-odd d s zero k l = refl
 abs-odd d s (suc q) k l = refl
@@ -37,10 +38,6 @@ abs-fields s (suc x) t =
     abs-cond (eqb (suc x) 2047) (cond (eqb t 0) (inf s) nan) (odd 53 s (2 ^ 52 + t) x 1074)
     ∙ ap (λ (v : Float). cond (eqb (suc x) 2047) v (absOf (odd 53 s (2 ^ 52 + t) x 1074))) (abs-cond (eqb t 0) (inf s) nan)
     ∙ ap (λ (v : Float). cond (eqb (suc x) 2047) (cond (eqb t 0) (inf false) nan) v) (abs-odd 53 s (2 ^ 52 + t) x 1074)
-
-ofBits-is : (b : ℕ) → ofBits binary64 b ≡ ofFields binary64 (leb (2 ^ 63) b) (b % 2 ^ 63 / 2 ^ 52) (b % 2 ^ 52)
-unfolding ofBits
-ofBits-is b = refl
 
 plus : (b : ℕ) → leb (2 ^ 63) (b % 2 ^ 63) ≡ false
 plus b = off (leb (2 ^ 63) (b % 2 ^ 63)) (leb→le (2 ^ 63) (b % 2 ^ 63))

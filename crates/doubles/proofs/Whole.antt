@@ -62,7 +62,7 @@ wholeRoot-is n = rootIn-is (size n) n (lt-of-lt-of-le (size-lt n) (two-four (siz
 
 -- ---- squares in order
 
-less-root : (a b : ℕ) → a * a < b * b → a < b
+pub less-root : (a b : ℕ) → a * a < b * b → a < b
 less-root a b h = lt-of-not-le (λ (g : b ≤ a). not-le-of-lt h (mul-le-mul g g))
 
 -- ---- q is v or v + 1, for the whole part v of the root of w

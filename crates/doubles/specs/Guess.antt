@@ -1,5 +1,5 @@
--- The first guess of the root: a float whose digits are near those of the root. Nothing rests on its value: `root_by`
--- tests it, and has another way where it fails.
+-- Nobody has to believe this page: the first guess of the root, which `root_by` tests exactly (`near-nearest`,
+-- proofs/Whole.antt) and replaces where it fails.
 use Prim.Native.Nat.{ℕ, _+_, _-_, _/_, _%_, _^_}
 use lib.Ieee.{Float, binary64, add, sub, mul, ofBits}
 

@@ -10,7 +10,7 @@ use lib.IntN.{ℤ, negsuc}
 use lib.Ieee.{Float, nan, inf, fin, binary64, up, down, round, sub, mul, div, neg, lt, le, ofBits, fits, isNan}
 use lib.Ieee.Fits.{div-fits}
 use lib.Ieee.Positive.{positive}
-use Rattle.doubles.proofs.Floats.{clash}
+use Rattle.doubles.proofs.Floats.{clash, and-left, and-right}
 use Rattle.doubles.specs.Doubles.{absOf, isFiniteOf, #0, #1}
 use Rattle.error.specs.Refusals.{Answer, value, refusal}
 use Rattle.rays.specs.declared.vector.Vec3.{Vec3}
@@ -34,13 +34,9 @@ use Rattle.geometry.specs.Shapes.{intersectLocalOf}
 use Rattle.geometry.specs.Transforms.{unitOf, madeRay}
 use Rattle.geometry.specs.Behind.{recedesOf, leavesOf, isBehindOf}
 use Rattle.geometry.specs.Meetings.{rayBy, rayFromOf, meetBy, meetAlongOf, meetOf}
-use Rattle.geometry.proofs.Signs.{Signed, under, Alike, round-signed, signed-under, under-le, below-under, not-below-under, product-alike, quotient-signed, length-positive, difference-signed, mirrored-signed, opposed-under, inverse-counts, inverse-signed, zero-le-above, zero-le-below, opposed-quotient, zero-below}
+use Rattle.geometry.proofs.Signs.{Signed, under, Alike, round-signed, signed-under, under-le, below-under, not-below-under, product-alike, quotient-signed, length-positive, difference-signed, mirrored-signed, opposed-under, inverse-counts, inverse-signed, zero-le-above, zero-le-below, opposed-quotient, zero-below, near-is}
 
 -- 1e-9 and 1e-15
-near-is : minLocalDistance ≡ fin false 0x112e0be826d695 (negsuc 81)
-unfolding ofBits
-near-is = refl
-
 short-is : ofBits binary64 0x3cd203af9ee75616 ≡ fin false 0x901d7cf73ab0b (negsuc 100)
 unfolding ofBits
 short-is = refl
@@ -283,14 +279,6 @@ box-z : (hx hy hz : Float) (r : Ray) → Leaves (r .origin .z) (r .direction .z)
 box-z hx hy hz r l = box-out hx hy hz r (left-z hx hy hz r (axis (cut-y (cut-x hx r) hy r) (r .origin .z) (r .direction .z) hz MinusZ PlusZ (keep-y (cut-x hx r) hy r Number below-number (number-x hx r)) l))
 
 -- ---- any shape
-
-and-left : (a b : Bool) → (a && b) ≡ true → a ≡ true
-and-left true b e = refl
-and-left false b e = e
-
-and-right : (a b : Bool) → (a && b) ≡ true → b ≡ true
-and-right true b e = e
-and-right false b e = absurd (clash (sym e))
 
 -- one axis of the local ray, whose direction was divided by a length l above 0
 alike-along : (o d l : Float) → T (positive l) → recedesOf o d ≡ true → Alike o (div binary64 d l)

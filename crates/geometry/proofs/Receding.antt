@@ -29,8 +29,9 @@ use Rattle.geometry.specs.declared.round.Roots.the-variants.{Two, Nothin
 use Rattle.geometry.specs.Hits.{firstThere}
 use Rattle.geometry.specs.Round.{solveOf, sphereAtOf, sphereAmongOf, intersectSphereOf}
 use Rattle.geometry.specs.Away.{isAwayOf}
-use Rattle.geometry.proofs.Signs.{Signed, under, round-signed, signed-under, suc-not-zero, cond-no}
+use Rattle.geometry.proofs.Signs.{Signed, under, round-signed, signed-under, suc-not-zero, cond-no, near-is}
 use Rattle.geometry.proofs.Squares.{L, M, squared, square-is, squared-most, RootMost, root-of}
+use Rattle.doubles.proofs.Floats.{and-left, and-right}
 
 -- ---- not negative, or no number at all
 
@@ -168,10 +169,6 @@ low-div (fin true m e) (fin true n d) p q = absurd (true≢false q)
 low-div (fin true m e) (fin false n d) p q =
     low-cond (eqb n 0) (cond (eqb m 0) nan (inf true)) (round binary64 true (m * up e * down d) (n * up d * down e))
     (low-cond (eqb m 0) nan (inf true) tt tt) (round-low (m * up e * down d) (n * up d * down e))
-
-near-is : minLocalDistance ≡ fin false 0x112e0be826d695 (negsuc 81)
-unfolding ofBits
-near-is = refl
 
 low-near-is : (t : Float) → T (low t) → lt (fin false 0x112e0be826d695 (negsuc 81)) t ≡ false
 unfolding lt
@@ -391,14 +388,6 @@ away-none b c f e a radius r p =
     by-bits k (leb→le 0x2000000000000000 k (subst T (sym (and-right (lt #0 c) (leb 0x2000000000000000 k) left)) tt))
     (ltb→lt k 0x5000000000000000 (subst T (sym (and-right (lt #0 c && leb 0x2000000000000000 k) (ltb k 0x5000000000000000) e)) tt)) b f refl a c radius r p
     (positive-above c (and-left (lt #0 c) (leb 0x2000000000000000 k) left))
-  where
-    and-left : (a b : Bool) → (a && b) ≡ true → a ≡ true
-    and-left true b e = refl
-    and-left false b e = e
-
-    and-right : (a b : Bool) → (a && b) ≡ true → b ≡ true
-    and-right true b e = e
-    and-right false b e = absurd (true≢false (sym e))
 
 -- the sign of a radius is lost in its square
 pub abs-square : (x : Float) → mul binary64 (absOf x) (absOf x) ≡ mul binary64 x x

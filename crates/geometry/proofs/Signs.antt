@@ -16,6 +16,13 @@ use lib.Ieee.Positive.{positive, between}
 use Rattle.doubles.proofs.Floats.{clash}
 use Rattle.doubles.specs.Doubles.{absOf, isFiniteOf, #0, #1}
 use Rattle.geometry.specs.Hits.{parallel}
+use Rattle.rays.specs.Rays.{minLocalDistance}
+use Rattle.doubles.proofs.Small.{abs-odd}
+
+-- 1e-9 as a fraction
+pub near-is : minLocalDistance ≡ fin false 0x112e0be826d695 (negsuc 81)
+unfolding ofBits
+near-is = refl
 
 -- a number of the sign s, true for negative; a zero has its sign too
 abbrev pub Signed : Bool → Float → Type 0
@@ -52,11 +59,6 @@ units-signed s q k = go (ltb (q * 2 ^ k) (2 ^ (1074 + 1024)))
 pub round-signed : (s : Bool) (a c : ℕ) → Signed s (round binary64 s a c)
 round-signed s a c = subst (Signed s) (sym (round-is binary64 s a c)) (units-signed s _ _)
 
-abs-odd : (d : ℕ) (s : Bool) (q k l : ℕ) → absOf (odd d s q k l) ≡ odd d false q k l
-unfolding absOf odd
-abs-odd d s zero k l = refl
-abs-odd d s (suc q) k l = refl
-
 abs-units : (s : Bool) (q k : ℕ) → absOf (units binary64 s q k) ≡ units binary64 false q k
 unfolding units absOf
 abs-units s q k = go (ltb (q * 2 ^ k) (2 ^ (1074 + 1024)))
@@ -85,7 +87,7 @@ some-more a b h = is-true (ltb 0 (a + b)) (lt→ltb 0 (a + b) (more a b h))
 some-above : (a b c : ℕ) → 0 < c → ltb (0 * a * b) c ≡ true
 some-above a b c h = ap (λ (n : ℕ). ltb (n * b) c) (zero-mul a) ∙ ap (λ (n : ℕ). ltb n c) (zero-mul b) ∙ is-true (ltb 0 c) (lt→ltb 0 c h)
 
-nothing-below : (a b c : ℕ) → ltb a (0 * b * c) ≡ false
+pub nothing-below : (a b c : ℕ) → ltb a (0 * b * c) ≡ false
 nothing-below a b c = ap (λ (n : ℕ). ltb a (n * c)) (zero-mul b) ∙ ap (λ (n : ℕ). ltb a n) (zero-mul c) ∙ le-ltb a 0 zero-le
 
 or-left : (a b : Bool) → a ≡ true → (a || b) ≡ true

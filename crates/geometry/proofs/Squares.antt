@@ -16,7 +16,7 @@ use lib.Ieee.Order.{drop, kept, round-mono, transfer}
 use lib.Ieee.Scale.{grid, overflow, finite, round-same, round-val, round-under, normal-of-fraction}
 use Rattle.doubles.specs.Root.{wholeRoot, rootRound, sqrtIn, sqrtOf}
 use Rattle.doubles.proofs.Patterns.{positive-root}
-use Rattle.doubles.proofs.Whole.{wholeRoot-is}
+use Rattle.doubles.proofs.Whole.{wholeRoot-is, less-root}
 use Rattle.geometry.proofs.Signs.{Signed, round-signed}
 
 -- ---- rounding to the nearest whole number
@@ -83,9 +83,6 @@ grid-up n d D h =
     double x n u a b = omega arith
 
 -- ---- the rounded root of N is at most m * 2 ^ j, where √N is below halfway to the next number
-
-less-root : (a b : ℕ) → a * a < b * b → a < b
-less-root a b h = lt-of-not-le (λ (g : b ≤ a). not-le-of-lt h (mul-le-mul g g))
 
 below-keeps : (v x y : ℕ) → x < y → nearest v (compare x y) ≡ v
 below-keeps v x y h = go (compare x y) (nleb→lt x y) (eqb→eq x y)

@@ -1,3 +1,4 @@
+-- Nobody has to believe this page: what it rules out is not met (`not-met`, proofs/Receding.antt).
 -- Rays that surely run away from a sphere, by the numbers b and c of its equation.
 use lib.Dec.{leb, ltb}
 use lib.Ieee.{Float, binary64, lt, toBits}

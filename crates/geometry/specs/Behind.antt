@@ -1,3 +1,4 @@
+-- Nobody has to believe this page: what it rules out is not met (`behind-misses`, proofs/Behind.antt).
 -- Rays that surely miss a shape by the signs of their coordinates. d is a direction of any length.
 use lib.Ieee.{Float, binary64, mul, lt}
 use mathlib.Core.Bool.{Bool, false, _&&_, _||_}

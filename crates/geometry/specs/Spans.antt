@@ -1,5 +1,5 @@
--- Box as the code goes about it: the distances of all three axes first, and which sides set the two ends only where one
--- of them is met. What a box is stands in Slabs, and intersect_box is held to that alone.
+-- Nobody has to believe this page: a box as the code goes about it, tied to Slabs by `inside-is` (proofs/Spans.antt).
+-- The distances of all three axes come first, and which sides set the two ends only where one of them is met.
 use lib.Ieee.{Float, inf, binary64, sub, mul, div, neg, lt, le}
 use mathlib.Core.Bool.{false, cond}
 use mathlib.Core.Option.{Option, none}

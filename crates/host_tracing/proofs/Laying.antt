@@ -11,9 +11,9 @@ use lib.Ieee.{Float, nan, binary64, ofBits}
 use borrow.Author.Tests.{lt-ltb, le-ltb, le-leb, lt-leb, ltb-true, leb-true}
 use lib.ListN.{length, getD, take, drop, replicate, length-append, length-replicate, drop-of-length-le}
 use lib.Seq.{sets, sets-eq, length-sets, drop-cons, take-at, length-take-le}
-use Rattle.nearest.proofs.Order.{and-left, and-right}
 use Rattle.host_tracing.specs.declared.slices.GivenRay.{GivenRay}
 use Rattle.host_tracing.specs.Flat.{valuesRow, tagsRow, flatValues, flatTags, Laid, laid, hasRoomOf, putRayOf, flattenOf}
+use Rattle.doubles.proofs.Floats.{and-left, and-right}
 
 -- what stands for a ray past the end of a list
 abbrev pub no-ray : GivenRay

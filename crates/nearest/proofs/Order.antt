@@ -9,7 +9,7 @@ use lib.IntN.{ℤ, negsuc}
 use lib.Ieee.{Float, nan, inf, fin, up, down, lt, le, ofBits}
 use lib.Ieee.Bits.{is-true}
 use lib.Ieee.Positive.{num, den, positive, den-pos, le→cross, cross→le}
-use Rattle.doubles.proofs.Floats.{clash}
+use Rattle.doubles.proofs.Floats.{clash, and-left, and-right, and-both}
 use Rattle.doubles.specs.Doubles.{isFiniteOf}
 use Rattle.rays.specs.Rays.{minWorldDistance}
 use Rattle.nearest.specs.Nearest.{isCounted, isNearerOf}
@@ -19,18 +19,6 @@ holds e = subst T (sym e) tt
 
 fails : {b : Bool} → b ≡ false → T (not b)
 fails e = subst (λ (t : Bool). T (not t)) (sym e) tt
-
-pub and-left : (a b : Bool) → (a && b) ≡ true → a ≡ true
-and-left true b e = refl
-and-left false b e = e
-
-pub and-right : (a b : Bool) → (a && b) ≡ true → b ≡ true
-and-right true b e = e
-and-right false b e = absurd (clash (sym e))
-
-pub and-both : (a b : Bool) → a ≡ true → b ≡ true → (a && b) ≡ true
-and-both true b p q = q
-and-both false b p q = p
 
 -- ---- 1e-8 as a fraction
 limit-is : minWorldDistance ≡ fin false 3022314549036573 (negsuc 77)

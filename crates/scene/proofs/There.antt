@@ -10,8 +10,7 @@ use lib.Dec.{T, leb, eqb, eqb→eq}
 use lib.Ieee.{Float}
 use lib.ListN.{length, getD}
 use borrow.Author.Tests.{le-leb}
-use Rattle.doubles.proofs.Floats.{clash}
-use Rattle.nearest.proofs.Order.{and-left}
+use Rattle.doubles.proofs.Floats.{clash, and-left}
 use Rattle.error.specs.Refusals.{Checked, passed, refusedAt}
 use Rattle.geometry.specs.Shapes.{lastShape}
 use Rattle.scene.specs.Solids.{holds, objectAtOf, readObjectOf, tagsFitOf, checkTagsOf, checkSolidsOf}

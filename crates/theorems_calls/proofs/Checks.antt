@@ -10,7 +10,6 @@ use borrow.Author.Tests.{leb-true, le-leb, eq-eqb, eqb-true}
 use Rattle.error.specs.Refusals.{Checked, passed, refusedAt, after}
 use Rattle.rays.specs.Rays.{isValidRayOf}
 use Rattle.scene.specs.Solids.{checkSolidsOf}
-use Rattle.nearest.proofs.Order.{and-left, and-right}
 use Rattle.detectors.specs.declared.Detectors.{Detectors}
 use Rattle.detectors.specs.Detectors.{allPixelsOf, checkDetectorsOf}
 use Rattle.memory.specs.Memory.{Memory, capacity, isHitListOf, areLengthsOf}
@@ -18,10 +17,11 @@ use Rattle.step.specs.declared.ActiveRay.{ActiveRay}
 use Rattle.given_rays.specs.Given.{validMediaOf, checkListsOf, checkRayOf, checkRaysOf}
 use Rattle.trace.specs.Trace.{Batch, raysIn, checkFlatOf, checkConfigOf, checkCountsOf, checkRulesOf, checkLengthsOf, checkMemoryOf, checkTraceOf, checkBatch}
 use Rattle.theorems_runs.proofs.Bred.{false-true}
-use Rattle.theorems_runs.proofs.Checked.{both-passed}
 use Rattle.theorems_calls.specs.Parts.{Part, Exact, joined, withRays}
 use Rattle.theorems_calls.proofs.Reached.{Reached, added-checks, added-all, added-flux, added-hits, added-values, added-tags}
 use Rattle.theorems_calls.proofs.Joined.{former-given, later-given}
+use Rattle.doubles.proofs.Floats.{and-left, and-right}
+use Rattle.detectors.proofs.Passed.{both-passed}
 
 abbrev checkLengthsIn : Memory → Checked Unit
 checkLengthsIn s = checkLengthsOf (s .detectors) (length (s .flux)) (length (s .hits)) (length (s .hitValues)) (length (s .hitTags)) (s .used)

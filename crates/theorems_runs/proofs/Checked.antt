@@ -14,7 +14,6 @@ use Rattle.rays.specs.Rays.{isValidRayOf}
 use Rattle.detectors.specs.Detectors.{checkDetectorsOf}
 use Rattle.media.specs.declared.Media.{Media}
 use Rattle.memory.specs.Memory.{Memory, Outcome, done, refused, recordOf}
-use Rattle.nearest.proofs.Order.{and-right}
 use Rattle.step.specs.declared.ActiveRay.{ActiveRay}
 use Rattle.step.specs.declared.NonSeqTraceConfig.{NonSeqTraceConfig}
 use Rattle.report.specs.declared.tallies.Tallies.{Tallies}
@@ -25,6 +24,8 @@ use Rattle.trace.specs.Trace.{Batch, raysIn, checkFlatOf, checkConfigOf, checkC
 use Rattle.theorems_runs.proofs.Bred.{pick, false-true}
 use Rattle.theorems_runs.proofs.Tracings.{enough, bound}
 use Rattle.theorems_runs.proofs.Balance.{balance, balance-met}
+use Rattle.doubles.proofs.Floats.{and-right}
+use Rattle.detectors.proofs.Passed.{both-passed}
 
 abbrev isPassed : {A : Type 0} → Checked A → Bool
 isPassed (passed a) = true
@@ -32,10 +33,6 @@ isPassed (refusedAt n place) = false
 
 not-passed : {A : Type 0} {C : Type 0} (n place : ℕ) (a : A) → refusedAt n place ≡ passed a → C
 not-passed n place a e = false-true (ap isPassed e)
-
-pub both-passed : {A : Type 0} (a : A) (c : Checked Unit) (x : Checked A) → after c x ≡ passed a → (c ≡ passed tt) × (x ≡ passed a)
-both-passed a (passed tt) x e = (refl, e)
-both-passed a (refusedAt n p) x e = not-passed n p a e
 
 config-lim : (g : NonSeqTraceConfig) → checkConfigOf g ≡ passed tt → g .«max_bounces» ≤ 16
 unfolding checkConfigOf
