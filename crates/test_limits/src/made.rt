@@ -84,19 +84,19 @@ pub(crate) fn eight(count: u32) -> Detectors {
 pub struct Lent {
     pub flux: usize,
     pub hits: usize,
-    pub values: usize,
-    pub tags: usize,
+    pub hit_values: usize,
+    pub hit_tags: usize,
     pub first_count: u32,
 }
 
 pub(crate) fn room(pixels: usize, places: usize) -> Lent
-    ensures { λ r. ⌜ (r .flux ≡ pixels) × (r .hits ≡ pixels) × (r .values ≡ places) × (r .tags ≡ places) ⌝ }
+    ensures { λ r. ⌜ (r .flux ≡ pixels) × (r .hits ≡ pixels) × (r .«hit_values» ≡ places) × (r .«hit_tags» ≡ places) ⌝ }
 {
     Lent {
         flux: pixels,
         hits: pixels,
-        values: places,
-        tags: places,
+        hit_values: places,
+        hit_tags: places,
         first_count: 1,
     }
 }

@@ -37,8 +37,8 @@ fn sift(words: &[u8], ds: Detectors, asked: u32, pixels: usize)
     let lent = Maps {
         stored: pixels,
         work: 3,
-        values: 8,
-        tags: 8,
+        hit_values: 8,
+        hit_tags: 8,
     };
     sifted::each_way(words, ds, asked, 2, lent);
 }

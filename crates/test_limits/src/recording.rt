@@ -53,8 +53,8 @@ fn count(words: &[u8], in_record: u32, in_pixel: u32, used: usize) {
     let lent = Lent {
         flux: 3,
         hits: 3,
-        values: 8,
-        tags: 8,
+        hit_values: 8,
+        hit_tags: 8,
         first_count: in_pixel,
     };
     let h = made::hit(0, -2.0, 0.0, 1.5);
@@ -66,8 +66,8 @@ fn count_elsewhere() {
     let lent = Lent {
         flux: 3,
         hits: 3,
-        values: 8,
-        tags: 8,
+        hit_values: 8,
+        hit_tags: 8,
         first_count: 4294967295,
     };
     let ds = made::pair(made::hit_so_often(2, 1, 4294967295), made::grid(1, 1));

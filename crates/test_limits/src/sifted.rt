@@ -21,8 +21,8 @@ pub struct Question {
 pub struct Maps {
     pub stored: usize,
     pub work: usize,
-    pub values: usize,
-    pub tags: usize,
+    pub hit_values: usize,
+    pub hit_tags: usize,
 }
 
 fn tell_part(part: &[f64]) {
@@ -166,7 +166,7 @@ fn fill_and_sift(
 
 // The same over slices of these lengths.
 pub(crate) fn once(words: &[u8], q: Question, lent: Maps)
-    requires { ⌜ (lent .stored ≤ 32) × (lent .work ≤ 32) × (lent .values ≤ 32) × (lent .tags ≤ 32) ⌝ }
+    requires { ⌜ (lent .stored ≤ 32) × (lent .work ≤ 32) × (lent .«hit_values» ≤ 32) × (lent .«hit_tags» ≤ 32) ⌝ }
 {
     let mut stored = [0.0f64; 32];
     let mut work = [0.0f64; 32];
@@ -174,8 +174,8 @@ pub(crate) fn once(words: &[u8], q: Question, lent: Maps)
     let mut hit_tags = [0u32; 32];
     let a = lent.stored;
     let b = lent.work;
-    let c = lent.values;
-    let d = lent.tags;
+    let c = lent.hit_values;
+    let d = lent.hit_tags;
     fill_and_sift(
         words,
         q,
@@ -188,7 +188,7 @@ pub(crate) fn once(words: &[u8], q: Question, lent: Maps)
 
 // All and GhostsOnly, in two calls and in one.
 pub(crate) fn each_way(words: &[u8], detectors: Detectors, asked: u32, used: usize, lent: Maps)
-    requires { ⌜ (lent .stored ≤ 32) × (lent .work ≤ 32) × (lent .values ≤ 32) × (lent .tags ≤ 32) ⌝ }
+    requires { ⌜ (lent .stored ≤ 32) × (lent .work ≤ 32) × (lent .«hit_values» ≤ 32) × (lent .«hit_tags» ≤ 32) ⌝ }
 {
     let mut q = Question {
         detectors,

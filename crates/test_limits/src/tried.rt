@@ -151,7 +151,7 @@ fn fill_and_record(
 
 // One hit into slices of these lengths, filled before.
 pub(crate) fn once(words: &[u8], detectors: Detectors, lent: Lent, used: usize, h: DetectorHit)
-    requires { ⌜ (lent .flux ≤ 4104) × (lent .hits ≤ 4104) × (lent .values ≤ 32) × (lent .tags ≤ 32) ⌝ }
+    requires { ⌜ (lent .flux ≤ 4104) × (lent .hits ≤ 4104) × (lent .«hit_values» ≤ 32) × (lent .«hit_tags» ≤ 32) ⌝ }
 {
     let mut flux = [0.0f64; 4104];
     let mut hits = [0u32; 4104];
@@ -159,8 +159,8 @@ pub(crate) fn once(words: &[u8], detectors: Detectors, lent: Lent, used: usize, 
     let mut hit_tags = [0u32; 32];
     let a = lent.flux;
     let b = lent.hits;
-    let c = lent.values;
-    let d = lent.tags;
+    let c = lent.hit_values;
+    let d = lent.hit_tags;
     fill_and_record(
         words,
         detectors,

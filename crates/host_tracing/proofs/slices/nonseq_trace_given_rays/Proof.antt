@@ -316,5 +316,5 @@ nonseq-trace-given-rays-spec 𝓤 H 𝓜 𝓖 𝓡 =
     entered 𝓤 H (tripleOf 𝓤 H (𝓖 .A) entry.signature (entry.spec 𝓤 H (𝓖 .A) (𝓜 .mem) (𝓡 .run)))
     (tables 𝓤 H 𝓜 𝓡 code.env .C) (tables 𝓤 H 𝓜 𝓡 code.env .Λ) #entry code.function (code.unfolded 𝓤 H 𝓜 𝓡)
     (entry-meets 𝓤 H (𝓖 .A) (givenOf 𝓤 H 𝓜 𝓖) (𝓜 .mem) (𝓡 .run) (tablesOf 𝓤 H 𝓜 (tables 𝓤 H 𝓜 𝓡 code.env))
-    (cited 𝓤 H (First 𝓤 H (𝓖 .A) (𝓜 .mem) (𝓡 .run)) 𝓜 𝓡 code.env #first first-def.routine code.calls-host·slices·flatten (first-thm.met 𝓤 H 𝓜 𝓖 𝓡))
-    (cited 𝓤 H (Then 𝓤 H (𝓖 .A) (𝓜 .mem) (𝓡 .run)) 𝓜 𝓡 code.env #then then-def.routine code.calls-host·slices·trace-flat (then-thm.met 𝓤 H 𝓜 𝓖 𝓡)))
+    (cited 𝓤 H (First 𝓤 H (𝓖 .A) (𝓜 .mem) (𝓡 .run)) 𝓜 𝓡 code.env #first first-def.routine code.calls-host-tracing·slices·flatten (first-thm.met 𝓤 H 𝓜 𝓖 𝓡))
+    (cited 𝓤 H (Then 𝓤 H (𝓖 .A) (𝓜 .mem) (𝓡 .run)) 𝓜 𝓡 code.env #then then-def.routine code.calls-host-tracing·slices·trace-flat (then-thm.met 𝓤 H 𝓜 𝓖 𝓡)))
