@@ -8,12 +8,17 @@ all that have no file yet. Run it in the repository; read what it wrote, and che
 
 prove.py --facts CRATE FUNCTION: after such a run, the facts at each need of one function, as paths
 into c.
+
+prove.py --shorten [FILE ..]: put the long paths of these proof files, or of all, under names (paths.py).
+Then `rt fmt`. What prove.py writes has them already.
 """
 import glob
 import os
 import re
 import subprocess
 import sys
+
+from paths import shorten
 
 TESTS = ('lt-ltb', 'le-ltb', 'le-leb', 'lt-leb', 'eq-eqb', 'ne-eqb')
 FACTS = ('taken', 'left', 'came', 'ensures', 'given', 'inv')
@@ -182,7 +187,7 @@ def write(crate, path, fn, body, mods, names, more):
     if ' = refl' in whole:
         out.insert(1, 'use mathlib.Core.Path.{refl}')
     os.makedirs(os.path.dirname(path), exist_ok=True)
-    open(path, 'w').write('\n'.join(out) + '\n')
+    open(path, 'w').write(shorten('\n'.join(out) + '\n'))
     print('wrote', fn)
 
 
@@ -193,9 +198,19 @@ def show(crate, fn):
             print('   ', term)
 
 
+def shorten_all(files):
+    for path in files or sorted(glob.glob('crates/*/proofs/**/Proof.antt', recursive=True)):
+        old = open(path).read()
+        new = shorten(old)
+        if new != old:
+            open(path, 'w').write(new)
+
+
 def main():
     if sys.argv[1] == '--facts':
         return show(*sys.argv[2:])
+    if sys.argv[1] == '--shorten':
+        return shorten_all(sys.argv[2:])
     crate, wanted = sys.argv[1], set(sys.argv[2:])
     os.makedirs('target', exist_ok=True)
     run = lambda *w: subprocess.run(['rt', 'dev', crate, *w], capture_output=True, text=True, env=dict(os.environ, RT_CUT='0'))
