@@ -44,6 +44,7 @@ GIVEN = dict(
     result=('Z', 'HostTraced', 'traced-val'),
     # the local arrays: elements, row, what they hold first and its elements, the names of their room and length
     arrays=[('32776', 'f64', 'zeros', 'zero-f', 'room-f', 'long-f'), ('40970', 'u32', 'nones', '0', 'room-h', 'long-h')],
+    # the lines that bring in what this table names, before and after the struct's own
     declared='''use Rattle.detectors.specs.declared.Detectors.{Detectors}
 use Rattle.host.specs.declared.answers.HostConfig.{HostConfig}
 use Rattle.host.specs.declared.answers.HostTraced.{HostTraced}
@@ -488,7 +489,7 @@ def loop(t):
     held = [x for j in R for x in ('s%do' % j, 'k%d' % j)] + ['rowso', 'kr']
     comment = f'''-- `{t['crate']}::{t['module']}::{t['function']}` meets its contract: a walk of its MIR, by hand, with a loop. A turn looks into the lent slice of structs, copies element i out, lends the {K} `&mut` slices again to `{t['step']}`, each for a lifetime that is made for the call, and has them back at what `{t['step']}` left.
 -- The loop's index is a `Turn`: where the loop stands, the number and the lists there, and that what is left, put there, makes the whole.
--- Written by tools/walk_flatten.py. Assumes nothing.
+-- Written by tools/walk.py. Assumes nothing.
 '''
     mine = f"Rattle·{t['crate']}·"
     place_of = f"{mine}proofs.proofs.{t['module']}"
@@ -842,8 +843,8 @@ def entry(t):
     # the second function has the arrays and their number in the place of the structs
     arrays_for = lambda xs, n: [x for p in params for x in (xs + [n] if p == given else [p])]
     values = [P[p]['value'] for p in params]
-    comment = f'''-- `{t['crate']}::{t['module']}::{t['function']}` meets its contract: a walk of its MIR, by hand. Two local arrays are written whole, lent as `&mut` slices to `{t['first']}`, come back at the lists that it left, are lent as `&` slices to `{t['then']}`, and come back to be freed. The four `&mut` slices are given up for good to `{t['then']}`.
--- Written by tools/walk_given.py. Assumes nothing.
+    comment = f'''-- `{t['crate']}::{t['module']}::{t['function']}` meets its contract: a walk of its MIR, by hand. Two local arrays are written whole, lent as `&mut` slices to `{t['first']}`, come back at the lists that it left, are lent as `&` slices to `{t['then']}`, and come back to be freed. The `&mut` slices are given up for good to `{t['then']}`.
+-- Written by tools/walk.py. Assumes nothing.
 '''
     mine = f"Rattle·{t['crate']}·"
     uses = t['declared'] + f"use {mine}specs.specs.declared.{t['module']}.{t['struct']}.{{{t['struct']}}}\n" + t['uses'] + f"use {mine}proofs.proofs.{t['module']}.{t['struct']} as T\n" + callees(t, ['first', 'then']) + itself(t, 'entry')
@@ -1064,7 +1065,7 @@ module _ {GIVE} ({each('κ#')} : Lft) ({each('q#')} : Share)
     c.move(*left)
     assert c.c == left, c.c
     law = t['law'].format(ws=ws, zf=zf, zh=zh, memory=t['memory'])
-    c.emit(f"by ! (exits r {ws} (subst (Is {z_type}.the-row r) (LL.tells {z_type}.the-type {z_type}′.the-laws r _ is-r) is-r) {nest(['p' + sub(j) for j in muts[:-1]] + [f'(p{sub(muts[-1])})'])} {law})" + ')' * (c.depth + len(names)))
+    c.emit(f"by ! (exits r {ws} (subst (Is {z_type}.the-row r) (LL.tells {z_type}.the-type {z_type}′.the-laws r _ is-r) is-r) {nest(['p' + sub(j) for j in muts])} {law})" + ')' * (c.depth + len(names)))
     out += '  module _ (C : Calls 𝓤 H) (Λ : Loops 𝓤 H) (fm : FmC 𝓤 H (W .laws) C) (known-first : Triple 𝓤 (C #first) (First 𝓤 H A mem run)) (known-then : Triple 𝓤 (C #then) (Then 𝓤 H A mem run)) where\n'
     for ty, kind in (('Wl', 'mut'), ('Vl', 'imm')):
         for j, s in enumerate(B):

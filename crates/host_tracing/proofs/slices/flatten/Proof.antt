@@ -1,6 +1,6 @@
 -- `host_tracing::slices::flatten` meets its contract: a walk of its MIR, by hand, with a loop. A turn looks into the lent slice of structs, copies element i out, lends the 2 `&mut` slices again to `put_ray`, each for a lifetime that is made for the call, and has them back at what `put_ray` left.
 -- The loop's index is a `Turn`: where the loop stands, the number and the lists there, and that what is left, put there, makes the whole.
--- Written by tools/walk_flatten.py. Assumes nothing.
+-- Written by tools/walk.py. Assumes nothing.
 use mathlib.Core.Path.{_≡_, refl, sym, ap, _∙_, subst}
 use mathlib.Core.Bool.{Bool, true, false}
 use mathlib.Core.WellFounded.{InvImage·wf}
