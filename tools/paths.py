@@ -7,8 +7,9 @@ A path `c .before .before .before .. .goes-on .ensures` of a need's clause becom
 at the head of the clause. No such line has more than STEP `.before`: where a fact is further back, the place of a
 fact on the way (`at-goes-on`), or one between two of them (`after-goes-on`), is bound first, and the lines below
 start there. A clause is rewritten if it has a path with LONG or more `.before`, or one with LEAST on a line of more
-than WIDEST characters, and then all its paths with LEAST or more get names. Lines of more than WIDEST characters of
-needs and invariants are cut to WIDTH. What was rewritten is left as it is by a second run.
+than WIDEST characters, and then all its paths with LEAST or more get names; but not where an `omega arith` looks for
+its facts by itself: it enters at most 128 records, and those with a name first. Lines of more than WIDEST characters
+of needs and invariants are cut to WIDTH. What was rewritten is left as it is by a second run.
 
 The names are those of the calls, tests and loops that the paths lead to; `the-` stands in front of one that the file
 has for something else, and a number behind a second one.
@@ -213,7 +214,9 @@ def imported(text):
 
 
 def is_long(body):
-    """Whether it has a path to be named outside a let of its own, or a let with more than STEP."""
+    """Whether it has a path to be named outside a let of its own, or a let with more than STEP, and no omega that looks for facts."""
+    if 'omega arith' in body:
+        return False
     own = {m.start(2) - 1 for m in LET.finditer(body)}
     least = LEAST if any(len(l) > WIDEST for l in body.split('\n')) else LONG
     paths = ((m.start() in own, *parted(m.group(1))) for m in re.finditer(PATH % ('c', '+'), body))
