@@ -3,13 +3,13 @@
 
 A walk is the proof of a function that the checker does not cover. There are two shapes:
 
-loop    fn flatten(rays: &[GivenRay], values: &mut [f64], marks: &mut [u32]) -> u32 {
+loop    fn flatten(rays: &[GivenRay], ray_values: &mut [f64], ray_tags: &mut [u32]) -> u32 {
             let mut n = 0;
             let mut i = 0;
-            while i < rays.len() { let ray = rays[i]; n = put_ray(ray, n, values, marks); i += 1; }
+            while i < rays.len() { let ray = rays[i]; n = put_ray(ray, n, ray_values, ray_tags); i += 1; }
             n
         }
-        The walk knows of the callee only that it ensures  laid r exits.. ≡ putRay ray (laid n entries..).
+        The walk knows of the callee only that it ensures  laid r exits.. ≡ putRayOf ray (laid n entries..).
 
 entry   Two local arrays are lent as `&mut` to a first function with a slice of structs, and then as `&` to a second
         one, to which the `&mut` slices are given for good. The walk knows of the two only what they ensure, and a
@@ -22,17 +22,17 @@ import re
 import sys
 
 FLATTEN = dict(
-    crate='host', module='slices', function='flatten', step='put_ray',
+    crate='host_tracing', module='slices', function='flatten', step='put_ray',
     # the struct, its bytes, and what the walk calls one and many of it
     struct='GivenRay', size=104, word='ray', many='Rays',
     # the `&mut` slices: their names in the loop's index, and the rows of their elements
-    slices=[('values', 'f64'), ('marks', 'u32')],
-    # what the callee and the loop do to the state, and the laws of a turn and of the end
-    specs='Flat', state='Laid', make='laid', put_one='putRay', put_all='putRays',
-    laws='Laying', none='no-ray', turn='put-turn', end='put-end')
+    slices=[('rayValues', 'f64'), ('rayTags', 'u32')],
+    # what the callee and the loop do to the state, and the laws of going on and of the end
+    specs='Flat', state='Laid', make='laid', put_one='putRayOf', put_all='flattenOf',
+    laws='Laying', none='no-ray', turn='put-again', end='put-end')
 
 GIVEN = dict(
-    crate='host', module='slices', function='nonseq_trace_given_rays', first='flatten', then='trace_flat',
+    crate='host_tracing', module='slices', function='nonseq_trace_given_rays', first='flatten', then='trace_flat',
     struct='GivenRay',
     # the slices among the parameters by the rows of their elements: which one has the structs, which are `&mut`
     slices=['f64', 'u32', 'T.the-row', 'f64', 'u32', 'f64', 'u32'], given=2, mut=range(3, 7),
@@ -46,27 +46,28 @@ GIVEN = dict(
     arrays=[('32776', 'f64', 'zeros', 'zero-f', 'room-f', 'long-f'), ('40970', 'u32', 'nones', '0', 'room-h', 'long-h')],
     # the lines that bring in what this table names, before and after the struct's own
     declared='''use Rattle.detectors.specs.declared.Detectors.{Detectors}
-use Rattle.host.specs.declared.answers.HostConfig.{HostConfig}
-use Rattle.host.specs.declared.answers.HostTraced.{HostTraced}
+use Rattle.host_tracing.specs.declared.answers.HostConfig.{HostConfig}
+use Rattle.host_tracing.specs.declared.answers.HostTraced.{HostTraced}
 ''',
-    uses='''use Rattle.memory.specs.Memory.{memoryOf}
-use Rattle.host.specs.Tracing.{left, hostTraceOf}
-use Rattle.host.specs.Flat.{laid, putRays, flatValues, flatMarks, frontOf}
-use Rattle.host.proofs.Laying.{zero-f, zeros, nones, long-f, long-h}
-use Rattle.host.proofs.Given.{given-is}
-use Rattle.host.proofs.Arrays.{big-lit, Elems, apart, whole, lend-mut, back-mut, lend-shr, back-shr}
+    uses='''use Rattle.memory.specs.Memory.{lentMemory}
+use Rattle.host_tracing.specs.Tracing.{left, hostTraceRaysOf}
+use Rattle.host_tracing.specs.Flat.{laid, flattenOf, flatValues, flatTags}
+use Rattle.fields.specs.Split.{frontOf}
+use Rattle.host_tracing.proofs.Laying.{zero-f, zeros, nones, long-f, long-h}
+use Rattle.host_tracing.proofs.Given.{given-is}
+use Rattle.host_tracing.proofs.Arrays.{big-lit, Elems, apart, whole, lend-mut, back-mut, lend-shr, back-shr}
 use Rattle.detectors.proofs.Detectors as D
 use Rattle.detectors.proofs.Detectors.Laws as D′
-use Rattle.host.proofs.answers.HostConfig as G
-use Rattle.host.proofs.answers.HostConfig.Laws as G′
-use Rattle.host.proofs.answers.HostTraced as Z
-use Rattle.host.proofs.answers.HostTraced.Laws as Z′
+use Rattle.host_tracing.proofs.answers.HostConfig as G
+use Rattle.host_tracing.proofs.answers.HostConfig.Laws as G′
+use Rattle.host_tracing.proofs.answers.HostTraced as Z
+use Rattle.host_tracing.proofs.answers.HostTraced.Laws as Z′
 ''',
     # what the two calls ensure, what the entry has to, and the law that makes the one of the others
-    memory='memoryOf ds y₃ y₄ y₅ y₆ used',
-    first_says='(laid t {zf} {zh} ≡ putRays y₂ (laid 0 zeros nones))',
-    then_says='(left r {ws} ≡ hostTraceOf g y₀ y₁ n (frontOf (t * 8) {zf}) (frontOf (t * 10) {zh}) t ({memory}))',
-    own_says='(left r {zs} ≡ hostTraceOf g y₀ y₁ n (flatValues y₂) (flatMarks y₂) (length y₂) ({memory}))',
+    memory='lentMemory ds y₃ y₄ y₅ y₆ used',
+    first_says='(laid t {zf} {zh} ≡ flattenOf y₂ (laid 0 zeros nones))',
+    then_says='(left r {ws} ≡ hostTraceRaysOf g y₀ y₁ n (frontOf (t * 8) {zf}) (frontOf (t * 10) {zh}) t ({memory}))',
+    own_says='(left r {zs} ≡ hostTraceRaysOf g y₀ y₁ n (flatValues y₂) (flatTags y₂) (length y₂) ({memory}))',
     law='(given-is g y₀ y₁ n y₂ ({memory}) t {zf} {zh} (left r {ws}) e e′)')
 
 # what is known of the rows of plain numbers
@@ -437,7 +438,7 @@ def closing(t, me, calls, k, vals, tells, args, facts, goes):
     """that the walk meets the function's contract, for k lifetimes"""
     known = ' '.join(f'({x} : Triple 𝓤 (𝓣 .C #{f}) ({f.capitalize()} 𝓤 H A mem run))' for f, x in calls)
     spec = dash(t['function']) + '-spec'
-    cited = '\n    '.join(f"(cited 𝓤 H ({f.capitalize()} 𝓤 H (𝓖 .A) (𝓜 .mem) (𝓡 .run)) 𝓜 𝓡 code.env #{f} {f}-def.routine code.calls-{t['crate']}·{t['module']}·{dash(t[f])} ({f}-thm.met 𝓤 H 𝓜 𝓖 𝓡))" for f, _ in calls)
+    cited = '\n    '.join(f"(cited 𝓤 H ({f.capitalize()} 𝓤 H (𝓖 .A) (𝓜 .mem) (𝓡 .run)) 𝓜 𝓡 code.env #{f} {f}-def.routine code.calls-{dash(t['crate'])}·{t['module']}·{dash(t[f])} ({f}-thm.met 𝓤 H 𝓜 𝓖 𝓡))" for f, _ in calls)
     return f'''module _ {GIVE} (𝓣 : Tables 𝓤 H) {known} where
   {me}-walks : Walks 𝓤 H A {me}.ended stayed (WpFn 𝓤 H (𝓣 .C) (𝓣 .Λ) code.function) ({me}.clauses 𝓤 H A mem run)
   {me}-walks = walked 𝓤 H A {me}.ended stayed ({me}.clauses 𝓤 H A mem run) (WpFn 𝓤 H (𝓣 .C) (𝓣 .Λ) code.function)
@@ -487,7 +488,7 @@ def loop(t):
     mut = lambda j, nm, lft, x, n: own('Mut', nm, lft, S[j]['row'], x, f'v{up[j]} ({n})')
     # what is held between turns, first in the context
     held = [x for j in R for x in ('s%do' % j, 'k%d' % j)] + ['rowso', 'kr']
-    comment = f'''-- `{t['crate']}::{t['module']}::{t['function']}` meets its contract: a walk of its MIR, by hand, with a loop. A turn looks into the lent slice of structs, copies element i out, lends the {K} `&mut` slices again to `{t['step']}`, each for a lifetime that is made for the call, and has them back at what `{t['step']}` left.
+    comment = f'''-- `{t['crate']}::{t['module']}::{t['function']}` meets its contract: a walk of its MIR, by hand, with a loop. Each time round it looks into the lent slice of structs, copies element i out, lends the {K} `&mut` slices again to `{t['step']}`, each for a lifetime that is made for the call, and has them back at what `{t['step']}` left.
 -- The loop's index is a `Turn`: where the loop stands, the number and the lists there, and that what is left, put there, makes the whole.
 -- Written by tools/walk.py. Assumes nothing.
 '''

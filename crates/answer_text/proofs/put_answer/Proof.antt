@@ -23,9 +23,13 @@ same-length c = search needs
 returns : tie.Need-returns
 unfolding answerText
 returns c =
-    put-join _ _ _ _ _ _ _ (c .before .before .before .before .before .before .before .before .before .before .before .before .before .before .put-ledger .ensures)
-    (put-join _ _ _ _ _ _ _ (c .before .before .before .before .before .before .before .before .before .before .put-tallies .ensures)
-    (put-join _ _ _ _ _ _ _ (c .before .before .before .before .before .before .put-detectors .ensures) (c .before .before .put-maps .ensures)))
+    let at-put-detectors = c .before .before .before .before .before .before in
+    let put-detectors = at-put-detectors .put-detectors in
+    let put-tallies = at-put-detectors .before .before .before .before .put-tallies in
+    let put-ledger = at-put-detectors .before .before .before .before .before .before .before .before .put-ledger in
+    put-join _ _ _ _ _ _ _ (put-ledger .ensures)
+    (put-join _ _ _ _ _ _ _ (put-tallies .ensures)
+    (put-join _ _ _ _ _ _ _ (put-detectors .ensures) (c .before .before .put-maps .ensures)))
 
 pub put-answer-spec : {M : Type 1} → statement M
 put-answer-spec =

@@ -20,7 +20,9 @@ same-length c = search needs
 
 returns : tie.Need-returns
 unfolding bytes detectorsText
-returns c = put-join _ _ _ _ _ _ _ (c .before .before .before .before .before .before .put-all .ensures) (c .before .before .put-detectors .ensures)
+returns c =
+    let put-all = c .before .before .before .before .before .before .put-all in
+    put-join _ _ _ _ _ _ _ (put-all .ensures) (c .before .before .put-detectors .ensures)
 
 pub put-detectors-spec : {M : Type 1} → statement M
 put-detectors-spec =

@@ -33,8 +33,12 @@ same-length c = search needs
 returns : tie.Need-returns
 unfolding bytes ledgerText
 returns c =
-    put-join _ _ _ _ _ _ _ (c .before .before .before .before .before .before .before .before .put-all .ensures)
-    (rw (c .before .before .before .before .before .before .before .before .before .before .before .before .wide .ensures, c .before .before .before .before .before .before .before .before .before .before .before .wide2 .ensures) at (c .before .before .put-row .ensures))
+    let at-put-all = c .before .before .before .before .before .before .before .before in
+    let put-all = at-put-all .put-all in
+    let wide2 = at-put-all .before .before .before .wide2 in
+    let wide = at-put-all .before .before .before .before .wide in
+    put-join _ _ _ _ _ _ _ (put-all .ensures)
+    (rw (wide .ensures, wide2 .ensures) at (c .before .before .put-row .ensures))
 
 pub put-ledger-spec : {M : Type 1} → statement M
 put-ledger-spec =

@@ -20,7 +20,9 @@ same-length c = search needs
 
 returns : tie.Need-returns
 unfolding bytes mapsText
-returns c = put-join _ _ _ _ _ _ _ (c .before .before .before .before .before .before .put-all .ensures) (c .before .before .put-maps .ensures)
+returns c =
+    let put-all = c .before .before .before .before .before .before .put-all in
+    put-join _ _ _ _ _ _ _ (put-all .ensures) (c .before .before .put-maps .ensures)
 
 pub put-maps-spec : {M : Type 1} → statement M
 put-maps-spec =

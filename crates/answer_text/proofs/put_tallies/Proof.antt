@@ -48,8 +48,19 @@ same-length c = search needs
 returns : tie.Need-returns
 unfolding bytes talliesText
 returns c =
-    put-join _ _ _ _ _ _ _ (c .before .before .before .before .before .before .before .before .put-all .ensures)
-    (rw (c .before .before .before .before .before .before .before .before .before .before .before .before .before .before .before .before .before .wide .ensures, c .before .before .before .before .before .before .before .before .before .before .before .before .before .before .before .before .wide2 .ensures, c .before .before .before .before .before .before .before .before .before .before .before .before .before .before .before .wide3 .ensures, c .before .before .before .before .before .before .before .before .before .before .before .before .before .before .wide4 .ensures, c .before .before .before .before .before .before .before .before .before .before .before .before .before .wide5 .ensures, c .before .before .before .before .before .before .before .before .before .before .before .before .wide6 .ensures, c .before .before .before .before .before .before .before .before .before .before .before .wide7 .ensures) at (c .before .before .put-row .ensures))
+    let at-put-all = c .before .before .before .before .before .before .before .before in
+    let put-all = at-put-all .put-all in
+    let wide7 = at-put-all .before .before .before .wide7 in
+    let wide6 = at-put-all .before .before .before .before .wide6 in
+    let wide5 = at-put-all .before .before .before .before .before .wide5 in
+    let wide4 = at-put-all .before .before .before .before .before .before .wide4 in
+    let wide3 = at-put-all .before .before .before .before .before .before .before .wide3 in
+    let at-wide2 = at-put-all .before .before .before .before .before .before .before .before in
+    let wide2 = at-wide2 .wide2 in
+    let wide = at-wide2 .before .wide in
+    put-join _ _ _ _ _ _ _ (put-all .ensures)
+    (rw (wide .ensures, wide2 .ensures, wide3 .ensures, wide4 .ensures, wide5 .ensures, wide6 .ensures, wide7 .ensures) at
+    (c .before .before .put-row .ensures))
 
 pub put-tallies-spec : {M : Type 1} → statement M
 put-tallies-spec =

@@ -44,7 +44,9 @@ loop-less : tie.Need-loop-less Inv-loop μ-loop
 loop-less c = search needs
 
 loop-again : tie.Need-loop-again Inv-loop μ-loop
-loop-again c = turn benchRootChainOf (λ t x. sqrtOf (add binary64 x t)) none more _ _ _ _ _ (c .before .before .loop-test .taken) (c .sqrt .ensures) (c .before .before .before .loop .inv)
+loop-again c =
+    let loop = c .before .before .before .loop in
+    turn benchRootChainOf (λ t x. sqrtOf (add binary64 x t)) none more _ _ _ _ _ (c .before .before .loop-test .taken) (c .sqrt .ensures) (loop .inv)
 
 returns : tie.Need-returns Inv-loop μ-loop
 returns c = done benchRootChainOf (λ t x. sqrtOf (add binary64 x t)) none more _ _ _ _ (c .loop-test .left) (c .before .loop .inv)

@@ -44,7 +44,10 @@ loop-less : tie.Need-loop-less Inv-loop μ-loop
 loop-less c = search needs
 
 loop-again : tie.Need-loop-again Inv-loop μ-loop
-loop-again c = turn benchRootSumOf (λ t x. add binary64 t (sqrtOf x)) none more _ _ _ _ _ (c .before .before .loop-test .taken) (ap (add binary64 (c .before .before .before .loop .t)) (c .sqrt .ensures)) (c .before .before .before .loop .inv)
+loop-again c =
+    let loop = c .before .before .before .loop in
+    turn benchRootSumOf (λ t x. add binary64 t (sqrtOf x)) none more _ _ _ _ _ (c .before .before .loop-test .taken)
+    (ap (add binary64 (loop .t)) (c .sqrt .ensures)) (loop .inv)
 
 returns : tie.Need-returns Inv-loop μ-loop
 returns c = done benchRootSumOf (λ t x. add binary64 t (sqrtOf x)) none more _ _ _ _ (c .loop-test .left) (c .before .loop .inv)

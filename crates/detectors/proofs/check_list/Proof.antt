@@ -40,13 +40,20 @@ loop-less : tie.Need-loop-less Inv-loop μ-loop
 loop-less c = search needs
 
 loop-again : tie.Need-loop-again Inv-loop μ-loop
-loop-again c = (search needs, check-again _ _ _ _ _ (c .before .before .before .before .loop-test .taken) (c .before .before .check .ensures) (c .before .before .before .before .before .loop .inv .1) (c .enum-told .given .1))
+loop-again c =
+    let loop-test = c .before .before .before .before .loop-test in
+    let loop = c .before .before .before .before .before .loop in
+    (search needs, check-again _ _ _ _ _ (loop-test .taken) (c .before .before .check .ensures) (loop .inv .1) (c .enum-told .given .1))
 
 enum-known-error : tie.Need-enum-known-error Inv-loop μ-loop
 enum-known-error c = search needs
 
 returns : tie.Need-returns Inv-loop μ-loop
-returns c = check-refused _ _ _ _ _ (c .before .before .before .before .before .loop-test .taken) (c .before .before .before .check .ensures) (c .before .before .before .before .before .before .loop .inv .1) _ _ (c .before .error .given .1)
+returns c =
+    let check = c .before .before .before .check in
+    let loop-test = c .before .before .before .before .before .loop-test in
+    let loop = c .before .before .before .before .before .before .loop in
+    check-refused _ _ _ _ _ (loop-test .taken) (check .ensures) (loop .inv .1) _ _ (c .before .error .given .1)
 
 returns-2 : tie.Need-returns-2 Inv-loop μ-loop
 returns-2 c = check-end _ _ (c .before .loop .i) _ (c .loop-test .left) (c .before .loop .inv .1)

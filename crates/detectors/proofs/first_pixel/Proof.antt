@@ -29,7 +29,9 @@ pixels-requires : tie.Need-pixels-requires Inv-loop μ-loop
 pixels-requires c κs = search needs
 
 add-sum : tie.Need-add-sum Inv-loop μ-loop
-add-sum c = omega (arith, first-most _ _ _ (c .before .before .before .loop .inv .1), turn-most _ _ (c .pixels .ensures), c .before .before .before .loop .inv .0, c .before .before .loop-test .taken)
+add-sum c =
+    let loop = c .before .before .before .loop in
+    omega (arith, first-most _ _ _ (loop .inv .1), turn-most _ _ (c .pixels .ensures), loop .inv .0, c .before .before .loop-test .taken)
 
 add-i : tie.Need-add-i Inv-loop μ-loop
 add-i c = search needs

@@ -17,13 +17,21 @@ is-nearer-requires : tie.Need-is-nearer-requires
 is-nearer-requires c κs = search needs
 
 returns : tie.Need-returns
-returns c = nearer-seen _ _ _ _ (c .before .before .before .before .before .before .intersect-ray .ensures) _ (c .before .before .before .before .crossing .given .1) _ _ (c .before .before .distance .ensures) (c .before .is-nearer .ensures) (c .if1 .taken)
+returns c =
+    let crossing = c .before .before .before .before .crossing in
+    let intersect-ray = c .before .before .before .before .before .before .intersect-ray in
+    nearer-seen _ _ _ _ (intersect-ray .ensures) _ (crossing .given .1) _ _ (c .before .before .distance .ensures) (c .before .is-nearer .ensures)
+    (c .if1 .taken)
 
 enum-told : tie.Need-enum-told
 enum-told c = search needs
 
 returns-2 : tie.Need-returns-2
-returns-2 c = farther _ _ _ _ (c .before .before .before .before .before .before .intersect-ray .ensures) _ (c .before .before .before .before .crossing .given .1) _ _ (c .before .before .distance .ensures) (c .before .is-nearer .ensures) (c .if1 .left)
+returns-2 c =
+    let crossing = c .before .before .before .before .crossing in
+    let intersect-ray = c .before .before .before .before .before .before .intersect-ray in
+    farther _ _ _ _ (intersect-ray .ensures) _ (crossing .given .1) _ _ (c .before .before .distance .ensures) (c .before .is-nearer .ensures)
+    (c .if1 .left)
 
 returns-3 : tie.Need-returns-3
 returns-3 c = missed _ _ _ _ (c .before .before .intersect-ray .ensures) (c .enum-told .given .1)

@@ -8,7 +8,8 @@ use Rattle.given_rays.proofs.check_rays.Statement.{statement}
 use Rattle.given_rays.proofs.check_rays.Tie as tie
 
 abbrev Inv-loop : tie.InvT-loop
-Inv-loop rayValues rayTags rays solids i₀ i = checkRaysOf (givenAtOf rayValues rayTags) solids (rays - i) i ≡ checkRaysOf (givenAtOf rayValues rayTags) solids rays 0
+Inv-loop rayValues rayTags rays solids i₀ i =
+    checkRaysOf (givenAtOf rayValues rayTags) solids (rays - i) i ≡ checkRaysOf (givenAtOf rayValues rayTags) solids rays 0
 
 abbrev μ-loop : tie.MeasureT-loop
 μ-loop rayValues rayTags rays solids i₀ i = rays - i
@@ -32,13 +33,22 @@ loop-less : tie.Need-loop-less Inv-loop μ-loop
 loop-less c = search needs
 
 loop-again : tie.Need-loop-again Inv-loop μ-loop
-loop-again c = rays-again _ _ _ _ _ _ _ (c .before .before .before .before .loop-test .taken) (c .before .before .before .given-at .ensures) (c .before .before .check-ray .ensures) (c .before .before .before .before .before .loop .inv) (c .enum-told .given .1)
+loop-again c =
+    let given-at = c .before .before .before .given-at in
+    let loop-test = c .before .before .before .before .loop-test in
+    let loop = c .before .before .before .before .before .loop in
+    rays-again _ _ _ _ _ _ _ (loop-test .taken) (given-at .ensures) (c .before .before .check-ray .ensures) (loop .inv) (c .enum-told .given .1)
 
 enum-known-error : tie.Need-enum-known-error Inv-loop μ-loop
 enum-known-error c = search needs
 
 returns : tie.Need-returns Inv-loop μ-loop
-returns c = rays-refused _ _ _ _ _ _ _ (c .before .before .before .before .before .loop-test .taken) (c .before .before .before .before .given-at .ensures) (c .before .before .before .check-ray .ensures) (c .before .before .before .before .before .before .loop .inv) _ _ (c .before .error .given .1)
+returns c =
+    let check-ray = c .before .before .before .check-ray in
+    let given-at = c .before .before .before .before .given-at in
+    let loop-test = c .before .before .before .before .before .loop-test in
+    let loop = c .before .before .before .before .before .before .loop in
+    rays-refused _ _ _ _ _ _ _ (loop-test .taken) (given-at .ensures) (check-ray .ensures) (loop .inv) _ _ (c .before .error .given .1)
 
 returns-2 : tie.Need-returns-2 Inv-loop μ-loop
 returns-2 c = rays-end _ _ _ (c .before .loop .i) _ (c .loop-test .left) (c .before .loop .inv)

@@ -37,7 +37,11 @@ read-media-requires c κs = search needs
 
 returns : tie.Need-returns
 unfolding givenAtOf
-returns c = simp (← c .before .before .before .before .before .no-ray .ensures, le-leb _ _ (c .before .before .before .before .if1 .taken), le-leb _ _ (c .before .before .before .if2 .taken), ← c .before .before .read-ray .ensures, ← c .read-media .ensures)
+returns c =
+    let if2 = c .before .before .before .if2 in
+    let if1 = c .before .before .before .before .if1 in
+    let no-ray = c .before .before .before .before .before .no-ray in
+    simp (← no-ray .ensures, le-leb _ _ (if1 .taken), le-leb _ _ (if2 .taken), ← c .before .before .read-ray .ensures, ← c .read-media .ensures)
 
 returns-2 : tie.Need-returns-2
 unfolding givenAtOf

@@ -23,7 +23,10 @@ same-length : tie.Need-same-length
 same-length c = search needs
 
 returns : tie.Need-returns
-returns c = whole-in _ _ _ _ _ _ _ (host-short _ _ _) (c .before .before .before .before .before .before .before .put-text .ensures) (c .before .before .before .front .ensures) (c .before .before .put-whole .ensures)
+returns c =
+    let front = c .before .before .before .front in
+    let put-text = c .before .before .before .before .before .before .before .put-text in
+    whole-in _ _ _ _ _ _ _ (host-short _ _ _) (put-text .ensures) (front .ensures) (c .before .before .put-whole .ensures)
 
 pub nonseq-put-answer-spec : {M : Type 1} → statement M
 nonseq-put-answer-spec =

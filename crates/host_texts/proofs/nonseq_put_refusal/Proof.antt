@@ -23,7 +23,10 @@ same-length : tie.Need-same-length
 same-length c = search needs
 
 returns : tie.Need-returns
-returns c = whole-in _ _ _ _ _ _ _ (refusal-fits _ _) (c .before .before .before .before .before .before .before .put-refusal .ensures) (c .before .before .before .front .ensures) (c .before .before .put-whole .ensures)
+returns c =
+    let front = c .before .before .before .front in
+    let put-refusal = c .before .before .before .before .before .before .before .put-refusal in
+    whole-in _ _ _ _ _ _ _ (refusal-fits _ _) (put-refusal .ensures) (front .ensures) (c .before .before .put-whole .ensures)
 
 pub nonseq-put-refusal-spec : {M : Type 1} → statement M
 nonseq-put-refusal-spec =

@@ -35,7 +35,11 @@ same-length-8 : tie.Need-same-length-8
 same-length-8 c = search needs
 
 returns : tie.Need-returns
-returns c = scene-same (c .before .before .before .before .before .before .before .before .before .before .before .before .before .before .before .before .before .read-scene .result .check) _ _ _ _ _ (c .before .before .before .before .before .before .before .before .before .before .before .before .before .before .before .before .before .read-scene .ensures) _ (c .checked .ensures)
+returns c =
+    let after-read-scene = c .before .before .before .before .before .before .before .before in
+    let after-read-scene-2 = after-read-scene .before .before .before .before .before .before .before .before in
+    let read-scene = after-read-scene-2 .before .read-scene in
+    scene-same (read-scene .result .check) _ _ _ _ _ (read-scene .ensures) _ (c .checked .ensures)
 
 pub nonseq-read-scene-spec : {M : Type 1} → statement M
 nonseq-read-scene-spec =

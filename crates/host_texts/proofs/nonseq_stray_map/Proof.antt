@@ -24,7 +24,10 @@ same-length : tie.Need-same-length
 same-length c = search needs
 
 returns : tie.Need-returns
-returns c = whole-in _ _ _ _ _ _ _ (answer-fits _) (c .before .before .before .before .before .before .before .put-stray-map .ensures) (c .before .before .before .front .ensures) (c .before .before .put-whole .ensures)
+returns c =
+    let front = c .before .before .before .front in
+    let put-stray-map = c .before .before .before .before .before .before .before .put-stray-map in
+    whole-in _ _ _ _ _ _ _ (answer-fits _) (put-stray-map .ensures) (front .ensures) (c .before .before .put-whole .ensures)
 
 pub nonseq-stray-map-spec : {M : Type 1} → statement M
 nonseq-stray-map-spec =

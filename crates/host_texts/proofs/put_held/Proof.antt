@@ -19,7 +19,12 @@ same-length c = search needs
 
 returns : tie.Need-returns
 unfolding heldText
-returns c = simp (le-leb _ _ (c .before .before .before .before .before .before .before .if1 .taken), ← c .before .before .before .before .before .before .is-held .ensures, c .before .before .before .before .before .if2 .taken, ← c .before .before .before .before .numbered .ensures, ← c .before .before .put-answer .ensures)
+returns c =
+    let numbered = c .before .before .before .before .numbered in
+    let if2 = c .before .before .before .before .before .if2 in
+    let is-held = c .before .before .before .before .before .before .is-held in
+    let if1 = c .before .before .before .before .before .before .before .if1 in
+    simp (le-leb _ _ (if1 .taken), ← is-held .ensures, if2 .taken, ← numbered .ensures, ← c .before .before .put-answer .ensures)
 
 put-refusal-requires : tie.Need-put-refusal-requires
 put-refusal-requires c κs = search needs
@@ -29,7 +34,11 @@ same-length-2 c = search needs
 
 returns-2 : tie.Need-returns-2
 unfolding heldText
-returns-2 c = simp (le-leb _ _ (c .before .before .before .before .before .before .if1 .taken), ← c .before .before .before .before .before .is-held .ensures, c .before .before .before .before .if2 .left, ← c .before .before .put-refusal .ensures)
+returns-2 c =
+    let if2 = c .before .before .before .before .if2 in
+    let is-held = c .before .before .before .before .before .is-held in
+    let if1 = c .before .before .before .before .before .before .if1 in
+    simp (le-leb _ _ (if1 .taken), ← is-held .ensures, if2 .left, ← c .before .before .put-refusal .ensures)
 
 put-refusal-requires-2 : tie.Need-put-refusal-requires-2
 put-refusal-requires-2 c κs = search needs

@@ -19,7 +19,11 @@ same-length c = search needs
 
 returns : tie.Need-returns
 unfolding hostAnswerText
-returns c = simp (le-leb _ _ (c .before .before .before .before .before .before .before .if1 .taken), ← c .before .before .before .before .before .before .check .ensures, c .before .before .before .before .enum-told .given .1, ← c .before .before .put-held .ensures)
+returns c =
+    let the-enum-told = c .before .before .before .before .enum-told in
+    let check = c .before .before .before .before .before .before .check in
+    let if1 = c .before .before .before .before .before .before .before .if1 in
+    simp (le-leb _ _ (if1 .taken), ← check .ensures, the-enum-told .given .1, ← c .before .before .put-held .ensures)
 
 enum-known-error : tie.Need-enum-known-error
 enum-known-error c = search needs
@@ -35,7 +39,13 @@ same-length-2 c = search needs
 
 returns-2 : tie.Need-returns-2
 unfolding hostAnswerText
-returns-2 c = simp (le-leb _ _ (c .before .before .before .before .before .before .before .before .before .if1 .taken), ← c .before .before .before .before .before .before .before .before .check .ensures, c .before .before .before .before .before .before .error .given .1, ← c .before .before .before .number .ensures, ← c .before .before .put-refusal .ensures)
+returns-2 c =
+    let number = c .before .before .before .number in
+    let error = c .before .before .before .before .before .before .error in
+    let at-check = c .before .before .before .before .before .before .before .before in
+    let check = at-check .check in
+    let if1 = at-check .before .if1 in
+    simp (le-leb _ _ (if1 .taken), ← check .ensures, error .given .1, ← number .ensures, ← c .before .before .put-refusal .ensures)
 
 put-refusal-requires-2 : tie.Need-put-refusal-requires-2
 put-refusal-requires-2 c κs = search needs

@@ -27,13 +27,19 @@ array-copy-out-s : tie.Need-array-copy-out-s Inv-loop μ-loop
 array-copy-out-s c = search needs
 
 returns : tie.Need-returns Inv-loop μ-loop
-returns c = last-here _ _ _ (c .before .before .before .before .loop-test .taken) (c .if1 .taken) ∙ c .before .before .before .before .before .loop .inv .1 .1
+returns c =
+    let loop-test = c .before .before .before .before .loop-test in
+    let loop = c .before .before .before .before .before .loop in
+    last-here _ _ _ (loop-test .taken) (c .if1 .taken) ∙ loop .inv .1 .1
 
 loop-less : tie.Need-loop-less Inv-loop μ-loop
 loop-less c = search needs
 
 loop-again : tie.Need-loop-again Inv-loop μ-loop
-loop-again c = (search needs, (search needs, last-before _ _ _ (c .before .before .before .before .loop-test .taken) (c .if1 .left) ∙ c .before .before .before .before .before .loop .inv .1 .1))
+loop-again c =
+    let loop-test = c .before .before .before .before .loop-test in
+    let loop = c .before .before .before .before .before .loop in
+    (search needs, (search needs, last-before _ _ _ (loop-test .taken) (c .if1 .left) ∙ loop .inv .1 .1))
 
 returns-2 : tie.Need-returns-2 Inv-loop μ-loop
 returns-2 c = last-none _ _ _ (c .loop-test .left) ∙ c .before .loop .inv .1 .1

@@ -9,7 +9,8 @@ use Rattle.printing.proofs.put_hex.Statement.{statement}
 use Rattle.printing.proofs.put_hex.Tie as tie
 
 abbrev Inv-loop : tie.InvT-loop
-Inv-loop buf₀ at n p₀ rest₀ k₀ buf p rest k = (k ≤ 16) × (rest < 2 ^ 64) × (length buf ≡ length buf₀) × (putAll buf p (hexText (16 - k) rest) ≡ putAll buf₀ at (hexText 16 n))
+Inv-loop buf₀ at n p₀ rest₀ k₀ buf p rest k =
+    (k ≤ 16) × (rest < 2 ^ 64) × (length buf ≡ length buf₀) × (putAll buf p (hexText (16 - k) rest) ≡ putAll buf₀ at (hexText 16 n))
 
 abbrev μ-loop : tie.MeasureT-loop
 μ-loop buf₀ at n p₀ rest₀ k₀ buf p rest k = 16 - k

@@ -16,7 +16,11 @@ use Rattle.run.proofs.advance.Tie as tie
 
 abbrev Inv-loop : tie.InvT-loop
 Inv-loop config solidValues solidTags count faces rayValues rayTags steps flux₀ hits₀ hitValues₀ hitTags₀ used check₀ stack₀ left₀ report₀ ds₀ n₀ k₀ flux hits hitValues hitTags check stack left report ds n k =
-    (length flux ≡ length flux₀) × (length hits ≡ length hits₀) × (length hitValues ≡ length hitValues₀) × (length hitTags ≡ length hitTags₀) × (andThen (drive recordOf (listedScene solidValues solidTags count faces config) (givenAtOf rayValues rayTags) k) (asOutcome check (lentMemory ds flux hits hitValues hitTags n)) (record { stack = stack; left = left; report = report }) ≡ drive recordOf (listedScene solidValues solidTags count faces config) (givenAtOf rayValues rayTags) steps (lentMemory ds₀ flux₀ hits₀ hitValues₀ hitTags₀ used) (record { stack = stack₀; left = left₀; report = report₀ }))
+    (length flux ≡ length flux₀) × (length hits ≡ length hits₀) × (length hitValues ≡ length hitValues₀) × (length hitTags ≡ length hitTags₀)
+    × (andThen (drive recordOf (listedScene solidValues solidTags count faces config) (givenAtOf rayValues rayTags) k)
+    (asOutcome check (lentMemory ds flux hits hitValues hitTags n)) (record { stack = stack; left = left; report = report })
+    ≡ drive recordOf (listedScene solidValues solidTags count faces config) (givenAtOf rayValues rayTags) steps
+    (lentMemory ds₀ flux₀ hits₀ hitValues₀ hitTags₀ used) (record { stack = stack₀; left = left₀; report = report₀ }))
 
 abbrev μ-loop : tie.MeasureT-loop
 μ-loop config solidValues solidTags count faces rayValues rayTags steps flux₀ hits₀ hitValues₀ hitTags₀ used check₀ stack₀ left₀ report₀ ds₀ n₀ k₀ flux hits hitValues hitTags check stack left report ds n k =
@@ -74,10 +78,42 @@ placed-requires : tie.Need-placed-requires Inv-loop μ-loop
 placed-requires c κs = search needs
 
 loop-less : tie.Need-loop-less Inv-loop μ-loop
-loop-less c = omega (arith, goes-pos _ _ _ _ _ (c .before .before .before .before .before .before .before .before .before .before .before .before .before .before .before .before .before .before .before .before .before .before .before .before .before .before .before .before .before .goes-on .ensures) (c .before .before .before .before .before .before .before .before .before .before .before .before .before .before .before .before .before .before .before .before .before .before .before .before .before .before .before .before .if1 .taken))
+loop-less c =
+    let after-if1 = c .before .before .before .before .before .before .before .before in
+    let after-if1-2 = after-if1 .before .before .before .before .before .before .before .before in
+    let after-if1-3 = after-if1-2 .before .before .before .before .before .before .before .before in
+    let if1 = after-if1-3 .before .before .before .before .if1 in
+    let goes-on = after-if1-3 .before .before .before .before .before .goes-on in
+    omega (arith, goes-pos _ _ _ _ _ (goes-on .ensures) (if1 .taken))
 
 loop-again : tie.Need-loop-again Inv-loop μ-loop
-loop-again c = (c .before .before .before .before .before .before .before .before .before .before .before .«record» .kept .1 .0 ∙ c .before .before .before .before .before .before .before .before .before .before .before .before .before .before .before .before .before .before .before .before .before .before .before .before .before .before .before .before .before .before .loop .inv .0, c .before .before .before .before .before .before .before .before .before .before .before .«record» .kept .1 .1 .0 ∙ c .before .before .before .before .before .before .before .before .before .before .before .before .before .before .before .before .before .before .before .before .before .before .before .before .before .before .before .before .before .before .loop .inv .1, c .before .before .before .before .before .before .before .before .before .before .before .«record» .kept .1 .1 .1 .0 ∙ c .before .before .before .before .before .before .before .before .before .before .before .before .before .before .before .before .before .before .before .before .before .before .before .before .before .before .before .before .before .before .loop .inv .2, c .before .before .before .before .before .before .before .before .before .before .before .«record» .kept .1 .1 .1 .1 .0 ∙ c .before .before .before .before .before .before .before .before .before .before .before .before .before .before .before .before .before .before .before .before .before .before .before .before .before .before .before .before .before .before .loop .inv .3, step-hit _ _ _ _ _ (c .before .before .before .before .before .before .before .before .before .before .before .before .before .before .before .before .before .before .before .before .before .before .before .before .before .before .before .before .before .before .loop .stack) _ _ _ _ (c .before .before .before .before .before .before .before .before .before .before .before .before .before .before .before .before .before .before .before .before .before .before .before .before .before .before .before .before .before .goes-on .ensures) (c .before .before .before .before .before .before .before .before .before .before .before .before .before .before .before .before .before .before .before .before .before .before .before .before .before .before .before .before .if1 .taken) (c .before .before .before .before .before .before .before .before .before .before .before .before .before .before .before .before .before .before .before .before .before .before .before .before .before .before .before .before .before .before .loop .inv .4) (c .before .before .before .before .before .before .before .before .before .before .before .before .before .before .before .before .before .before .before .before .before .before .before .before .before .take .result) (taken-is _ (c .before .before .before .before .before .before .before .before .before .before .before .before .before .before .before .before .before .before .before .before .before .before .before .before .before .before .before .before .before .before .loop .stack) _ _ (c .before .before .before .before .before .before .before .before .before .before .before .before .before .before .before .before .before .before .before .before .before .before .before .before .before .before .before .top-at .ensures .0) _ refl (c .before .before .before .before .before .before .before .before .before .before .before .before .before .before .before .before .before .before .before .before .before .before .before .before .before .take .result) (c .before .before .before .before .before .before .before .before .before .before .before .before .before .before .before .before .before .before .before .before .before .before .before .before .before .take .ensures)) (c .before .before .before .before .before .before .before .before .before .before .before .before .before .before .before .before .before .before .before .before .before .before .before .before .take-step .result) (c .before .before .before .before .before .before .before .before .before .before .before .before .before .before .before .before .before .before .before .before .before .before .before .before .take-step .ensures) (c .before .before .before .before .before .before .before .before .before .before .before .before .before .before .before .before .before .before .before .before .before .before .before .after .result) (c .before .before .before .before .before .before .before .before .before .before .before .before .before .before .before .before .before .before .before .before .before .before .before .after .ensures) _ (after-hit (c .before .before .before .before .before .before .before .before .before .before .before .before .before .before .before .before .before .before .before .before .before .before .before .before .before .before .before .before .before .before .loop .stack) (asStep (c .before .before .before .before .before .before .before .before .before .before .before .before .before .before .before .before .before .before .before .before .before .before .before .before .take-step .result)) _ _ _ (c .before .before .before .before .before .before .before .before .before .before .before .before .before .before .before .before .before .before .before .before .before .before .under .ensures) (c .before .before .before .before .before .before .before .before .before .before .before .before .before .before .before .before .before .before .before .before .before .before .before .before .take-step .ensures) (c .before .before .before .before .before .before .before .before .before .before .before .before .before .before .before .before .before .before .before .hit-in .result) (c .before .before .before .before .before .before .before .before .before .before .before .before .before .before .before .before .before .before .before .hit-in .ensures) _ (c .before .before .before .before .before .before .before .before .before .before .before .before .before .before .before .before .before .h .given .1) _ (c .before .before .before .before .before .before .before .before .before .before .before .before .before .before .before .before .before .before .before .before .height .ensures)) (c .before .before .before .before .before .before .before .before .before .before .before .before .before .before .before .before .before .before .before .hit-in .result) (c .before .before .before .before .before .before .before .before .before .before .before .before .before .before .before .before .before .before .before .hit-in .ensures) _ (c .before .before .before .before .before .before .before .before .before .before .before .before .before .before .before .before .before .h .given .1) _ (c .before .before .before .before .before .before .before .before .before .before .before .«record» .result .check) (c .before .before .before .before .before .before .before .before .before .before .before .«record» .ensures) (c .before .settled .result) (c .before .settled .ensures) (c .placed .result) (c .placed .ensures))
+loop-again c =
+    let after-record = c .before .before .before .before .before .before .before .before in
+    let the-record = after-record .before .before .before .«record» in
+    let after-h = after-record .before .before .before .before .before .before .before .before in
+    let h = after-h .before .h in
+    let hit-in = after-h .before .before .before .hit-in in
+    let height = after-h .before .before .before .before .height in
+    let under = after-h .before .before .before .before .before .before .under in
+    let after = after-h .before .before .before .before .before .before .before .after in
+    let at-take-step = after-h .before .before .before .before .before .before .before .before in
+    let take-step = at-take-step .take-step in
+    let take = at-take-step .before .take in
+    let top-at = at-take-step .before .before .before .top-at in
+    let if1 = at-take-step .before .before .before .before .if1 in
+    let goes-on = at-take-step .before .before .before .before .before .goes-on in
+    let loop = at-take-step .before .before .before .before .before .before .loop in (
+      the-record .kept .1 .0 ∙ loop .inv .0,
+      the-record .kept .1 .1 .0 ∙ loop .inv .1,
+      the-record .kept .1 .1 .1 .0 ∙ loop .inv .2,
+      the-record .kept .1 .1 .1 .1 .0 ∙ loop .inv .3,
+      step-hit _ _ _ _ _ (loop .stack) _ _ _ _ (goes-on .ensures) (if1 .taken) (loop .inv .4) (take .result)
+          (taken-is _ (loop .stack) _ _ (top-at .ensures .0) _ refl (take .result) (take .ensures)) (take-step .result) (take-step .ensures)
+          (after .result) (after .ensures) _
+          (after-hit (loop .stack) (asStep (take-step .result)) _ _ _ (under .ensures) (take-step .ensures) (hit-in .result) (hit-in .ensures) _
+          (h .given .1) _ (height .ensures)) (hit-in .result) (hit-in .ensures) _ (h .given .1) _ (the-record .result .check) (the-record .ensures)
+          (c .before .settled .result) (c .before .settled .ensures) (c .placed .result) (c .placed .ensures),
+    )
 
 enum-told : tie.Need-enum-told Inv-loop μ-loop
 enum-told c = search needs
@@ -107,10 +143,41 @@ element-set-from-transmitted : tie.Need-element-set-from-transmitted Inv-loop μ
 element-set-from-transmitted c = search needs
 
 loop-less-2 : tie.Need-loop-less-2 Inv-loop μ-loop
-loop-less-2 c = omega (arith, goes-pos _ _ _ _ _ (c .before .before .before .before .before .before .before .before .before .before .before .before .before .before .before .before .before .before .goes-on .ensures) (c .before .before .before .before .before .before .before .before .before .before .before .before .before .before .before .before .before .if1 .taken))
+loop-less-2 c =
+    let after-if1 = c .before .before .before .before .before .before .before .before in
+    let after-if1-2 = after-if1 .before .before .before .before .before .before .before .before in
+    let if1 = after-if1-2 .before .if1 in
+    let goes-on = after-if1-2 .before .before .goes-on in
+    omega (arith, goes-pos _ _ _ _ _ (goes-on .ensures) (if1 .taken))
 
 loop-again-2 : tie.Need-loop-again-2 Inv-loop μ-loop
-loop-again-2 c = ((c .before .before .before .before .before .before .before .before .before .before .before .before .before .before .before .before .before .before .before .loop .inv .0), (c .before .before .before .before .before .before .before .before .before .before .before .before .before .before .before .before .before .before .before .loop .inv .1), (c .before .before .before .before .before .before .before .before .before .before .before .before .before .before .before .before .before .before .before .loop .inv .2), (c .before .before .before .before .before .before .before .before .before .before .before .before .before .before .before .before .before .before .before .loop .inv .3), step-no-hit _ _ _ _ _ (c .before .before .before .before .before .before .before .before .before .before .before .before .before .before .before .before .before .before .before .loop .stack) _ _ _ _ (c .before .before .before .before .before .before .before .before .before .before .before .before .before .before .before .before .before .before .goes-on .ensures) (c .before .before .before .before .before .before .before .before .before .before .before .before .before .before .before .before .before .if1 .taken) (c .before .before .before .before .before .before .before .before .before .before .before .before .before .before .before .before .before .before .before .loop .inv .4) (c .before .before .before .before .before .before .before .before .before .before .before .before .before .before .take .result) (taken-is _ (c .before .before .before .before .before .before .before .before .before .before .before .before .before .before .before .before .before .before .before .loop .stack) _ _ (c .before .before .before .before .before .before .before .before .before .before .before .before .before .before .before .before .top-at .ensures .0) _ refl (c .before .before .before .before .before .before .before .before .before .before .before .before .before .before .take .result) (c .before .before .before .before .before .before .before .before .before .before .before .before .before .before .take .ensures)) (c .before .before .before .before .before .before .before .before .before .before .before .before .before .take-step .result) (c .before .before .before .before .before .before .before .before .before .before .before .before .before .take-step .ensures) (c .before .before .before .before .before .before .before .before .before .before .before .before .after .result) (c .before .before .before .before .before .before .before .before .before .before .before .before .after .ensures) _ (after-is (c .before .before .before .before .before .before .before .before .before .before .before .before .before .before .before .before .before .before .before .loop .stack) (asStep (c .before .before .before .before .before .before .before .before .before .before .before .before .before .take-step .result)) _ _ (c .before .before .before .before .before .before .before .before .before .before .before .under .ensures) (c .before .before .before .before .before .before .before .before .before .before .slot .ensures .0) (c .before .before .rays-coming .result) Coming.Both (c .before .before .rays-coming .ensures) (c .enum-told2 .given .1) _ (c .before .before .before .before .before .before .before .before .before .height .ensures)) (c .before .before .before .before .before .before .before .before .hit-in .result) (c .before .before .before .before .before .before .before .before .hit-in .ensures) (c .before .before .before .before .before .before .enum-told .given .1) (c .before .before .before .before .before .refusal-in .result) (c .before .before .before .before .before .refusal-in .ensures))
+loop-again-2 c =
+    let refusal-in = c .before .before .before .before .before .refusal-in in
+    let the-enum-told = c .before .before .before .before .before .before .enum-told in
+    let at-hit-in = c .before .before .before .before .before .before .before .before in
+    let hit-in = at-hit-in .hit-in in
+    let height = at-hit-in .before .height in
+    let slot = at-hit-in .before .before .slot in
+    let under = at-hit-in .before .before .before .under in
+    let after = at-hit-in .before .before .before .before .after in
+    let take-step = at-hit-in .before .before .before .before .before .take-step in
+    let take = at-hit-in .before .before .before .before .before .before .take in
+    let at-top-at = at-hit-in .before .before .before .before .before .before .before .before in
+    let top-at = at-top-at .top-at in
+    let if1 = at-top-at .before .if1 in
+    let goes-on = at-top-at .before .before .goes-on in
+    let loop = at-top-at .before .before .before .loop in (
+      loop .inv .0,
+      loop .inv .1,
+      loop .inv .2,
+      loop .inv .3,
+      step-no-hit _ _ _ _ _ (loop .stack) _ _ _ _ (goes-on .ensures) (if1 .taken) (loop .inv .4) (take .result)
+          (taken-is _ (loop .stack) _ _ (top-at .ensures .0) _ refl (take .result) (take .ensures)) (take-step .result) (take-step .ensures)
+          (after .result) (after .ensures) _
+          (after-is (loop .stack) (asStep (take-step .result)) _ _ (under .ensures) (slot .ensures .0) (c .before .before .rays-coming .result)
+          Coming.Both (c .before .before .rays-coming .ensures) (c .enum-told2 .given .1) _ (height .ensures)) (hit-in .result) (hit-in .ensures)
+          (the-enum-told .given .1) (refusal-in .result) (refusal-in .ensures),
+    )
 
 enum-told-3 : tie.Need-enum-told-3 Inv-loop μ-loop
 enum-told-3 c = search needs
@@ -122,10 +189,41 @@ element-set-from-reflected-2 : tie.Need-element-set-from-reflected-2 Inv-loop μ
 element-set-from-reflected-2 c = search needs
 
 loop-less-3 : tie.Need-loop-less-3 Inv-loop μ-loop
-loop-less-3 c = omega (arith, goes-pos _ _ _ _ _ (c .before .before .before .before .before .before .before .before .before .before .before .before .before .before .before .before .before .before .goes-on .ensures) (c .before .before .before .before .before .before .before .before .before .before .before .before .before .before .before .before .before .if1 .taken))
+loop-less-3 c =
+    let after-if1 = c .before .before .before .before .before .before .before .before in
+    let after-if1-2 = after-if1 .before .before .before .before .before .before .before .before in
+    let if1 = after-if1-2 .before .if1 in
+    let goes-on = after-if1-2 .before .before .goes-on in
+    omega (arith, goes-pos _ _ _ _ _ (goes-on .ensures) (if1 .taken))
 
 loop-again-3 : tie.Need-loop-again-3 Inv-loop μ-loop
-loop-again-3 c = ((c .before .before .before .before .before .before .before .before .before .before .before .before .before .before .before .before .before .before .before .loop .inv .0), (c .before .before .before .before .before .before .before .before .before .before .before .before .before .before .before .before .before .before .before .loop .inv .1), (c .before .before .before .before .before .before .before .before .before .before .before .before .before .before .before .before .before .before .before .loop .inv .2), (c .before .before .before .before .before .before .before .before .before .before .before .before .before .before .before .before .before .before .before .loop .inv .3), step-no-hit _ _ _ _ _ (c .before .before .before .before .before .before .before .before .before .before .before .before .before .before .before .before .before .before .before .loop .stack) _ _ _ _ (c .before .before .before .before .before .before .before .before .before .before .before .before .before .before .before .before .before .before .goes-on .ensures) (c .before .before .before .before .before .before .before .before .before .before .before .before .before .before .before .before .before .if1 .taken) (c .before .before .before .before .before .before .before .before .before .before .before .before .before .before .before .before .before .before .before .loop .inv .4) (c .before .before .before .before .before .before .before .before .before .before .before .before .before .before .take .result) (taken-is _ (c .before .before .before .before .before .before .before .before .before .before .before .before .before .before .before .before .before .before .before .loop .stack) _ _ (c .before .before .before .before .before .before .before .before .before .before .before .before .before .before .before .before .top-at .ensures .0) _ refl (c .before .before .before .before .before .before .before .before .before .before .before .before .before .before .take .result) (c .before .before .before .before .before .before .before .before .before .before .before .before .before .before .take .ensures)) (c .before .before .before .before .before .before .before .before .before .before .before .before .before .take-step .result) (c .before .before .before .before .before .before .before .before .before .before .before .before .before .take-step .ensures) (c .before .before .before .before .before .before .before .before .before .before .before .before .after .result) (c .before .before .before .before .before .before .before .before .before .before .before .before .after .ensures) _ (after-is (c .before .before .before .before .before .before .before .before .before .before .before .before .before .before .before .before .before .before .before .loop .stack) (asStep (c .before .before .before .before .before .before .before .before .before .before .before .before .before .take-step .result)) _ _ (c .before .before .before .before .before .before .before .before .before .before .before .under .ensures) (c .before .before .before .before .before .before .before .before .before .before .slot .ensures .0) (c .before .before .rays-coming .result) Coming.Reflected (c .before .before .rays-coming .ensures) (c .enum-told3 .given .1) _ (c .before .before .before .before .before .before .before .before .before .height .ensures)) (c .before .before .before .before .before .before .before .before .hit-in .result) (c .before .before .before .before .before .before .before .before .hit-in .ensures) (c .before .before .before .before .before .before .enum-told .given .1) (c .before .before .before .before .before .refusal-in .result) (c .before .before .before .before .before .refusal-in .ensures))
+loop-again-3 c =
+    let refusal-in = c .before .before .before .before .before .refusal-in in
+    let the-enum-told = c .before .before .before .before .before .before .enum-told in
+    let at-hit-in = c .before .before .before .before .before .before .before .before in
+    let hit-in = at-hit-in .hit-in in
+    let height = at-hit-in .before .height in
+    let slot = at-hit-in .before .before .slot in
+    let under = at-hit-in .before .before .before .under in
+    let after = at-hit-in .before .before .before .before .after in
+    let take-step = at-hit-in .before .before .before .before .before .take-step in
+    let take = at-hit-in .before .before .before .before .before .before .take in
+    let at-top-at = at-hit-in .before .before .before .before .before .before .before .before in
+    let top-at = at-top-at .top-at in
+    let if1 = at-top-at .before .if1 in
+    let goes-on = at-top-at .before .before .goes-on in
+    let loop = at-top-at .before .before .before .loop in (
+      loop .inv .0,
+      loop .inv .1,
+      loop .inv .2,
+      loop .inv .3,
+      step-no-hit _ _ _ _ _ (loop .stack) _ _ _ _ (goes-on .ensures) (if1 .taken) (loop .inv .4) (take .result)
+          (taken-is _ (loop .stack) _ _ (top-at .ensures .0) _ refl (take .result) (take .ensures)) (take-step .result) (take-step .ensures)
+          (after .result) (after .ensures) _
+          (after-is (loop .stack) (asStep (take-step .result)) _ _ (under .ensures) (slot .ensures .0) (c .before .before .rays-coming .result)
+          Coming.Reflected (c .before .before .rays-coming .ensures) (c .enum-told3 .given .1) _ (height .ensures)) (hit-in .result) (hit-in .ensures)
+          (the-enum-told .given .1) (refusal-in .result) (refusal-in .ensures),
+    )
 
 enum-told-4 : tie.Need-enum-told-4 Inv-loop μ-loop
 enum-told-4 c = search needs
@@ -137,19 +235,81 @@ element-set-from-transmitted-2 : tie.Need-element-set-from-transmitted-2 Inv-loo
 element-set-from-transmitted-2 c = search needs
 
 loop-less-4 : tie.Need-loop-less-4 Inv-loop μ-loop
-loop-less-4 c = omega (arith, goes-pos _ _ _ _ _ (c .before .before .before .before .before .before .before .before .before .before .before .before .before .before .before .before .before .before .goes-on .ensures) (c .before .before .before .before .before .before .before .before .before .before .before .before .before .before .before .before .before .if1 .taken))
+loop-less-4 c =
+    let after-if1 = c .before .before .before .before .before .before .before .before in
+    let after-if1-2 = after-if1 .before .before .before .before .before .before .before .before in
+    let if1 = after-if1-2 .before .if1 in
+    let goes-on = after-if1-2 .before .before .goes-on in
+    omega (arith, goes-pos _ _ _ _ _ (goes-on .ensures) (if1 .taken))
 
 loop-again-4 : tie.Need-loop-again-4 Inv-loop μ-loop
-loop-again-4 c = ((c .before .before .before .before .before .before .before .before .before .before .before .before .before .before .before .before .before .before .before .loop .inv .0), (c .before .before .before .before .before .before .before .before .before .before .before .before .before .before .before .before .before .before .before .loop .inv .1), (c .before .before .before .before .before .before .before .before .before .before .before .before .before .before .before .before .before .before .before .loop .inv .2), (c .before .before .before .before .before .before .before .before .before .before .before .before .before .before .before .before .before .before .before .loop .inv .3), step-no-hit _ _ _ _ _ (c .before .before .before .before .before .before .before .before .before .before .before .before .before .before .before .before .before .before .before .loop .stack) _ _ _ _ (c .before .before .before .before .before .before .before .before .before .before .before .before .before .before .before .before .before .before .goes-on .ensures) (c .before .before .before .before .before .before .before .before .before .before .before .before .before .before .before .before .before .if1 .taken) (c .before .before .before .before .before .before .before .before .before .before .before .before .before .before .before .before .before .before .before .loop .inv .4) (c .before .before .before .before .before .before .before .before .before .before .before .before .before .before .take .result) (taken-is _ (c .before .before .before .before .before .before .before .before .before .before .before .before .before .before .before .before .before .before .before .loop .stack) _ _ (c .before .before .before .before .before .before .before .before .before .before .before .before .before .before .before .before .top-at .ensures .0) _ refl (c .before .before .before .before .before .before .before .before .before .before .before .before .before .before .take .result) (c .before .before .before .before .before .before .before .before .before .before .before .before .before .before .take .ensures)) (c .before .before .before .before .before .before .before .before .before .before .before .before .before .take-step .result) (c .before .before .before .before .before .before .before .before .before .before .before .before .before .take-step .ensures) (c .before .before .before .before .before .before .before .before .before .before .before .before .after .result) (c .before .before .before .before .before .before .before .before .before .before .before .before .after .ensures) _ (after-is (c .before .before .before .before .before .before .before .before .before .before .before .before .before .before .before .before .before .before .before .loop .stack) (asStep (c .before .before .before .before .before .before .before .before .before .before .before .before .before .take-step .result)) _ _ (c .before .before .before .before .before .before .before .before .before .before .before .under .ensures) (c .before .before .before .before .before .before .before .before .before .before .slot .ensures .0) (c .before .before .rays-coming .result) Coming.Transmitted (c .before .before .rays-coming .ensures) (c .enum-told4 .given .1) _ (c .before .before .before .before .before .before .before .before .before .height .ensures)) (c .before .before .before .before .before .before .before .before .hit-in .result) (c .before .before .before .before .before .before .before .before .hit-in .ensures) (c .before .before .before .before .before .before .enum-told .given .1) (c .before .before .before .before .before .refusal-in .result) (c .before .before .before .before .before .refusal-in .ensures))
+loop-again-4 c =
+    let refusal-in = c .before .before .before .before .before .refusal-in in
+    let the-enum-told = c .before .before .before .before .before .before .enum-told in
+    let at-hit-in = c .before .before .before .before .before .before .before .before in
+    let hit-in = at-hit-in .hit-in in
+    let height = at-hit-in .before .height in
+    let slot = at-hit-in .before .before .slot in
+    let under = at-hit-in .before .before .before .under in
+    let after = at-hit-in .before .before .before .before .after in
+    let take-step = at-hit-in .before .before .before .before .before .take-step in
+    let take = at-hit-in .before .before .before .before .before .before .take in
+    let at-top-at = at-hit-in .before .before .before .before .before .before .before .before in
+    let top-at = at-top-at .top-at in
+    let if1 = at-top-at .before .if1 in
+    let goes-on = at-top-at .before .before .goes-on in
+    let loop = at-top-at .before .before .before .loop in (
+      loop .inv .0,
+      loop .inv .1,
+      loop .inv .2,
+      loop .inv .3,
+      step-no-hit _ _ _ _ _ (loop .stack) _ _ _ _ (goes-on .ensures) (if1 .taken) (loop .inv .4) (take .result)
+          (taken-is _ (loop .stack) _ _ (top-at .ensures .0) _ refl (take .result) (take .ensures)) (take-step .result) (take-step .ensures)
+          (after .result) (after .ensures) _
+          (after-is (loop .stack) (asStep (take-step .result)) _ _ (under .ensures) (slot .ensures .0) (c .before .before .rays-coming .result)
+          Coming.Transmitted (c .before .before .rays-coming .ensures) (c .enum-told4 .given .1) _ (height .ensures)) (hit-in .result) (hit-in .ensures)
+          (the-enum-told .given .1) (refusal-in .result) (refusal-in .ensures),
+    )
 
 enum-told-5 : tie.Need-enum-told-5 Inv-loop μ-loop
 enum-told-5 c = search needs
 
 loop-less-5 : tie.Need-loop-less-5 Inv-loop μ-loop
-loop-less-5 c = omega (arith, goes-pos _ _ _ _ _ (c .before .before .before .before .before .before .before .before .before .before .before .before .before .before .before .before .before .before .goes-on .ensures) (c .before .before .before .before .before .before .before .before .before .before .before .before .before .before .before .before .before .if1 .taken))
+loop-less-5 c =
+    let after-if1 = c .before .before .before .before .before .before .before .before in
+    let after-if1-2 = after-if1 .before .before .before .before .before .before .before .before in
+    let if1 = after-if1-2 .before .if1 in
+    let goes-on = after-if1-2 .before .before .goes-on in
+    omega (arith, goes-pos _ _ _ _ _ (goes-on .ensures) (if1 .taken))
 
 loop-again-5 : tie.Need-loop-again-5 Inv-loop μ-loop
-loop-again-5 c = ((c .before .before .before .before .before .before .before .before .before .before .before .before .before .before .before .before .before .before .before .loop .inv .0), (c .before .before .before .before .before .before .before .before .before .before .before .before .before .before .before .before .before .before .before .loop .inv .1), (c .before .before .before .before .before .before .before .before .before .before .before .before .before .before .before .before .before .before .before .loop .inv .2), (c .before .before .before .before .before .before .before .before .before .before .before .before .before .before .before .before .before .before .before .loop .inv .3), step-no-hit _ _ _ _ _ (c .before .before .before .before .before .before .before .before .before .before .before .before .before .before .before .before .before .before .before .loop .stack) _ _ _ _ (c .before .before .before .before .before .before .before .before .before .before .before .before .before .before .before .before .before .before .goes-on .ensures) (c .before .before .before .before .before .before .before .before .before .before .before .before .before .before .before .before .before .if1 .taken) (c .before .before .before .before .before .before .before .before .before .before .before .before .before .before .before .before .before .before .before .loop .inv .4) (c .before .before .before .before .before .before .before .before .before .before .before .before .before .before .take .result) (taken-is _ (c .before .before .before .before .before .before .before .before .before .before .before .before .before .before .before .before .before .before .before .loop .stack) _ _ (c .before .before .before .before .before .before .before .before .before .before .before .before .before .before .before .before .top-at .ensures .0) _ refl (c .before .before .before .before .before .before .before .before .before .before .before .before .before .before .take .result) (c .before .before .before .before .before .before .before .before .before .before .before .before .before .before .take .ensures)) (c .before .before .before .before .before .before .before .before .before .before .before .before .before .take-step .result) (c .before .before .before .before .before .before .before .before .before .before .before .before .before .take-step .ensures) (c .before .before .before .before .before .before .before .before .before .before .before .before .after .result) (c .before .before .before .before .before .before .before .before .before .before .before .before .after .ensures) _ (after-is (c .before .before .before .before .before .before .before .before .before .before .before .before .before .before .before .before .before .before .before .loop .stack) (asStep (c .before .before .before .before .before .before .before .before .before .before .before .before .before .take-step .result)) _ _ (c .before .before .before .before .before .before .before .before .before .before .before .under .ensures) (c .before .before .before .before .before .before .before .before .before .before .slot .ensures .0) (c .before .before .rays-coming .result) Coming.Nothing (c .before .before .rays-coming .ensures) (c .enum-told5 .given .1) _ (c .before .before .before .before .before .before .before .before .before .height .ensures)) (c .before .before .before .before .before .before .before .before .hit-in .result) (c .before .before .before .before .before .before .before .before .hit-in .ensures) (c .before .before .before .before .before .before .enum-told .given .1) (c .before .before .before .before .before .refusal-in .result) (c .before .before .before .before .before .refusal-in .ensures))
+loop-again-5 c =
+    let refusal-in = c .before .before .before .before .before .refusal-in in
+    let the-enum-told = c .before .before .before .before .before .before .enum-told in
+    let at-hit-in = c .before .before .before .before .before .before .before .before in
+    let hit-in = at-hit-in .hit-in in
+    let height = at-hit-in .before .height in
+    let slot = at-hit-in .before .before .slot in
+    let under = at-hit-in .before .before .before .under in
+    let after = at-hit-in .before .before .before .before .after in
+    let take-step = at-hit-in .before .before .before .before .before .take-step in
+    let take = at-hit-in .before .before .before .before .before .before .take in
+    let at-top-at = at-hit-in .before .before .before .before .before .before .before .before in
+    let top-at = at-top-at .top-at in
+    let if1 = at-top-at .before .if1 in
+    let goes-on = at-top-at .before .before .goes-on in
+    let loop = at-top-at .before .before .before .loop in (
+      loop .inv .0,
+      loop .inv .1,
+      loop .inv .2,
+      loop .inv .3,
+      step-no-hit _ _ _ _ _ (loop .stack) _ _ _ _ (goes-on .ensures) (if1 .taken) (loop .inv .4) (take .result)
+          (taken-is _ (loop .stack) _ _ (top-at .ensures .0) _ refl (take .result) (take .ensures)) (take-step .result) (take-step .ensures)
+          (after .result) (after .ensures) _
+          (after-is (loop .stack) (asStep (take-step .result)) _ _ (under .ensures) (slot .ensures .0) (c .before .before .rays-coming .result)
+          Coming.Nothing (c .before .before .rays-coming .ensures) (c .enum-told5 .given .1) _ (height .ensures)) (hit-in .result) (hit-in .ensures)
+          (the-enum-told .given .1) (refusal-in .result) (refusal-in .ensures),
+    )
 
 same-length : tie.Need-same-length Inv-loop μ-loop
 same-length c = search needs
@@ -164,7 +324,10 @@ same-length-4 : tie.Need-same-length-4 Inv-loop μ-loop
 same-length-4 c = search needs
 
 returns : tie.Need-returns Inv-loop μ-loop
-returns c = stops _ _ _ _ _ (record { stack = c .before .before .loop .stack; left = c .before .before .loop .left; report = c .before .before .loop .report }) _ _ (c .before .goes-on .ensures) (c .if1 .left) (c .before .before .loop .inv .4)
+returns c =
+    stops _ _ _ _ _
+    (record { stack = c .before .before .loop .stack; left = c .before .before .loop .left; report = c .before .before .loop .report }) _ _
+    (c .before .goes-on .ensures) (c .if1 .left) (c .before .before .loop .inv .4)
 
 pub advance-spec : {M : Type 1} → statement M
 advance-spec =

@@ -36,15 +36,35 @@ ends-requires-2 c κs = search needs
 
 returns : tie.Need-returns
 unfolding interactOf meetsWith
-returns c = simp (← c .before .before .before .before .before .before .before .nearest-detector .ensures, ← c .before .before .before .before .before .before .closest-object .ensures, ← c .before .before .before .before .before .first-met .ensures, c .before .before .before .sight .given .1, ← c .before .caught-by .ensures, ← c .ends .ensures)
+returns c =
+    let sight = c .before .before .before .sight in
+    let first-met = c .before .before .before .before .before .first-met in
+    let closest-object = c .before .before .before .before .before .before .closest-object in
+    let nearest-detector = c .before .before .before .before .before .before .before .nearest-detector in
+    simp (
+      ← nearest-detector .ensures,
+      ← closest-object .ensures,
+      ← first-met .ensures,
+      sight .given .1,
+      ← c .before .caught-by .ensures,
+      ← c .ends .ensures,
+    )
 
 returns-2 : tie.Need-returns-2
 unfolding interactOf meetsWith
-returns-2 c = simp (← c .before .before .before .before .before .before .nearest-detector .ensures, ← c .before .before .before .before .before .closest-object .ensures, ← c .before .before .before .before .first-met .ensures, c .before .before .hit .given .1, ← c .surface .ensures)
+returns-2 c =
+    let first-met = c .before .before .before .before .first-met in
+    let closest-object = c .before .before .before .before .before .closest-object in
+    let nearest-detector = c .before .before .before .before .before .before .nearest-detector in
+    simp (← nearest-detector .ensures, ← closest-object .ensures, ← first-met .ensures, c .before .before .hit .given .1, ← c .surface .ensures)
 
 returns-3 : tie.Need-returns-3
 unfolding interactOf meetsWith
-returns-3 c = simp (← c .before .before .before .before .before .nearest-detector .ensures, ← c .before .before .before .before .closest-object .ensures, ← c .before .before .before .first-met .ensures, c .before .enum-told .given .1, ← c .ends2 .ensures)
+returns-3 c =
+    let first-met = c .before .before .before .first-met in
+    let closest-object = c .before .before .before .before .closest-object in
+    let nearest-detector = c .before .before .before .before .before .nearest-detector in
+    simp (← nearest-detector .ensures, ← closest-object .ensures, ← first-met .ensures, c .before .enum-told .given .1, ← c .ends2 .ensures)
 
 pub interact-spec : {M : Type 1} → statement M
 interact-spec =

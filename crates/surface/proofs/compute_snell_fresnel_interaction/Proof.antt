@@ -21,7 +21,18 @@ total-requires c κs = search needs
 
 returns : tie.Need-returns
 unfolding computeSnellFresnelInteractionOf
-returns c = simp (← c .before .before .before .before .before .cosine .ensures, ← c .before .before .before .before .radicand .ensures, c .before .before .before .if1 .taken, ← c .before .before .reflected-direction .ensures, ← c .before .leaving .ensures, ← c .total .ensures)
+returns c =
+    let if1 = c .before .before .before .if1 in
+    let radicand = c .before .before .before .before .radicand in
+    let cosine = c .before .before .before .before .before .cosine in
+    simp (
+      ← cosine .ensures,
+      ← radicand .ensures,
+      if1 .taken,
+      ← c .before .before .reflected-direction .ensures,
+      ← c .before .leaving .ensures,
+      ← c .total .ensures,
+    )
 
 refract-requires : tie.Need-refract-requires
 refract-requires c κs = search needs

@@ -21,7 +21,10 @@ leaving-requires c κs = search needs
 
 returns : tie.Need-returns
 unfolding mirroredOf
-returns c = simp (← c .before .before .before .before .dot .ensures, ← c .before .before .before .scale .ensures, ← c .before .before .minus .ensures, ← c .before .normalize .ensures, ← c .leaving .ensures)
+returns c =
+    let scale = c .before .before .before .scale in
+    let dot = c .before .before .before .before .dot in
+    simp (← dot .ensures, ← scale .ensures, ← c .before .before .minus .ensures, ← c .before .normalize .ensures, ← c .leaving .ensures)
 
 pub mirrored-spec : {M : Type 1} → statement M
 mirrored-spec =

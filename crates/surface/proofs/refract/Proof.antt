@@ -30,7 +30,22 @@ both-requires c κs = search needs
 
 returns : tie.Need-returns
 unfolding refractOf
-returns c = simp (← c .before .before .before .before .before .before .before .radicand .ensures, ← c .before .before .before .before .before .before .root-elsewhere .ensures, ← c .before .before .before .before .before .reflectance .ensures, ← c .before .before .before .before .reflected-direction .ensures, ← c .before .before .before .leaving .ensures, ← c .before .before .refracted-direction .ensures, ← c .before .leaving2 .ensures, ← c .both .ensures)
+returns c =
+    let leaving = c .before .before .before .leaving in
+    let reflected-direction = c .before .before .before .before .reflected-direction in
+    let reflectance = c .before .before .before .before .before .reflectance in
+    let root-elsewhere = c .before .before .before .before .before .before .root-elsewhere in
+    let radicand = c .before .before .before .before .before .before .before .radicand in
+    simp (
+      ← radicand .ensures,
+      ← root-elsewhere .ensures,
+      ← reflectance .ensures,
+      ← reflected-direction .ensures,
+      ← leaving .ensures,
+      ← c .before .before .refracted-direction .ensures,
+      ← c .before .leaving2 .ensures,
+      ← c .both .ensures,
+    )
 
 pub refract-spec : {M : Type 1} → statement M
 refract-spec =

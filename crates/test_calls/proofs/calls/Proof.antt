@@ -7,7 +7,9 @@ use Rattle.test_calls.proofs.calls.Statement.{statement}
 use Rattle.test_calls.proofs.calls.Tie as tie
 
 abbrev Inv-loop : tie.InvT-loop
-Inv-loop list u w d flux₀ hits₀ hitValues₀ hitTags₀ ds₀ t₀ book₀ n c₀ all₀ k₀ flux hits hitValues hitTags ds t book c all k = (k ≤ n) × (length flux ≡ length flux₀) × (length hits ≡ length hits₀) × (length hitValues ≡ length hitValues₀) × (length hitTags ≡ length hitTags₀) × (length ds ≡ length ds₀) × (length t ≡ length t₀) × (length book ≡ 768)
+Inv-loop list u w d flux₀ hits₀ hitValues₀ hitTags₀ ds₀ t₀ book₀ n c₀ all₀ k₀ flux hits hitValues hitTags ds t book c all k =
+    (k ≤ n) × (length flux ≡ length flux₀) × (length hits ≡ length hits₀) × (length hitValues ≡ length hitValues₀)
+    × (length hitTags ≡ length hitTags₀) × (length ds ≡ length ds₀) × (length t ≡ length t₀) × (length book ≡ 768)
 
 abbrev μ-loop : tie.MeasureT-loop
 μ-loop list u w d flux₀ hits₀ hitValues₀ hitTags₀ ds₀ t₀ book₀ n c₀ all₀ k₀ flux hits hitValues hitTags ds t book c all k = n - k

@@ -21,7 +21,11 @@ cut-at-requires : tie.Need-cut-at-requires
 cut-at-requires c κs = search needs
 
 both-requires : tie.Need-both-requires
-both-requires c κs = (c .before .before .before .before .cut-at .ensures .1, all-passed _ _ _ (c .before .before .before .before .before .before .before .check-trace .ensures) (c .before .before .before .before .before .enum-told .given .1))
+both-requires c κs =
+    let cut-at = c .before .before .before .before .cut-at in
+    let the-enum-told = c .before .before .before .before .before .enum-told in
+    let check-trace = c .before .before .before .before .before .before .before .check-trace in
+    (cut-at .ensures .1, all-passed _ _ _ (check-trace .ensures) (the-enum-told .given .1))
 
 returns : tie.Need-returns
 returns c = ap (λ (t : Trace Memory). t .outcome) (refused-call _ _ _ (c .before .before .before .check-trace .ensures) _ _ (c .before .error .given .1) _ refl)

@@ -7,7 +7,9 @@ use Rattle.test_scenes.proofs.scenes.Statement.{statement}
 use Rattle.test_scenes.proofs.scenes.Tie as tie
 
 abbrev Inv-loop : tie.InvT-loop
-Inv-loop text first n seen₀ agree₀ flux₀ hits₀ hitValues₀ hitTags₀ at₀ k₀ seen agree flux hits hitValues hitTags at k = (k ≤ n) × (length seen ≡ length seen₀) × (length agree ≡ length agree₀) × (length flux ≡ 120) × (length hits ≡ 120) × (length hitValues ≡ 240) × (length hitTags ≡ 240)
+Inv-loop text first n seen₀ agree₀ flux₀ hits₀ hitValues₀ hitTags₀ at₀ k₀ seen agree flux hits hitValues hitTags at k =
+    (k ≤ n) × (length seen ≡ length seen₀) × (length agree ≡ length agree₀) × (length flux ≡ 120) × (length hits ≡ 120) × (length hitValues ≡ 240)
+    × (length hitTags ≡ 240)
 
 abbrev μ-loop : tie.MeasureT-loop
 μ-loop text first n seen₀ agree₀ flux₀ hits₀ hitValues₀ hitTags₀ at₀ k₀ seen agree flux hits hitValues hitTags at k = n - k

@@ -15,7 +15,9 @@ use Rattle.test_vectors.proofs.tally_lines.Statement.{statement}
 use Rattle.test_vectors.proofs.tally_lines.Tie as tie
 
 abbrev Inv-loop : tie.InvT-loop
-Inv-loop kind text t₀ at₀ t at = (at ≤ length text + 1) × (tallyLinesOf (lineAgreesOf kind) t (textLines (drop at text)) ≡ tallyLinesOf (lineAgreesOf kind) emptyOf (textLines text))
+Inv-loop kind text t₀ at₀ t at =
+    (at ≤ length text + 1)
+    × (tallyLinesOf (lineAgreesOf kind) t (textLines (drop at text)) ≡ tallyLinesOf (lineAgreesOf kind) emptyOf (textLines text))
 
 abbrev μ-loop : tie.MeasureT-loop
 μ-loop kind text t₀ at₀ t at = length text - at
@@ -58,7 +60,8 @@ loop-again c =
     let l = c .before .before .before .before .before in
     let h = ends (c .before .before .before) in (
       omega arith,
-      turn _ _ _ _ _ (l .loop .t) _ _ (c .before .before .before .before .loop-test .taken) (c .before .before .before .end-at .ensures) (c .before .line-agrees .ensures) (c .count .ensures) (l .loop .inv .1),
+      turn _ _ _ _ _ (l .loop .t) _ _ (c .before .before .before .before .loop-test .taken) (c .before .before .before .end-at .ensures)
+          (c .before .line-agrees .ensures) (c .count .ensures) (l .loop .inv .1),
     )
 
 returns : tie.Need-returns Inv-loop μ-loop

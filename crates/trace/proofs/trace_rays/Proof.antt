@@ -45,7 +45,16 @@ same-length-4 : tie.Need-same-length-4
 same-length-4 c = search needs
 
 returns-2 : tie.Need-returns-2
-returns-2 c = passed-call _ _ _ (c .before .before .before .before .before .before .before .before .before .before .before .before .before .before .before .before .before .before .check-trace .ensures) (c .before .before .before .before .before .before .before .before .before .before .before .before .before .before .before .before .enum-told .given .1) (c .before .before .before .before .before .before .before .before .before .before .before .before .before .before .before .new .result) (c .before .before .before .before .before .before .before .before .before .before .before .before .before .before .before .new .ensures) (c .before .before .before .before .before .before .before .before .before .before .before .before .before .before .start2 .result) (c .before .before .before .before .before .before .before .before .before .before .before .before .before .before .start2 .ensures) (c .before .before .before .before .before .before .before .before .before .advance .result) _ _ _ _ (c .before .before .before .before .before .before .before .before .before .advance .ensures) (c .answer .result) (c .answer .ensures)
+returns-2 c =
+    let after-advance = c .before .before .before .before .before .before .before .before in
+    let advance = after-advance .before .advance in
+    let start2 = after-advance .before .before .before .before .before .before .start2 in
+    let new = after-advance .before .before .before .before .before .before .before .new in
+    let at-enum-told = after-advance .before .before .before .before .before .before .before .before in
+    let the-enum-told = at-enum-told .enum-told in
+    let check-trace = at-enum-told .before .before .check-trace in
+    passed-call _ _ _ (check-trace .ensures) (the-enum-told .given .1) (new .result) (new .ensures) (start2 .result) (start2 .ensures)
+    (advance .result) _ _ _ _ (advance .ensures) (c .answer .result) (c .answer .ensures)
 
 pub trace-rays-spec : {M : Type 1} → statement M
 trace-rays-spec =

@@ -11,7 +11,9 @@ use Rattle.answer_text.proofs.detectors_text.put_maps.Tie as tie
 
 abbrev Inv-loop : tie.InvT-loop
 Inv-loop buf₀ at detectors filter flux hitValues hitTags used n p₀ d₀ buf p d =
-    (d ≤ n) × (length buf ≡ length buf₀) × (putAll buf p (eachFrom (mapText (held detectors flux hitValues hitTags used) filter) (n - d) d) ≡ putAll buf₀ at (eachFrom (mapText (held detectors flux hitValues hitTags used) filter) (detectorCountOf (detectors .count)) 0))
+    (d ≤ n) × (length buf ≡ length buf₀)
+    × (putAll buf p (eachFrom (mapText (held detectors flux hitValues hitTags used) filter) (n - d) d)
+    ≡ putAll buf₀ at (eachFrom (mapText (held detectors flux hitValues hitTags used) filter) (detectorCountOf (detectors .count)) 0))
 
 abbrev μ-loop : tie.MeasureT-loop
 μ-loop buf₀ at detectors filter flux hitValues hitTags used n p₀ d₀ buf p d = n - d
@@ -33,7 +35,12 @@ loop-less c = search needs
 
 loop-again : tie.Need-loop-again Inv-loop μ-loop
 loop-again c =
-    (search needs, c .before .before .put-map .kept .0 ∙ c .before .before .before .before .before .loop .inv .1, each-again _ _ _ _ _ _ _ (c .before .before .before .before .before .loop .d) (c .before .before .before .before .loop-test .taken) (c .before .before .put-map .ensures) (c .before .before .before .before .before .loop .inv .2))
+    let loop-test = c .before .before .before .before .loop-test in
+    let loop = c .before .before .before .before .before .loop in (
+      search needs,
+      c .before .before .put-map .kept .0 ∙ loop .inv .1,
+      each-again _ _ _ _ _ _ _ (loop .d) (loop-test .taken) (c .before .before .put-map .ensures) (loop .inv .2),
+    )
 
 same-length : tie.Need-same-length Inv-loop μ-loop
 same-length c = search needs

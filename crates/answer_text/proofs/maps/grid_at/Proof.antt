@@ -25,7 +25,10 @@ enum-told c = search needs
 
 returns : tie.Need-returns
 unfolding gridFrom gridAtOf
-returns c = (simp (← c .before .before .before .before .before .before .before .at .ensures, c .before .before .before .before .before .p .given .1, ← c .before .before .pixels .ensures, ← c .before .few .ensures .0), c .before .few .ensures .1)
+returns c =
+    let p = c .before .before .before .before .before .p in
+    let at = c .before .before .before .before .before .before .before .at in
+    (simp (← at .ensures, p .given .1, ← c .before .before .pixels .ensures, ← c .before .few .ensures .0), c .before .few .ensures .1)
 
 returns-2 : tie.Need-returns-2
 unfolding gridFrom gridAtOf

@@ -28,8 +28,10 @@ same-length c = search needs
 returns : tie.Need-returns
 unfolding detectorText
 returns c =
+    let shown3 = c .before .before .before .before .before .before .shown3 in
+    let shown2 = c .before .before .before .before .before .before .before .shown2 in
     let a = c .before .before .before .before .before .before .before .before .shown .ensures in
-    rw (a .1, c .before .before .before .before .before .before .before .shown2 .ensures .1, c .before .before .before .before .before .before .shown3 .ensures .1, a .0) at (c .before .before .put-row .ensures)
+    rw (a .1, shown2 .ensures .1, shown3 .ensures .1, a .0) at (c .before .before .put-row .ensures)
 
 pub put-detector-spec : {M : Type 1} → statement M
 put-detector-spec =

@@ -20,7 +20,9 @@ filtered-pixel-flux-requires : tie.Need-filtered-pixel-flux-requires
 filtered-pixel-flux-requires c κs = search needs
 
 returns : tie.Need-returns
-returns c = map-none _ _ _ _ (c .before .before .before .before .before .before .before .before .grid-at .ensures .0) _ _ (c .before .if1 .taken)
+returns c =
+    let grid-at = c .before .before .before .before .before .before .before .before .grid-at in
+    map-none _ _ _ _ (grid-at .ensures .0) _ _ (c .before .if1 .taken)
 
 put-pixels-requires : tie.Need-put-pixels-requires
 put-pixels-requires c κs = search needs
@@ -29,7 +31,13 @@ same-length : tie.Need-same-length
 same-length c = search needs
 
 returns-2 : tie.Need-returns-2
-returns-2 c = map-some _ _ _ _ (c .before .before .before .before .before .before .before .before .before .before .before .before .grid-at .ensures .0) _ _ _ _ (c .before .before .before .before .before .if1 .left) (c .before .before .before .before .before .before .filtered-pixel-flux .ensures .0) (c .before .before .before .put-pixels .ensures)
+returns-2 c =
+    let put-pixels = c .before .before .before .put-pixels in
+    let if1 = c .before .before .before .before .before .if1 in
+    let at-filtered-pixel-flux = c .before .before .before .before .before .before in
+    let filtered-pixel-flux = at-filtered-pixel-flux .filtered-pixel-flux in
+    let grid-at = at-filtered-pixel-flux .before .before .before .before .before .before .grid-at in
+    map-some _ _ _ _ (grid-at .ensures .0) _ _ _ _ (if1 .left) (filtered-pixel-flux .ensures .0) (put-pixels .ensures)
 
 pub put-map-spec : {M : Type 1} → statement M
 put-map-spec =

@@ -21,8 +21,10 @@ refilter-requires c κs = search needs
 
 returns : tie.Need-returns
 returns c =
-    let g = c .before .before .before .grid-at .ensures .0 in
-    (total-shown _ _ _ _ g (c .before .refilter .result) _ (c .before .refilter .ensures), count-shown _ _ _ _ g (c .before .refilter .result) _ (c .before .refilter .ensures))
+    let g = c .before .before .before .grid-at .ensures .0 in (
+      total-shown _ _ _ _ g (c .before .refilter .result) _ (c .before .refilter .ensures),
+      count-shown _ _ _ _ g (c .before .refilter .result) _ (c .before .refilter .ensures),
+    )
 
 pub shown-spec : {M : Type 1} → statement M
 shown-spec =

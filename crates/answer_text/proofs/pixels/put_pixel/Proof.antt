@@ -19,7 +19,9 @@ same-length c = search needs
 
 returns : tie.Need-returns
 unfolding pixelText
-returns c = simp (c .before .before .before .before .before .before .if1 .taken, ← c .before .before .put-row .ensures)
+returns c =
+    let if1 = c .before .before .before .before .before .before .if1 in
+    simp (if1 .taken, ← c .before .before .put-row .ensures)
 
 returns-2 : tie.Need-returns-2
 unfolding pixelText putAll

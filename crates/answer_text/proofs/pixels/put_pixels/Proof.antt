@@ -10,7 +10,9 @@ use Rattle.answer_text.proofs.pixels.put_pixels.Statement.{statement}
 use Rattle.answer_text.proofs.pixels.put_pixels.Tie as tie
 
 abbrev Inv-loop : tie.InvT-loop
-Inv-loop buf₀ at detector width map p₀ i₀ buf p i = (i ≤ length map) × (length buf ≡ length buf₀) × (putAll buf p (pixelsFrom detector width i (drop i map)) ≡ putAll buf₀ at (pixelsFrom detector width 0 map))
+Inv-loop buf₀ at detector width map p₀ i₀ buf p i =
+    (i ≤ length map) × (length buf ≡ length buf₀)
+    × (putAll buf p (pixelsFrom detector width i (drop i map)) ≡ putAll buf₀ at (pixelsFrom detector width 0 map))
 
 abbrev μ-loop : tie.MeasureT-loop
 μ-loop buf₀ at detector width map p₀ i₀ buf p i = length map - i
@@ -40,7 +42,13 @@ loop-less : tie.Need-loop-less Inv-loop μ-loop
 loop-less c = search needs
 
 loop-again : tie.Need-loop-again Inv-loop μ-loop
-loop-again c = (search needs, c .before .before .put-pixel .kept .0 ∙ c .before .before .before .before .before .before .loop .inv .1, pixels-again _ _ _ _ _ _ _ (c .before .before .before .before .before .before .loop .i) _ (c .before .before .before .before .before .loop-test .taken) (c .before .before .put-pixel .ensures) (c .before .before .before .before .before .before .loop .inv .2))
+loop-again c =
+    let loop-test = c .before .before .before .before .before .loop-test in
+    let loop = c .before .before .before .before .before .before .loop in (
+      search needs,
+      c .before .before .put-pixel .kept .0 ∙ loop .inv .1,
+      pixels-again _ _ _ _ _ _ _ (loop .i) _ (loop-test .taken) (c .before .before .put-pixel .ensures) (loop .inv .2),
+    )
 
 same-length : tie.Need-same-length Inv-loop μ-loop
 same-length c = search needs

@@ -15,7 +15,10 @@ check-grid-requires c κs = search needs
 
 returns : tie.Need-returns
 unfolding checkDetectorOf
-returns c = simp (← c .before .before .before .before .is-size .ensures, c .before .before .before .if1 .taken, ← c .before .before .is-size2 .ensures, c .before .if2 .taken, ← c .check-grid .ensures)
+returns c =
+    let if1 = c .before .before .before .if1 in
+    let is-size = c .before .before .before .before .is-size in
+    simp (← is-size .ensures, if1 .taken, ← c .before .before .is-size2 .ensures, c .before .if2 .taken, ← c .check-grid .ensures)
 
 returns-2 : tie.Need-returns-2
 unfolding checkDetectorOf

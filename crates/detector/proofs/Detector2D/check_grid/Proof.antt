@@ -18,15 +18,40 @@ is-parallel-requires c κs = search needs
 
 returns-3 : tie.Need-returns-3
 unfolding checkGridOf
-returns-3 c = simp (ne-eqb _ _ (c .before .before .before .before .before .before .before .before .if1 .left), ne-eqb _ _ (c .before .before .before .before .before .before .if2 .left), le-leb _ _ (c .before .before .before .before .if3 .taken), le-leb _ _ (c .before .before .if4 .taken), ← c .before .is-parallel .ensures, c .if5 .taken)
+returns-3 c =
+    let if3 = c .before .before .before .before .if3 in
+    let if2 = c .before .before .before .before .before .before .if2 in
+    let if1 = c .before .before .before .before .before .before .before .before .if1 in
+    simp (
+      ne-eqb _ _ (if1 .left),
+      ne-eqb _ _ (if2 .left),
+      le-leb _ _ (if3 .taken),
+      le-leb _ _ (c .before .before .if4 .taken),
+      ← c .before .is-parallel .ensures,
+      c .if5 .taken,
+    )
 
 returns-4 : tie.Need-returns-4
 unfolding checkGridOf
-returns-4 c = simp (ne-eqb _ _ (c .before .before .before .before .before .before .before .before .if1 .left), ne-eqb _ _ (c .before .before .before .before .before .before .if2 .left), le-leb _ _ (c .before .before .before .before .if3 .taken), le-leb _ _ (c .before .before .if4 .taken), ← c .before .is-parallel .ensures, c .if5 .left)
+returns-4 c =
+    let if3 = c .before .before .before .before .if3 in
+    let if2 = c .before .before .before .before .before .before .if2 in
+    let if1 = c .before .before .before .before .before .before .before .before .if1 in
+    simp (
+      ne-eqb _ _ (if1 .left),
+      ne-eqb _ _ (if2 .left),
+      le-leb _ _ (if3 .taken),
+      le-leb _ _ (c .before .before .if4 .taken),
+      ← c .before .is-parallel .ensures,
+      c .if5 .left,
+    )
 
 returns-5 : tie.Need-returns-5
 unfolding checkGridOf
-returns-5 c = simp (ne-eqb _ _ (c .before .before .before .before .before .before .if1 .left), ne-eqb _ _ (c .before .before .before .before .if2 .left), le-leb _ _ (c .before .before .if3 .taken), lt-leb _ _ (c .if4 .left))
+returns-5 c =
+    let if2 = c .before .before .before .before .if2 in
+    let if1 = c .before .before .before .before .before .before .if1 in
+    simp (ne-eqb _ _ (if1 .left), ne-eqb _ _ (if2 .left), le-leb _ _ (c .before .before .if3 .taken), lt-leb _ _ (c .if4 .left))
 
 returns-6 : tie.Need-returns-6
 unfolding checkGridOf

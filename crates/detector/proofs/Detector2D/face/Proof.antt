@@ -18,7 +18,11 @@ normalize-requires-2 c κs = search needs
 
 returns : tie.Need-returns
 unfolding faceOf
-returns c = simp (← c .before .before .before .before .before .normalize .ensures, ← c .before .before .before .before .orthogonal .ensures, ← c .before .before .before .cross .ensures, ← c .before .before .normalize2 .ensures)
+returns c =
+    let cross = c .before .before .before .cross in
+    let orthogonal = c .before .before .before .before .orthogonal in
+    let normalize = c .before .before .before .before .before .normalize in
+    simp (← normalize .ensures, ← orthogonal .ensures, ← cross .ensures, ← c .before .before .normalize2 .ensures)
 
 pub face-spec : {M : Type 1} → statement M
 face-spec =

@@ -24,7 +24,18 @@ intersect-ray-requires c κs = search needs
 
 returns : tie.Need-returns
 unfolding intersectRayOf
-returns c = simp (← c .before .before .before .before .before .before .check .ensures, c .before .before .before .before .enum-told .given .1, ← c .before .before .before .is-valid .ensures, c .before .before .if1 .taken, ← c .before .face .ensures, ← c .intersect-ray .ensures)
+returns c =
+    let is-valid = c .before .before .before .is-valid in
+    let the-enum-told = c .before .before .before .before .enum-told in
+    let check = c .before .before .before .before .before .before .check in
+    simp (
+      ← check .ensures,
+      the-enum-told .given .1,
+      ← is-valid .ensures,
+      c .before .before .if1 .taken,
+      ← c .before .face .ensures,
+      ← c .intersect-ray .ensures,
+    )
 
 returns-2 : tie.Need-returns-2
 unfolding intersectRayOf

@@ -23,14 +23,19 @@ mul-result c =
 add-result : tie.Need-add-result
 add-result c =
     let a = c .before .before .before in
-    omega (arith, place-fits _ _ _ (a .args .self .«res_x») _ (c .before .index-along2 .ensures) (omega (arith, a .good)) (omega (arith, a .good)) _ _ _ (c .before .before .index-along .ensures))
+    omega (
+      arith,
+      place-fits _ _ _ (a .args .self .«res_x») _ (c .before .index-along2 .ensures) (omega (arith, a .good)) (omega (arith, a .good)) _ _ _
+          (c .before .before .index-along .ensures),
+    )
 
 returns : tie.Need-returns
 unfolding pixelAtOf
 returns c =
     let a = c .before .before .before in (
       simp (← c .before .before .index-along .ensures, ← c .before .index-along2 .ensures),
-      place-most _ _ _ (a .args .self .«res_x») _ (c .before .index-along2 .ensures) (omega (arith, a .good)) (omega (arith, a .good)) _ _ _ (c .before .before .index-along .ensures),
+      place-most _ _ _ (a .args .self .«res_x») _ (c .before .index-along2 .ensures) (omega (arith, a .good)) (omega (arith, a .good)) _ _ _
+          (c .before .before .index-along .ensures),
     )
 
 pub pixel-at-spec : {M : Type 1} → statement M

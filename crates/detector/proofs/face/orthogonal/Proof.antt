@@ -21,7 +21,10 @@ normalize-requires-2 c κs = search needs
 
 returns : tie.Need-returns
 unfolding orthogonalOf
-returns c = simp (← c .before .before .before .before .normalize .ensures, ← c .before .before .before .dot .ensures, ← c .before .before .scale .ensures, ← c .before .minus .ensures, ← c .normalize2 .ensures)
+returns c =
+    let dot = c .before .before .before .dot in
+    let normalize = c .before .before .before .before .normalize in
+    simp (← normalize .ensures, ← dot .ensures, ← c .before .before .scale .ensures, ← c .before .minus .ensures, ← c .normalize2 .ensures)
 
 pub orthogonal-spec : {M : Type 1} → statement M
 orthogonal-spec =

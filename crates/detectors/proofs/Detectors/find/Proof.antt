@@ -20,11 +20,17 @@ cast-placed : tie.Need-cast-placed
 cast-placed c = search needs
 
 placed-requires : tie.Need-placed-requires
-placed-requires c κs = omega (arith, count-most _ _ (c .before .before .before .before .before .before .check .ensures) (c .before .before .before .before .enum-told .given .1), c .before .if1 .taken)
+placed-requires c κs =
+    let the-enum-told = c .before .before .before .before .enum-told in
+    let check = c .before .before .before .before .before .before .check in
+    omega (arith, count-most _ _ (check .ensures) (the-enum-told .given .1), c .before .if1 .taken)
 
 returns : tie.Need-returns
 unfolding checkAsked findOf
-returns c = simp (← c .before .before .before .before .before .before .before .check .ensures, c .before .before .before .before .before .enum-told .given .1, lt-ltb _ _ (c .before .before .if1 .taken), ← c .placed .ensures)
+returns c =
+    let the-enum-told = c .before .before .before .before .before .enum-told in
+    let check = c .before .before .before .before .before .before .before .check in
+    simp (← check .ensures, the-enum-told .given .1, lt-ltb _ _ (c .before .before .if1 .taken), ← c .placed .ensures)
 
 returns-2 : tie.Need-returns-2
 unfolding checkAsked findOf
@@ -32,7 +38,10 @@ returns-2 c = simp (← c .before .before .before .check .ensures, c .before .er
 
 returns-3 : tie.Need-returns-3
 unfolding checkAsked findOf
-returns-3 c = simp (← c .before .before .before .before .before .check .ensures, c .before .before .before .enum-told .given .1, le-ltb _ _ (c .if1 .left))
+returns-3 c =
+    let the-enum-told = c .before .before .before .enum-told in
+    let check = c .before .before .before .before .before .check in
+    simp (← check .ensures, the-enum-told .given .1, le-ltb _ _ (c .if1 .left))
 
 pub find-spec : {M : Type 1} → statement M
 find-spec =

@@ -21,11 +21,17 @@ all-pixels-requires : tie.Need-all-pixels-requires
 all-pixels-requires c κs = search needs
 
 irradiance-in-requires : tie.Need-irradiance-in-requires
-irradiance-in-requires c κs = grid-in _ _ _ _ _ _ (c .before .before .before .before .before .find .ensures) (ap asFound (c .before .before .before .p .given .1)) (c .before .all-pixels .ensures) (c .if1 .taken)
+irradiance-in-requires c κs =
+    let p = c .before .before .before .p in
+    let find = c .before .before .before .before .before .find in
+    grid-in _ _ _ _ _ _ (find .ensures) (ap asFound (p .given .1)) (c .before .all-pixels .ensures) (c .if1 .taken)
 
 returns : tie.Need-returns
 unfolding irradianceAtOf irradianceFrom
-returns c = simp (← c .before .before .before .before .before .before .find .ensures, c .before .before .before .before .p .given .1, ← c .before .before .all-pixels .ensures, eq-eqb _ _ (c .before .if1 .taken), ← c .irradiance-in .ensures)
+returns c =
+    let p = c .before .before .before .before .p in
+    let find = c .before .before .before .before .before .before .find in
+    simp (← find .ensures, p .given .1, ← c .before .before .all-pixels .ensures, eq-eqb _ _ (c .before .if1 .taken), ← c .irradiance-in .ensures)
 
 returns-2 : tie.Need-returns-2
 unfolding irradianceAtOf irradianceFrom
@@ -33,7 +39,10 @@ returns-2 c = simp (← c .before .before .before .find .ensures, c .before .err
 
 returns-3 : tie.Need-returns-3
 unfolding irradianceAtOf irradianceFrom
-returns-3 c = simp (← c .before .before .before .before .before .find .ensures, c .before .before .before .p .given .1, ← c .before .all-pixels .ensures, ne-eqb _ _ (c .if1 .left))
+returns-3 c =
+    let p = c .before .before .before .p in
+    let find = c .before .before .before .before .before .find in
+    simp (← find .ensures, p .given .1, ← c .before .all-pixels .ensures, ne-eqb _ _ (c .if1 .left))
 
 pub irradiance-at-spec : {M : Type 1} → statement M
 irradiance-at-spec =

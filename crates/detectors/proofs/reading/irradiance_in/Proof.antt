@@ -11,26 +11,50 @@ cast-at : tie.Need-cast-at
 cast-at c = search needs
 
 mul-at : tie.Need-mul-at
-mul-at c = let q = pixel-at _ _ _ _ _ _ (c .before .before .before .if1 .taken) (c .before .if2 .taken) (c .before .before .before .before .before .before .before .pre) in omega (arith, q, c .before .before .before .before .before .before .before .good)
+mul-at c =
+    let if1 = c .before .before .before .if1 in
+    let pre = c .before .before .before .before .before .before .before .pre in
+    let good = c .before .before .before .before .before .before .before .good in
+    let q = pixel-at _ _ _ _ _ _ (if1 .taken) (c .before .if2 .taken) pre in omega (arith, q, good)
 
 add-at : tie.Need-add-at
-add-at c = let q = pixel-at _ _ _ _ _ _ (c .before .before .before .if1 .taken) (c .before .if2 .taken) (c .before .before .before .before .before .before .before .pre) in omega (arith, q, c .before .before .before .before .before .before .before .good)
+add-at c =
+    let if1 = c .before .before .before .if1 in
+    let pre = c .before .before .before .before .before .before .before .pre in
+    let good = c .before .before .before .before .before .before .before .good in
+    let q = pixel-at _ _ _ _ _ _ (if1 .taken) (c .before .if2 .taken) pre in omega (arith, q, good)
 
 add-at-2 : tie.Need-add-at-2
-add-at-2 c = let q = pixel-at _ _ _ _ _ _ (c .before .before .before .before .if1 .taken) (c .before .before .if2 .taken) (c .before .before .before .before .before .before .before .before .pre) in omega (arith, q, c .before .before .before .before .before .before .before .before .good)
+add-at-2 c =
+    let if1 = c .before .before .before .before .if1 in
+    let pre = c .before .before .before .before .before .before .before .before .pre in
+    let good = c .before .before .before .before .before .before .before .before .good in
+    let q = pixel-at _ _ _ _ _ _ (if1 .taken) (c .before .before .if2 .taken) pre in omega (arith, q, good)
 
 mul-irradiance : tie.Need-mul-irradiance
-mul-irradiance c = let q = pixel-at _ _ _ _ _ _ (c .before .before .before .before .if1 .taken) (c .before .before .if2 .taken) (c .before .before .before .before .before .before .before .before .pre) in omega (arith, q, c .before .before .before .before .before .before .before .before .good)
+mul-irradiance c =
+    let if1 = c .before .before .before .before .if1 in
+    let pre = c .before .before .before .before .before .before .before .before .pre in
+    let good = c .before .before .before .before .before .before .before .before .good in
+    let q = pixel-at _ _ _ _ _ _ (if1 .taken) (c .before .before .if2 .taken) pre in omega (arith, q, good)
 
 shared-slice-read-irradiance : tie.Need-shared-slice-read-irradiance
-shared-slice-read-irradiance c = let q = pixel-at _ _ _ _ _ _ (c .before .before .before .before .before .if1 .taken) (c .before .before .before .if2 .taken) (c .before .before .before .before .before .before .before .before .before .pre) in omega (arith, q)
+shared-slice-read-irradiance c =
+    let if2 = c .before .before .before .if2 in
+    let at-if1 = c .before .before .before .before .before in
+    let if1 = at-if1 .if1 in
+    let pre = at-if1 .before .before .before .before .pre in
+    let q = pixel-at _ _ _ _ _ _ (if1 .taken) (if2 .taken) pre in omega (arith, q)
 
 irradiance-requires : tie.Need-irradiance-requires
 irradiance-requires c κs = search needs
 
 returns : tie.Need-returns
 unfolding irradianceInOf
-returns c = simp (lt-ltb _ _ (c .before .before .before .before .before .before .if1 .taken), lt-ltb _ _ (c .before .before .before .before .if2 .taken), ← c .irradiance .ensures)
+returns c =
+    let if2 = c .before .before .before .before .if2 in
+    let if1 = c .before .before .before .before .before .before .if1 in
+    simp (lt-ltb _ _ (if1 .taken), lt-ltb _ _ (if2 .taken), ← c .irradiance .ensures)
 
 returns-2 : tie.Need-returns-2
 unfolding irradianceInOf

@@ -49,7 +49,9 @@ add-c : tie.Need-add-c
 add-c c = omega (arith, split (c .before .before .before .before) .lower)
 
 returns-5 : tie.Need-returns-5
-returns-5 c = fails-5 _ _ _ _ (split (c .before .before .before .before .before)) (c .before .before .before .before .if1 .left) (c .before .before .if3 .left) (omega arith)
+returns-5 c =
+    fails-5 _ _ _ _ (split (c .before .before .before .before .before)) (c .before .before .before .before .if1 .left) (c .before .before .if3 .left)
+    (omega arith)
 
 add-if6 : tie.Need-add-if6
 add-if6 c = search needs
@@ -58,11 +60,14 @@ sub-if6 : tie.Need-sub-if6
 sub-if6 c = search needs
 
 returns-6 : tie.Need-returns-6
-returns-6 c = fails-6 _ _ _ _ (split (c .before .before .before .before .before .before)) (c .before .before .before .before .before .if1 .left) (c .before .before .before .if3 .left) (omega arith)
+returns-6 c =
+    fails-6 _ _ _ _ (split (c .before .before .before .before .before .before)) (c .before .before .before .before .before .if1 .left)
+    (c .before .before .before .if3 .left) (omega arith)
 
 returns-7 : tie.Need-returns-7
 returns-7 c =
-    pinned _ _ _ _ (split (c .before .before .before .before .before .before)) (c .before .before .before .before .before .if1 .left) (c .before .before .before .if3 .left) (omega arith) (omega arith)
+    pinned _ _ _ _ (split (c .before .before .before .before .before .before)) (c .before .before .before .before .before .if1 .left)
+    (c .before .before .before .if3 .left) (omega arith) (omega arith)
 
 pub is-nearest-root-spec : {M : Type 1} → statement M
 is-nearest-root-spec =

@@ -42,7 +42,8 @@ float-from-bits-result c = positive-no-nan _ (omega arith)
 returns : tie.Need-returns
 returns c =
     let start = c .before .before in
-    normal-root (start .args .b) (start .pre .0) (start .pre .1) _ (nearest-of _ _ (near-of-true _ _ (sym (c .before .is-nearest-root .ensures) ∙ c .if1 .taken)))
+    normal-root (start .args .b) (start .pre .0) (start .pre .1) _
+    (nearest-of _ _ (near-of-true _ _ (sym (c .before .is-nearest-root .ensures) ∙ c .if1 .taken)))
 
 root-slowly-requires : tie.Need-root-slowly-requires
 root-slowly-requires c κs = search needs

@@ -36,7 +36,9 @@ returns-5 : tie.Need-returns-5
 returns-5 c =
     let start = c .before .before .before .before .before in
     let x = start .args .x in
-    by-bits x _ (held start) (zero-by-zero ∙ sym (rest-root (toBits binary64 x) (c .before .before .if3 .left) (c .before .if4 .left) (c .if5 .left) (toBits-lt binary64 x (held start))))
+    by-bits x _ (held start)
+    (zero-by-zero
+    ∙ sym (rest-root (toBits binary64 x) (c .before .before .if3 .left) (c .before .if4 .left) (c .if5 .left) (toBits-lt binary64 x (held start))))
 
 returns-6 : tie.Need-returns-6
 returns-6 c = own-zero _ (held (c .before .before .before)) (c .if6 .taken)

@@ -35,7 +35,8 @@ most c =
     let b = c .before .before .args .b in
     let lo = c .before .if1 .left in
     let hi = c .before .before .pre .1 in
-    root-most (b % 2 ^ 52 + 2 ^ 52) ((b / 2 ^ 52 + 1) % 2) (digits-least b lo hi) (digits-most b lo hi) (even-most b lo hi) (c .nearest-root .result) (c .nearest-root .ensures)
+    root-most (b % 2 ^ 52 + 2 ^ 52) ((b / 2 ^ 52 + 1) % 2) (digits-least b lo hi) (digits-most b lo hi) (even-most b lo hi) (c .nearest-root .result)
+    (c .nearest-root .ensures)
 
 add-result : tie.Need-add-result
 add-result c = search needs

@@ -58,7 +58,19 @@ seen-requires-8 c κs = search needs
 
 returns : tie.Need-returns
 unfolding nearestDetectorOf
-returns c = rw (← c .before .before .before .before .before .before .before .before .before .before .before .before .before .before .before .before .face-count .ensures .0) (written-out (sights (c .before .before .before .before .before .before .before .before .before .before .before .before .before .before .before .before .before .before .args .self .list) (c .before .before .before .before .before .before .before .before .before .before .before .before .before .before .before .before .before .before .args .ray)) _ _ _ _ _ _ _ _ _ (c .before .before .before .before .before .before .before .before .before .before .before .before .before .before .before .before .face-count .ensures .1) (c .before .before .before .before .before .before .before .seen .ensures) (c .before .before .before .before .before .before .seen2 .ensures) (c .before .before .before .before .before .seen3 .ensures) (c .before .before .before .before .seen4 .ensures) (c .before .before .before .seen5 .ensures) (c .before .before .seen6 .ensures) (c .before .seen7 .ensures) (c .seen8 .ensures))
+returns c =
+    let seen5 = c .before .before .before .seen5 in
+    let seen4 = c .before .before .before .before .seen4 in
+    let seen3 = c .before .before .before .before .before .seen3 in
+    let seen2 = c .before .before .before .before .before .before .seen2 in
+    let seen = c .before .before .before .before .before .before .before .seen in
+    let after-face-count = c .before .before .before .before .before .before .before .before in
+    let at-face-count = after-face-count .before .before .before .before .before .before .before .before in
+    let face-count = at-face-count .face-count in
+    let args = at-face-count .before .before .args in
+    rw (← face-count .ensures .0)
+    (written-out (sights (args .self .list) (args .ray)) _ _ _ _ _ _ _ _ _ (face-count .ensures .1) (seen .ensures) (seen2 .ensures) (seen3 .ensures)
+    (seen4 .ensures) (seen5 .ensures) (c .before .before .seen6 .ensures) (c .before .seen7 .ensures) (c .seen8 .ensures))
 
 pub nearest-detector-spec : {M : Type 1} → statement M
 nearest-detector-spec =

@@ -54,7 +54,22 @@ face-requires-8 c κs = search needs
 
 returns : tie.Need-returns
 unfolding newFacesOf
-returns c = simp (← c .before .before .before .before .before .before .before .face .ensures, ← c .before .before .before .before .before .before .face2 .ensures, ← c .before .before .before .before .before .face3 .ensures, ← c .before .before .before .before .face4 .ensures, ← c .before .before .before .face5 .ensures, ← c .before .before .face6 .ensures, ← c .before .face7 .ensures, ← c .face8 .ensures)
+returns c =
+    let face5 = c .before .before .before .face5 in
+    let face4 = c .before .before .before .before .face4 in
+    let face3 = c .before .before .before .before .before .face3 in
+    let face2 = c .before .before .before .before .before .before .face2 in
+    let face = c .before .before .before .before .before .before .before .face in
+    simp (
+      ← face .ensures,
+      ← face2 .ensures,
+      ← face3 .ensures,
+      ← face4 .ensures,
+      ← face5 .ensures,
+      ← c .before .before .face6 .ensures,
+      ← c .before .face7 .ensures,
+      ← c .face8 .ensures,
+    )
 
 pub new-spec : {M : Type 1} → statement M
 new-spec =

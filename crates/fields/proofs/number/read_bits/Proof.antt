@@ -22,7 +22,10 @@ hex-pad-requires c κs = sym (c .before .is-hex .ensures) ∙ c .if3 .taken
 
 returns-3 : tie.Need-returns-3
 unfolding readBitsOf
-returns-3 c = simp (ne-eqb _ _ (c .before .before .before .before .if1 .left), le-ltb _ _ (c .before .before .before .if2 .left), ← c .before .before .is-hex .ensures, c .before .if3 .taken, ← c .hex-pad .ensures)
+returns-3 c =
+    let if2 = c .before .before .before .if2 in
+    let if1 = c .before .before .before .before .if1 in
+    simp (ne-eqb _ _ (if1 .left), le-ltb _ _ (if2 .left), ← c .before .before .is-hex .ensures, c .before .if3 .taken, ← c .hex-pad .ensures)
 
 returns-4 : tie.Need-returns-4
 unfolding readBitsOf

@@ -25,7 +25,23 @@ is-hit-list-requires c κs = search needs
 
 returns : tie.Need-returns
 unfolding checkFilterOf checkPlaced
-returns c = simp (← c .before .before .before .before .before .before .before .before .before .before .find .ensures, c .before .before .before .before .before .before .before .before .p .given .1, ← c .before .before .before .before .before .all-pixels .ensures, eq-eqb _ _ (c .before .before .before .before .if1 .taken), ← c .before .before .before .pixels .ensures, eq-eqb _ _ (c .before .before .if2 .taken), ← c .before .is-hit-list .ensures, c .if3 .taken)
+returns c =
+    let pixels = c .before .before .before .pixels in
+    let if1 = c .before .before .before .before .if1 in
+    let all-pixels = c .before .before .before .before .before .all-pixels in
+    let at-p = c .before .before .before .before .before .before .before .before in
+    let p = at-p .p in
+    let find = at-p .before .before .find in
+    simp (
+      ← find .ensures,
+      p .given .1,
+      ← all-pixels .ensures,
+      eq-eqb _ _ (if1 .taken),
+      ← pixels .ensures,
+      eq-eqb _ _ (c .before .before .if2 .taken),
+      ← c .before .is-hit-list .ensures,
+      c .if3 .taken,
+    )
 
 returns-2 : tie.Need-returns-2
 unfolding checkFilterOf checkPlaced
@@ -33,15 +49,45 @@ returns-2 c = simp (← c .before .before .before .find .ensures, c .before .err
 
 returns-3 : tie.Need-returns-3
 unfolding checkFilterOf checkPlaced
-returns-3 c = simp (← c .before .before .before .before .before .before .before .before .before .before .find .ensures, c .before .before .before .before .before .before .before .before .p .given .1, ← c .before .before .before .before .before .all-pixels .ensures, eq-eqb _ _ (c .before .before .before .before .if1 .taken), ← c .before .before .before .pixels .ensures, eq-eqb _ _ (c .before .before .if2 .taken), ← c .before .is-hit-list .ensures, c .if3 .left)
+returns-3 c =
+    let pixels = c .before .before .before .pixels in
+    let if1 = c .before .before .before .before .if1 in
+    let all-pixels = c .before .before .before .before .before .all-pixels in
+    let at-p = c .before .before .before .before .before .before .before .before in
+    let p = at-p .p in
+    let find = at-p .before .before .find in
+    simp (
+      ← find .ensures,
+      p .given .1,
+      ← all-pixels .ensures,
+      eq-eqb _ _ (if1 .taken),
+      ← pixels .ensures,
+      eq-eqb _ _ (c .before .before .if2 .taken),
+      ← c .before .is-hit-list .ensures,
+      c .if3 .left,
+    )
 
 returns-4 : tie.Need-returns-4
 unfolding checkFilterOf checkPlaced
-returns-4 c = simp (← c .before .before .before .before .before .before .before .before .find .ensures, c .before .before .before .before .before .before .p .given .1, ← c .before .before .before .all-pixels .ensures, eq-eqb _ _ (c .before .before .if1 .taken), ← c .before .pixels .ensures, ne-eqb _ _ (c .if2 .left))
+returns-4 c =
+    let all-pixels = c .before .before .before .all-pixels in
+    let p = c .before .before .before .before .before .before .p in
+    let find = c .before .before .before .before .before .before .before .before .find in
+    simp (
+      ← find .ensures,
+      p .given .1,
+      ← all-pixels .ensures,
+      eq-eqb _ _ (c .before .before .if1 .taken),
+      ← c .before .pixels .ensures,
+      ne-eqb _ _ (c .if2 .left),
+    )
 
 returns-5 : tie.Need-returns-5
 unfolding checkFilterOf checkPlaced
-returns-5 c = simp (← c .before .before .before .before .before .before .find .ensures, c .before .before .before .before .p .given .1, ← c .before .all-pixels .ensures, ne-eqb _ _ (c .if1 .left))
+returns-5 c =
+    let p = c .before .before .before .before .p in
+    let find = c .before .before .before .before .before .before .find in
+    simp (← find .ensures, p .given .1, ← c .before .all-pixels .ensures, ne-eqb _ _ (c .if1 .left))
 
 pub check-filter-spec : {M : Type 1} → statement M
 check-filter-spec =

@@ -27,7 +27,10 @@ is-all-requires : tie.Need-is-all-requires
 is-all-requires c κs = search needs
 
 stored-part-requires : tie.Need-stored-part-requires
-stored-part-requires c κs = part-fits _ _ _ _ _ _ _ _ _ (c .before .before .before .before .before .check-filter .ensures) (c .before .before .before .p .given .1)
+stored-part-requires c κs =
+    let p = c .before .before .before .p in
+    let check-filter = c .before .before .before .before .before .check-filter in
+    part-fits _ _ _ _ _ _ _ _ _ (check-filter .ensures) (p .given .1)
 
 returns : tie.Need-returns
 returns c =

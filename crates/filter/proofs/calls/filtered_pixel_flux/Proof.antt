@@ -34,7 +34,10 @@ cast-count : tie.Need-cast-count
 cast-count c = search needs
 
 stored-part-requires : tie.Need-stored-part-requires
-stored-part-requires c κs = part-fits _ _ _ _ _ _ _ _ _ (c .before .before .before .before .before .before .before .check-filter .ensures) (c .before .before .before .before .before .p .given .1)
+stored-part-requires c κs =
+    let p = c .before .before .before .before .before .p in
+    let check-filter = c .before .before .before .before .before .before .before .check-filter in
+    part-fits _ _ _ _ _ _ _ _ _ (check-filter .ensures) (p .given .1)
 
 returns : tie.Need-returns
 returns c =
@@ -55,11 +58,13 @@ returns-2 c =
 
 returns-3 : tie.Need-returns-3
 returns-3 c =
-    let e = c .before .before .before .before .before .before .before .before .before .before .before .check-filter .ensures in
-    let k = c .before .before .before .before .before .before .before .before .before .p .given .1 in
+    let at-refill = c .before .before .before in
+    let refill = at-refill .refill in
+    let e = at-refill .before .before .before .before .before .before .before .before .check-filter .ensures in
+    let k = at-refill .before .before .before .before .before .before .p .given .1 in
     let b = c .before .before .before .before .before .before .is-all .ensures in
     let t = c .before .before .before .before .before .if1 .left in
-    (ap inNumbers (flux-sifted _ _ _ _ _ _ _ _ _ e _ k _ b t _ (c .before .before .before .refill .ensures)), (λ q. not-all _ _ b t q, λ p q g. refl))
+    (ap inNumbers (flux-sifted _ _ _ _ _ _ _ _ _ e _ k _ b t _ (refill .ensures)), (λ q. not-all _ _ b t q, λ p q g. refl))
 
 pub filtered-pixel-flux-spec : {M : Type 1} → statement M
 filtered-pixel-flux-spec =

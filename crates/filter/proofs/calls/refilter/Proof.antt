@@ -20,7 +20,10 @@ cast-t23 : tie.Need-cast-t23
 cast-t23 c = search needs
 
 returns : tie.Need-returns
-returns c = refilter-all _ _ _ _ _ _ _ _ _ (c .before .before .before .before .before .before .before .check-filter .ensures) _ (c .before .before .before .before .before .p .given .1) _ (c .before .before .is-all .ensures) (c .before .if1 .taken)
+returns c =
+    let p = c .before .before .before .before .before .p in
+    let check-filter = c .before .before .before .before .before .before .before .check-filter in
+    refilter-all _ _ _ _ _ _ _ _ _ (check-filter .ensures) _ (p .given .1) _ (c .before .before .is-all .ensures) (c .before .if1 .taken)
 
 refill-requires : tie.Need-refill-requires
 refill-requires c κs = search needs
@@ -33,7 +36,12 @@ same-length c = search needs
 
 returns-3 : tie.Need-returns-3
 returns-3 c =
-    refilter-sifted _ _ _ _ _ _ _ _ _ (c .before .before .before .before .before .before .before .before .before .before .check-filter .ensures) _ (c .before .before .before .before .before .before .before .before .p .given .1) _ (c .before .before .before .before .before .is-all .ensures) (c .before .before .before .before .if1 .left) _ (c .before .before .refill .ensures)
+    let if1 = c .before .before .before .before .if1 in
+    let is-all = c .before .before .before .before .before .is-all in
+    let at-p = c .before .before .before .before .before .before .before .before in
+    let p = at-p .p in
+    let check-filter = at-p .before .before .check-filter in
+    refilter-sifted _ _ _ _ _ _ _ _ _ (check-filter .ensures) _ (p .given .1) _ (is-all .ensures) (if1 .left) _ (c .before .before .refill .ensures)
 
 pub refilter-spec : {M : Type 1} → statement M
 refilter-spec =

@@ -17,7 +17,10 @@ same-length : tie.Need-same-length
 same-length c = search needs
 
 returns : tie.Need-returns
-returns c = plus-is _ _ _ _ _ (c .before .before .before .before .before .before .pixel-at .ensures .0) (c .before .before .before .before .before .add-at .ensures)
+returns c =
+    let add-at = c .before .before .before .before .before .add-at in
+    let pixel-at = c .before .before .before .before .before .before .pixel-at in
+    plus-is _ _ _ _ _ (pixel-at .ensures .0) (add-at .ensures)
 
 pub add-hit-spec : {M : Type 1} → statement M
 add-hit-spec = tie.close (tie.spec pixel-at-requires add-at-requires add-t8 same-length returns)

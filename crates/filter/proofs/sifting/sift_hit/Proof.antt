@@ -15,7 +15,10 @@ same-length c = search needs
 
 returns : tie.Need-returns
 unfolding siftHitOf
-returns c = simp (← c .before .before .before .before .before .passes .ensures, c .before .before .before .before .if1 .taken, ← c .before .before .add-hit .ensures)
+returns c =
+    let if1 = c .before .before .before .before .if1 in
+    let passes = c .before .before .before .before .before .passes in
+    simp (← passes .ensures, if1 .taken, ← c .before .before .add-hit .ensures)
 
 returns-2 : tie.Need-returns-2
 unfolding siftHitOf

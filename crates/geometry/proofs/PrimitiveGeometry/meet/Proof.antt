@@ -15,7 +15,9 @@ is-behind-requires : tie.Need-is-behind-requires
 is-behind-requires c κs = search needs
 
 returns : tie.Need-returns
-returns c = miss-is _ _ _ _ _ _ (c .before .before .before .transform-point .ensures) (c .before .before .transform-direction .ensures) (c .before .is-behind .ensures) (c .if1 .taken)
+returns c =
+    let transform-point = c .before .before .before .transform-point in
+    miss-is _ _ _ _ _ _ (transform-point .ensures) (c .before .before .transform-direction .ensures) (c .before .is-behind .ensures) (c .if1 .taken)
 
 ray-from-requires : tie.Need-ray-from-requires
 ray-from-requires c κs = search needs
@@ -25,7 +27,10 @@ meet-along-requires c κs = search needs
 
 returns-2 : tie.Need-returns-2
 unfolding meetOf
-returns-2 c = simp (← c .before .before .before .before .before .transform-point .ensures, ← c .before .before .before .before .transform-direction .ensures, ← c .before .ray-from .ensures, ← c .meet-along .ensures)
+returns-2 c =
+    let transform-direction = c .before .before .before .before .transform-direction in
+    let transform-point = c .before .before .before .before .before .transform-point in
+    simp (← transform-point .ensures, ← transform-direction .ensures, ← c .before .ray-from .ensures, ← c .meet-along .ensures)
 
 pub meet-spec : {M : Type 1} → statement M
 meet-spec =

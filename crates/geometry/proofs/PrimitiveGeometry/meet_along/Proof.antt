@@ -24,7 +24,10 @@ enum-told-2 c = search needs
 
 returns : tie.Need-returns
 unfolding meetAlongOf meetBy
-returns c = simp (c .before .before .before .before .before .before .along .given .1, ← c .before .before .before .before .intersect-local .ensures, c .before .before .hit .given .1, ← c .at .ensures)
+returns c =
+    let intersect-local = c .before .before .before .before .intersect-local in
+    let along = c .before .before .before .before .before .before .along in
+    simp (along .given .1, ← intersect-local .ensures, c .before .before .hit .given .1, ← c .at .ensures)
 
 returns-2 : tie.Need-returns-2
 unfolding meetAlongOf meetBy

@@ -21,11 +21,25 @@ flat-hit-requires c κs = search needs
 
 returns : tie.Need-returns
 unfolding planeAtOf
-returns c = simp (← c .before .before .before .before .before .reach .ensures, ← c .before .before .before .before .is-within .ensures, ← c .before .before .before .reach2 .ensures, ← c .before .before .is-within2 .ensures, c .before .if1 .taken, ← c .flat-hit .ensures)
+returns c =
+    let reach2 = c .before .before .before .reach2 in
+    let is-within = c .before .before .before .before .is-within in
+    let reach = c .before .before .before .before .before .reach in
+    simp (
+      ← reach .ensures,
+      ← is-within .ensures,
+      ← reach2 .ensures,
+      ← c .before .before .is-within2 .ensures,
+      c .before .if1 .taken,
+      ← c .flat-hit .ensures,
+    )
 
 returns-2 : tie.Need-returns-2
 unfolding planeAtOf
-returns-2 c = simp (← c .before .before .before .before .reach .ensures, ← c .before .before .before .is-within .ensures, ← c .before .before .reach2 .ensures, ← c .before .is-within2 .ensures, c .if1 .left)
+returns-2 c =
+    let is-within = c .before .before .before .is-within in
+    let reach = c .before .before .before .before .reach in
+    simp (← reach .ensures, ← is-within .ensures, ← c .before .before .reach2 .ensures, ← c .before .is-within2 .ensures, c .if1 .left)
 
 pub plane-at-spec : {M : Type 1} → statement M
 plane-at-spec =

@@ -25,11 +25,17 @@ enum-told-2 c = search needs
 
 returns : tie.Need-returns
 unfolding cylinderAmongOf firstThere
-returns c = simp (c .before .before .before .before .before .candidates .given .1, ← c .before .before .before .cylinder-at .ensures, c .before .h .given .1)
+returns c =
+    let cylinder-at = c .before .before .before .cylinder-at in
+    let candidates = c .before .before .before .before .before .candidates in
+    simp (candidates .given .1, ← cylinder-at .ensures, c .before .h .given .1)
 
 returns-2 : tie.Need-returns-2
 unfolding cylinderAmongOf firstThere
-returns-2 c = simp (c .before .before .before .before .before .candidates .given .1, ← c .before .before .before .cylinder-at .ensures, c .before .enum-told .given .1, ← c .cylinder-at2 .ensures)
+returns-2 c =
+    let cylinder-at = c .before .before .before .cylinder-at in
+    let candidates = c .before .before .before .before .before .candidates in
+    simp (candidates .given .1, ← cylinder-at .ensures, c .before .enum-told .given .1, ← c .cylinder-at2 .ensures)
 
 returns-3 : tie.Need-returns-3
 unfolding cylinderAmongOf firstThere

@@ -15,7 +15,10 @@ cylinder-hit-requires c κs = search needs
 
 returns : tie.Need-returns
 unfolding cylinderAtOf
-returns c = simp (c .before .before .before .before .if1 .taken, ← c .before .before .before .reach .ensures, ← c .before .before .is-within .ensures, c .before .if2 .taken, ← c .cylinder-hit .ensures)
+returns c =
+    let reach = c .before .before .before .reach in
+    let if1 = c .before .before .before .before .if1 in
+    simp (if1 .taken, ← reach .ensures, ← c .before .before .is-within .ensures, c .before .if2 .taken, ← c .cylinder-hit .ensures)
 
 returns-2 : tie.Need-returns-2
 unfolding cylinderAtOf

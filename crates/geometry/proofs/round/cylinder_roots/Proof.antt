@@ -13,7 +13,9 @@ solve-requires c κs = search needs
 
 returns-2 : tie.Need-returns-2
 unfolding cylinderRootsOf
-returns-2 c = simp (c .before .before .before .before .before .before .before .if1 .left, ← c .solve .ensures)
+returns-2 c =
+    let if1 = c .before .before .before .before .before .before .before .if1 in
+    simp (if1 .left, ← c .solve .ensures)
 
 pub cylinder-roots-spec : {M : Type 1} → statement M
 cylinder-roots-spec = tie.close (tie.spec returns solve-requires returns-2)

@@ -29,7 +29,13 @@ sphere-among-requires : tie.Need-sphere-among-requires
 sphere-among-requires c κs = search needs
 
 returns-2 : tie.Need-returns-2
-returns-2 c = sphere-rooted _ _ _ _ _ _ _ _ (c .before .before .before .before .before .before .before .before .before .abs .ensures) (c .before .before .before .before .before .before .dot .ensures) (c .before .before .before .before .before .dot2 .ensures) (c .before .before .before .before .dot3 .ensures) (c .before .solve .ensures) (c .sphere-among .ensures)
+returns-2 c =
+    let dot3 = c .before .before .before .before .dot3 in
+    let dot2 = c .before .before .before .before .before .dot2 in
+    let at-dot = c .before .before .before .before .before .before in
+    let dot = at-dot .dot in
+    let abs = at-dot .before .before .before .abs in
+    sphere-rooted _ _ _ _ _ _ _ _ (abs .ensures) (dot .ensures) (dot2 .ensures) (dot3 .ensures) (c .before .solve .ensures) (c .sphere-among .ensures)
 
 pub intersect-sphere-spec : {M : Type 1} → statement M
 intersect-sphere-spec =

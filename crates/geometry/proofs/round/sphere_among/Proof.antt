@@ -25,11 +25,17 @@ enum-told-2 c = search needs
 
 returns : tie.Need-returns
 unfolding sphereAmongOf firstThere
-returns c = simp (c .before .before .before .before .before .candidates .given .1, ← c .before .before .before .sphere-at .ensures, c .before .h .given .1)
+returns c =
+    let sphere-at = c .before .before .before .sphere-at in
+    let candidates = c .before .before .before .before .before .candidates in
+    simp (candidates .given .1, ← sphere-at .ensures, c .before .h .given .1)
 
 returns-2 : tie.Need-returns-2
 unfolding sphereAmongOf firstThere
-returns-2 c = simp (c .before .before .before .before .before .candidates .given .1, ← c .before .before .before .sphere-at .ensures, c .before .enum-told .given .1, ← c .sphere-at2 .ensures)
+returns-2 c =
+    let sphere-at = c .before .before .before .sphere-at in
+    let candidates = c .before .before .before .before .before .candidates in
+    simp (candidates .given .1, ← sphere-at .ensures, c .before .enum-told .given .1, ← c .sphere-at2 .ensures)
 
 returns-3 : tie.Need-returns-3
 unfolding sphereAmongOf firstThere

@@ -26,11 +26,18 @@ side-for-requires-3 c κs = search needs
 
 returns-3 : tie.Need-returns-3
 unfolding farSideOf
-returns-3 c = simp (c .before .before .before .before .before .before .before .if1 .left, c .before .before .before .before .if2 .left, ← c .before .before .before .infinity .ensures, c .before .if3 .taken, ← c .side-for3 .ensures)
+returns-3 c =
+    let infinity = c .before .before .before .infinity in
+    let if2 = c .before .before .before .before .if2 in
+    let if1 = c .before .before .before .before .before .before .before .if1 in
+    simp (if1 .left, if2 .left, ← infinity .ensures, c .before .if3 .taken, ← c .side-for3 .ensures)
 
 returns-4 : tie.Need-returns-4
 unfolding farSideOf
-returns-4 c = simp (c .before .before .before .before .before .before .if1 .left, c .before .before .before .if2 .left, ← c .before .before .infinity .ensures, c .if3 .left)
+returns-4 c =
+    let if2 = c .before .before .before .if2 in
+    let if1 = c .before .before .before .before .before .before .if1 in
+    simp (if1 .left, if2 .left, ← c .before .before .infinity .ensures, c .if3 .left)
 
 pub far-side-spec : {M : Type 1} → statement M
 far-side-spec =

@@ -17,7 +17,9 @@ hit-between-requires : tie.Need-hit-between-requires
 hit-between-requires c κs = search needs
 
 returns : tie.Need-returns
-returns c = inside-by _ _ _ _ _ _ _ _ (c .before .before .before .along .ensures) (c .before .before .along2 .ensures) (c .before .along3 .ensures) (c .hit-between .ensures)
+returns c =
+    let along = c .before .before .before .along in
+    inside-by _ _ _ _ _ _ _ _ (along .ensures) (c .before .before .along2 .ensures) (c .before .along3 .ensures) (c .hit-between .ensures)
 
 pub inside-spec : {M : Type 1} → statement M
 inside-spec =

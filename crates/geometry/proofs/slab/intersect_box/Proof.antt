@@ -23,14 +23,31 @@ outside-requires-3 c κs = search needs
 
 returns-3 : tie.Need-returns-3
 unfolding intersectBoxOf
-returns-3 c = simp (← c .before .before .before .before .before .outside .ensures, c .before .before .before .before .if1 .left, ← c .before .before .before .outside2 .ensures, c .before .before .if2 .left, ← c .before .outside3 .ensures, c .if3 .taken)
+returns-3 c =
+    let outside2 = c .before .before .before .outside2 in
+    let if1 = c .before .before .before .before .if1 in
+    let outside = c .before .before .before .before .before .outside in
+    simp (← outside .ensures, if1 .left, ← outside2 .ensures, c .before .before .if2 .left, ← c .before .outside3 .ensures, c .if3 .taken)
 
 inside-requires : tie.Need-inside-requires
 inside-requires c κs = search needs
 
 returns-4 : tie.Need-returns-4
 unfolding intersectBoxOf
-returns-4 c = simp (← c .before .before .before .before .before .before .outside .ensures, c .before .before .before .before .before .if1 .left, ← c .before .before .before .before .outside2 .ensures, c .before .before .before .if2 .left, ← c .before .before .outside3 .ensures, c .before .if3 .left, ← c .inside .ensures)
+returns-4 c =
+    let if2 = c .before .before .before .if2 in
+    let outside2 = c .before .before .before .before .outside2 in
+    let if1 = c .before .before .before .before .before .if1 in
+    let outside = c .before .before .before .before .before .before .outside in
+    simp (
+      ← outside .ensures,
+      if1 .left,
+      ← outside2 .ensures,
+      if2 .left,
+      ← c .before .before .outside3 .ensures,
+      c .before .if3 .left,
+      ← c .inside .ensures,
+    )
 
 pub intersect-box-spec : {M : Type 1} → statement M
 intersect-box-spec =

@@ -16,13 +16,19 @@ is-finite-with-requires : tie.Need-is-finite-with-requires
 is-finite-with-requires c κs = search needs
 
 returns : tie.Need-returns
-returns c = ray-made _ _ _ _ _ _ (c .before .before .before .before .before .unit .ensures) (c .before .before .before .u .given .1) (c .before .is-finite-with .ensures) (c .if1 .taken)
+returns c =
+    let u = c .before .before .before .u in
+    let unit = c .before .before .before .before .before .unit in
+    ray-made _ _ _ _ _ _ (unit .ensures) (u .given .1) (c .before .is-finite-with .ensures) (c .if1 .taken)
 
 enum-told : tie.Need-enum-told
 enum-told c = search needs
 
 returns-2 : tie.Need-returns-2
-returns-2 c = no-ray _ _ _ _ _ _ (c .before .before .before .before .before .unit .ensures) (c .before .before .before .u .given .1) (c .before .is-finite-with .ensures) (c .if1 .left)
+returns-2 c =
+    let u = c .before .before .before .u in
+    let unit = c .before .before .before .before .before .unit in
+    no-ray _ _ _ _ _ _ (unit .ensures) (u .given .1) (c .before .is-finite-with .ensures) (c .if1 .left)
 
 returns-3 : tie.Need-returns-3
 unfolding madeRay rayBy rayFromOf

@@ -19,7 +19,10 @@ divide-requires c κs = search needs
 
 returns-2 : tie.Need-returns-2
 unfolding unitOf
-returns-2 c = simp (← c .before .before .before .before .norm .ensures, c .before .before .before .if1 .left, ← c .before .before .is-finite .ensures, c .before .if2 .taken, ← c .divide .ensures)
+returns-2 c =
+    let if1 = c .before .before .before .if1 in
+    let norm = c .before .before .before .before .norm in
+    simp (← norm .ensures, if1 .left, ← c .before .before .is-finite .ensures, c .before .if2 .taken, ← c .divide .ensures)
 
 returns-3 : tie.Need-returns-3
 unfolding unitOf

@@ -25,13 +25,22 @@ refused-crossing-requires : tie.Need-refused-crossing-requires
 refused-crossing-requires c κs = search needs
 
 returns : tie.Need-returns
-returns c = simp (← c .before .before .before .before .before .before .intersect-ray .ensures, c .before .before .before .before .crossed .given .1, c .before .crossed2 .given .1)
+returns c =
+    let crossed = c .before .before .before .before .crossed in
+    let intersect-ray = c .before .before .before .before .before .before .intersect-ray in
+    simp (← intersect-ray .ensures, crossed .given .1, c .before .crossed2 .given .1)
 
 returns-2 : tie.Need-returns-2
-returns-2 c = simp (← c .before .before .before .before .before .intersect-ray .ensures, c .before .before .before .crossed .given .1, c .enum-told .given .1)
+returns-2 c =
+    let crossed = c .before .before .before .crossed in
+    let intersect-ray = c .before .before .before .before .before .intersect-ray in
+    simp (← intersect-ray .ensures, crossed .given .1, c .enum-told .given .1)
 
 returns-3 : tie.Need-returns-3
-returns-3 c = simp (← c .before .before .before .before .before .intersect-ray .ensures, c .before .before .before .error .given .1, ← c .before .number .ensures, ← c .refused-crossing .ensures)
+returns-3 c =
+    let error = c .before .before .before .error in
+    let intersect-ray = c .before .before .before .before .before .intersect-ray in
+    simp (← intersect-ray .ensures, error .given .1, ← c .before .number .ensures, ← c .refused-crossing .ensures)
 
 pub nonseq-intersect-ray-spec : {M : Type 1} → statement M
 nonseq-intersect-ray-spec =

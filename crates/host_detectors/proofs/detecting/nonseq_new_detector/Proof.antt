@@ -22,7 +22,10 @@ returns : tie.Need-returns
 returns c = simp (← c .before .before .before .before .no-detector .ensures, ← c .before .before .before .new .ensures, c .before .detector .given .1)
 
 returns-2 : tie.Need-returns-2
-returns-2 c = simp (← c .before .before .before .before .before .no-detector .ensures, ← c .before .before .before .before .new .ensures, c .before .before .error .given .1, ← c .number .ensures)
+returns-2 c =
+    let new = c .before .before .before .before .new in
+    let no-detector = c .before .before .before .before .before .no-detector in
+    simp (← no-detector .ensures, ← new .ensures, c .before .before .error .given .1, ← c .number .ensures)
 
 pub nonseq-new-detector-spec : {M : Type 1} → statement M
 nonseq-new-detector-spec =

@@ -19,7 +19,10 @@ number-requires : tie.Need-number-requires
 number-requires c κs = search needs
 
 returns : tie.Need-returns
-returns c = simp (← c .before .before .before .before .before .find .ensures, c .before .before .before .p .given .1, ← c .pixels .ensures)
+returns c =
+    let p = c .before .before .before .p in
+    let find = c .before .before .before .before .before .find in
+    simp (← find .ensures, p .given .1, ← c .pixels .ensures)
 
 returns-2 : tie.Need-returns-2
 returns-2 c = simp (← c .before .before .before .before .find .ensures, c .before .before .error .given .1, ← c .number .ensures)

@@ -23,7 +23,10 @@ same-length-4 : tie.Need-same-length-4
 same-length-4 c = search needs
 
 returns : tie.Need-returns
-returns c = recorded-same (c .before .before .before .before .before .before .before .before .before .before .record-hit-classified .result) _ _ _ _ _ (c .before .before .before .before .before .before .before .before .before .before .record-hit-classified .ensures) _ (c .before .checked .ensures)
+returns c =
+    let after-record-hit-classified = c .before .before .before .before .before .before .before .before in
+    let record-hit-classified = after-record-hit-classified .before .before .record-hit-classified in
+    recorded-same (record-hit-classified .result) _ _ _ _ _ (record-hit-classified .ensures) _ (c .before .checked .ensures)
 
 pub nonseq-record-hit-classified-spec : {M : Type 1} → statement M
 nonseq-record-hit-classified-spec =

@@ -20,7 +20,11 @@ same-length c = search needs
 
 returns : tie.Need-returns
 unfolding hostRefilterOf
-returns c = rw (le-leb _ _ (c .before .before .before .before .before .before .if1 .taken), ← c .before .before .before .before .before .numbered .ensures) (filtered-same (c .before .before .before .refilter .result) _ _ (c .before .before .before .refilter .ensures) _ (c .checked .ensures))
+returns c =
+    let refilter = c .before .before .before .refilter in
+    let numbered = c .before .before .before .before .before .numbered in
+    let if1 = c .before .before .before .before .before .before .if1 in
+    rw (le-leb _ _ (if1 .taken), ← numbered .ensures) (filtered-same (refilter .result) _ _ (refilter .ensures) _ (c .checked .ensures))
 
 number-requires : tie.Need-number-requires
 number-requires c κs = search needs

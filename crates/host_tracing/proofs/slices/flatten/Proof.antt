@@ -1,4 +1,4 @@
--- `host_tracing::slices::flatten` meets its contract: a walk of its MIR, by hand, with a loop. A turn looks into the lent slice of structs, copies element i out, lends the 2 `&mut` slices again to `put_ray`, each for a lifetime that is made for the call, and has them back at what `put_ray` left.
+-- `host_tracing::slices::flatten` meets its contract: a walk of its MIR, by hand, with a loop. Each time round it looks into the lent slice of structs, copies element i out, lends the 2 `&mut` slices again to `put_ray`, each for a lifetime that is made for the call, and has them back at what `put_ray` left.
 -- The loop's index is a `Turn`: where the loop stands, the number and the lists there, and that what is left, put there, makes the whole.
 -- Written by tools/walk.py. Assumes nothing.
 use mathlib.Core.Path.{_≡_, refl, sym, ap, _∙_, subst}
@@ -50,7 +50,7 @@ use denote.Triple.Walked.{says, Stays, stay-none-slice, stay-slice, walkOf, goes
 use denote.Exit.{yes}
 use Rattle.host_tracing.specs.declared.slices.GivenRay.{GivenRay}
 use Rattle.host_tracing.specs.Flat.{Laid, laid, putRayOf, flattenOf}
-use Rattle.host_tracing.proofs.Laying.{no-ray, put-turn, put-end}
+use Rattle.host_tracing.proofs.Laying.{no-ray, put-again, put-end}
 use Rattle.host_tracing.proofs.Again.{LentAgain, lends-again, comes-back}
 use Rattle.host_tracing.proofs.slices.GivenRay as T
 use Rattle.host_tracing.proofs.slices.GivenRay.Laws as T′
@@ -270,7 +270,7 @@ module _ {M : Type 1} (𝓤 : URA M) (H : Heap 𝓤) (A : Atoms 𝓤) (W : Given
           assigns-last ! (bin ! (load ! (from ! (stop !)) (look ! 24 refl)) (lit ! tt) (record { fits = next-fits })) (from ! (stop !)) (store ! 24 refl (tt, record { fits = next-fits })) $
           forget ! 22 refl $ forget ! 20 refl $ forget ! 18 refl $ forget ! 16 refl $ forget ! 14 refl $ forget ! 12 refl $ forget ! 8 refl $ forget ! 10 refl $ forget ! 6 refl $
           move ! (2 ∷ 3 ∷ 0 ∷ 1 ∷ 4 ∷ 5 ∷ []) $
-          again ! Less I z (record { at = i + 1; count = r; rayValues = zs .1 .1 .0; rayTags = zs .1 .1 .1 .0; within = omega (arith, inside); small = is′ .1; so = put-turn ys (laid t f₀ f₁) (laid r (zs .1 .1 .0) (zs .1 .1 .1 .0)) (flattenOf ys s₀) i inside (z .so) e; same₀ = m₀ ∙ z .same₀; same₁ = m₁ ∙ z .same₁ }) (omega (arith, inside)))))))))))))))
+          again ! Less I z (record { at = i + 1; count = r; rayValues = zs .1 .1 .0; rayTags = zs .1 .1 .1 .0; within = omega (arith, inside); small = is′ .1; so = put-again ys (laid t f₀ f₁) (laid r (zs .1 .1 .0) (zs .1 .1 .1 .0)) (flattenOf ys s₀) i inside (z .so) e; same₀ = m₀ ∙ z .same₀; same₁ = m₁ ∙ z .same₁ }) (omega (arith, inside)))))))))))))))
         where
           i : ℕ
           i = z .at

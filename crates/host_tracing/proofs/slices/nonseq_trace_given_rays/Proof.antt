@@ -1,10 +1,5 @@
-<<<<<<< HEAD:crates/host_tracing/proofs/slices/nonseq_trace_given_rays/Proof.antt
--- `host_tracing::slices::nonseq_trace_given_rays` meets its contract: a walk of its MIR, by hand. Two local arrays are written whole, lent as `&mut` slices to `flatten`, come back at the lists that it left, are lent as `&` slices to `trace_flat`, and come back to be freed. The four `&mut` slices are given up for good to `trace_flat`.
--- Written by tools/walk_given.py. Assumes nothing.
-=======
--- `host::slices::nonseq_trace_given_rays` meets its contract: a walk of its MIR, by hand. Two local arrays are written whole, lent as `&mut` slices to `flatten`, come back at the lists that it left, are lent as `&` slices to `trace_flat`, and come back to be freed. The `&mut` slices are given up for good to `trace_flat`.
+-- `host_tracing::slices::nonseq_trace_given_rays` meets its contract: a walk of its MIR, by hand. Two local arrays are written whole, lent as `&mut` slices to `flatten`, come back at the lists that it left, are lent as `&` slices to `trace_flat`, and come back to be freed. The `&mut` slices are given up for good to `trace_flat`.
 -- Written by tools/walk.py. Assumes nothing.
->>>>>>> 2213567 (walk: its name in what it writes):crates/host/proofs/slices/nonseq_trace_given_rays/Proof.antt
 use mathlib.Core.Path.{_≡_, refl, sym, ap, _∙_, subst}
 use Prim.Native.Nat.{ℕ, _<_, _^_, _*_}
 use native.Mathlib.Omega.{arith}
@@ -58,6 +53,7 @@ use Rattle.host_tracing.specs.declared.slices.GivenRay.{GivenRay}
 use Rattle.memory.specs.Memory.{lentMemory}
 use Rattle.host_tracing.specs.Tracing.{left, hostTraceRaysOf}
 use Rattle.host_tracing.specs.Flat.{laid, flattenOf, flatValues, flatTags}
+use Rattle.fields.specs.Split.{frontOf}
 use Rattle.host_tracing.proofs.Laying.{zero-f, zeros, nones, long-f, long-h}
 use Rattle.host_tracing.proofs.Given.{given-is}
 use Rattle.host_tracing.proofs.Arrays.{big-lit, Elems, apart, whole, lend-mut, back-mut, lend-shr, back-shr}
@@ -80,7 +76,6 @@ use Rattle.host_tracing.proofs.slices.nonseq_trace_given_rays.Key.{name
 use Rattle.host_tracing.proofs.slices.nonseq_trace_given_rays as entry
 use Rattle.host_tracing.proofs.slices.nonseq_trace_given_rays.Statement as stated
 use Rattle.host_tracing.proofs.slices.nonseq_trace_given_rays.Code as code
-use Rattle.fields.specs.Split.{frontOf}
 
 abbrev stayed : Stays (entry.ended .signature .params) (entry.ended .kept)
 stayed = (stay-none (λ _. G.the-row) yes, (stay-none-slice (0 ∷ []) tt (plain (λ _. f64)) yes, (stay-none-slice (1 ∷ []) tt (plain (λ _. u32)) yes, (stay-none (λ _. u32) yes, (stay-none-slice (2 ∷ []) tt (plain (λ _. T.the-row)) yes, (stay-none (λ _. D.the-row) yes, (gave-slice (3 ∷ []) tt (plain (λ _. f64)), (gave-slice (4 ∷ []) tt (plain (λ _. u32)), (gave-slice (5 ∷ []) tt (plain (λ _. f64)), (gave-slice (6 ∷ []) tt (plain (λ _. u32)), (stay-none (λ _. usize) yes, tt)))))))))))
@@ -298,11 +293,7 @@ module _ {M : Type 1} (𝓤 : URA M) (H : Heap 𝓤) (A : Atoms 𝓤) (W : Given
         move ! (5 ∷ []) $ lft-end ! tt $ move ! (0 ∷ 12 ∷ []) $ use2 W (later (‵ (Elems u32 40970 (zs .1 .1 .0) l₁₃))) (back-shr 𝓤 H A W u32 40970 l₁₃ (zs .1 .1 .0) (η ∷ []) (m₁ ∙ long-h)) $ await ! tt $ use1 W (‵ (cellAt fullShare (Array u32 40970 .mir) (array-vals (uint-vals w32) (zs .1 .1 .0)) l₁₃ 0)) (whole 𝓤 H A W u32 40970 l₁₃ (zs .1 .1 .0) (uint-vals w32) (uint-tells w32)) $
         returns ! (look ! 74 refl) $ forget ! 74 refl $ forget ! 72 refl $ forget ! 70 refl $ forget ! 68 refl $ forget ! 66 refl $ forget ! 64 refl $ forget ! 62 refl $ forget ! 60 refl $ forget ! 58 refl $ forget ! 56 refl $ forget ! 54 refl $ forget ! 52 refl $ forget ! 1 refl $ forget ! 0 refl $ forget ! 48 refl $ forget ! 46 refl $ forget ! 44 refl $ forget ! 42 refl $ forget ! 40 refl $ forget ! 38 refl $ forget ! 36 refl $ forget ! 34 refl $ forget ! 32 refl $ forget ! 30 refl $ forget ! 28 refl $ forget ! 26 refl $ forget ! 24 refl $ forget ! 22 refl $ forget ! 20 refl $ forget ! 18 refl $ forget ! 16 refl $
         move ! (74 ∷ 75 ∷ []) $ free1 ! $ move ! (72 ∷ 73 ∷ []) $ free1 ! $ move ! (70 ∷ 71 ∷ []) $ free1 ! $ move ! (68 ∷ 69 ∷ []) $ free1 ! $ move ! (66 ∷ 67 ∷ []) $ free1 ! $ move ! (64 ∷ 65 ∷ []) $ free1 ! $ move ! (62 ∷ 63 ∷ []) $ free1 ! $ move ! (60 ∷ 61 ∷ []) $ free1 ! $ move ! (58 ∷ 59 ∷ []) $ free1 ! $ move ! (56 ∷ 57 ∷ []) $ free1 ! $ move ! (54 ∷ 55 ∷ []) $ free1 ! $ move ! (52 ∷ 53 ∷ []) $ free1 ! $ move ! (1 ∷ 51 ∷ []) $ free1 ! $ move ! (0 ∷ 49 ∷ []) $ free1 ! $ move ! (46 ∷ 47 ∷ []) $ free1 ! $ move ! (44 ∷ 45 ∷ []) $ free1 ! $ move ! (42 ∷ 43 ∷ []) $ free1 ! $ move ! (40 ∷ 41 ∷ []) $ free1 ! $ move ! (38 ∷ 39 ∷ []) $ free1 ! $ move ! (36 ∷ 37 ∷ []) $ free1 ! $ move ! (34 ∷ 35 ∷ []) $ free1 ! $ move ! (32 ∷ 33 ∷ []) $ free1 ! $ move ! (30 ∷ 31 ∷ []) $ free1 ! $ move ! (28 ∷ 29 ∷ []) $ free1 ! $ move ! (26 ∷ 27 ∷ []) $ free1 ! $ move ! (24 ∷ 25 ∷ []) $ free1 ! $ move ! (22 ∷ 23 ∷ []) $ free1 ! $ move ! (20 ∷ 21 ∷ []) $ free1 ! $ move ! (18 ∷ 19 ∷ []) $ free1 ! $ move ! (16 ∷ 17 ∷ []) $ free1 ! $ move ! (14 ∷ 15 ∷ []) $ free1 ! $ free0 ! $
-<<<<<<< HEAD:crates/host_tracing/proofs/slices/nonseq_trace_given_rays/Proof.antt
-        nothing ! $ move ! (1 ∷ 0 ∷ []) $ join ! $ move ! (1 ∷ 0 ∷ []) $ join ! $ move ! (1 ∷ 0 ∷ []) $ join ! $ move ! (1 ∷ 0 ∷ []) $ join ! $ move ! (7 ∷ 0 ∷ []) $ join ! $ move ! (1 ∷ 0 ∷ []) $ join ! $ move ! (1 ∷ 0 ∷ []) $ join ! $ move ! (0 ∷ 7 ∷ 6 ∷ 5 ∷ 4 ∷ 3 ∷ 2 ∷ 1 ∷ []) $ by ! (exits r (ws .1 .1 .1 .1 .1 .1 .1 .1 .0) (ws .1 .1 .1 .1 .1 .1 .1 .1 .1 .0) (ws .1 .1 .1 .1 .1 .1 .1 .1 .1 .1 .0) (ws .1 .1 .1 .1 .1 .1 .1 .1 .1 .1 .1 .0) (subst (Is Z.the-row r) (LL.tells Z.the-type Z′.the-laws r _ is-r) is-r) (p₃, (p₄, (p₅, (p₆)))) (given-is g y₀ y₁ n y₂ (lentMemory ds y₃ y₄ y₅ y₆ used) t (zs .1 .0) (zs .1 .1 .0) (left r (ws .1 .1 .1 .1 .1 .1 .1 .1 .0) (ws .1 .1 .1 .1 .1 .1 .1 .1 .1 .0) (ws .1 .1 .1 .1 .1 .1 .1 .1 .1 .1 .0) (ws .1 .1 .1 .1 .1 .1 .1 .1 .1 .1 .1 .0)) e e′)))))))))))))))))))))))))))))))))))))))))))))))))))))))))))
-=======
-        nothing ! $ move ! (1 ∷ 0 ∷ []) $ join ! $ move ! (1 ∷ 0 ∷ []) $ join ! $ move ! (1 ∷ 0 ∷ []) $ join ! $ move ! (1 ∷ 0 ∷ []) $ join ! $ move ! (7 ∷ 0 ∷ []) $ join ! $ move ! (1 ∷ 0 ∷ []) $ join ! $ move ! (1 ∷ 0 ∷ []) $ join ! $ move ! (0 ∷ 7 ∷ 6 ∷ 5 ∷ 4 ∷ 3 ∷ 2 ∷ 1 ∷ []) $ by ! (exits r (ws .1 .1 .1 .1 .1 .1 .1 .1 .0) (ws .1 .1 .1 .1 .1 .1 .1 .1 .1 .0) (ws .1 .1 .1 .1 .1 .1 .1 .1 .1 .1 .0) (ws .1 .1 .1 .1 .1 .1 .1 .1 .1 .1 .1 .0) (subst (Is Z.the-row r) (LL.tells Z.the-type Z′.the-laws r _ is-r) is-r) (p₃, (p₄, (p₅, p₆))) (given-is g y₀ y₁ n y₂ (memoryOf ds y₃ y₄ y₅ y₆ used) t (zs .1 .0) (zs .1 .1 .0) (left r (ws .1 .1 .1 .1 .1 .1 .1 .1 .0) (ws .1 .1 .1 .1 .1 .1 .1 .1 .1 .0) (ws .1 .1 .1 .1 .1 .1 .1 .1 .1 .1 .0) (ws .1 .1 .1 .1 .1 .1 .1 .1 .1 .1 .1 .0)) e e′)))))))))))))))))))))))))))))))))))))))))))))))))))))))))))
->>>>>>> 2213567 (walk: its name in what it writes):crates/host/proofs/slices/nonseq_trace_given_rays/Proof.antt
+        nothing ! $ move ! (1 ∷ 0 ∷ []) $ join ! $ move ! (1 ∷ 0 ∷ []) $ join ! $ move ! (1 ∷ 0 ∷ []) $ join ! $ move ! (1 ∷ 0 ∷ []) $ join ! $ move ! (7 ∷ 0 ∷ []) $ join ! $ move ! (1 ∷ 0 ∷ []) $ join ! $ move ! (1 ∷ 0 ∷ []) $ join ! $ move ! (0 ∷ 7 ∷ 6 ∷ 5 ∷ 4 ∷ 3 ∷ 2 ∷ 1 ∷ []) $ by ! (exits r (ws .1 .1 .1 .1 .1 .1 .1 .1 .0) (ws .1 .1 .1 .1 .1 .1 .1 .1 .1 .0) (ws .1 .1 .1 .1 .1 .1 .1 .1 .1 .1 .0) (ws .1 .1 .1 .1 .1 .1 .1 .1 .1 .1 .1 .0) (subst (Is Z.the-row r) (LL.tells Z.the-type Z′.the-laws r _ is-r) is-r) (p₃, (p₄, (p₅, p₆))) (given-is g y₀ y₁ n y₂ (lentMemory ds y₃ y₄ y₅ y₆ used) t (zs .1 .0) (zs .1 .1 .0) (left r (ws .1 .1 .1 .1 .1 .1 .1 .1 .0) (ws .1 .1 .1 .1 .1 .1 .1 .1 .1 .0) (ws .1 .1 .1 .1 .1 .1 .1 .1 .1 .1 .0) (ws .1 .1 .1 .1 .1 .1 .1 .1 .1 .1 .1 .0)) e e′)))))))))))))))))))))))))))))))))))))))))))))))))))))))))))
 
 module _ {M : Type 1} (𝓤 : URA M) (H : Heap 𝓤) (A : Atoms 𝓤) (W : Given 𝓤 H A) (mem : Memory → SProp 𝓤) (run : Routine → Fun 𝓤) (𝓣 : Tables 𝓤 H) (known-first : Triple 𝓤 (𝓣 .C #first) (First 𝓤 H A mem run)) (known-then : Triple 𝓤 (𝓣 .C #then) (Then 𝓤 H A mem run)) where
   entry-walks : Walks 𝓤 H A entry.ended stayed (WpFn 𝓤 H (𝓣 .C) (𝓣 .Λ) code.function) (entry.clauses 𝓤 H A mem run)

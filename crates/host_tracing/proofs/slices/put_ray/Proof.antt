@@ -19,10 +19,17 @@ mul-put-ray-tags : tie.Need-mul-put-ray-tags
 mul-put-ray-tags c = search needs
 
 put-ray-tags-requires : tie.Need-put-ray-tags-requires
-put-ray-tags-requires c κs = omega (arith, room-in _ _ _ _ (c .before .before .before .before .before .before .has-room .ensures) (c .before .before .before .before .before .if1 .taken))
+put-ray-tags-requires c κs =
+    let if1 = c .before .before .before .before .before .if1 in
+    let has-room = c .before .before .before .before .before .before .has-room in
+    omega (arith, room-in _ _ _ _ (has-room .ensures) (if1 .taken))
 
 add-result : tie.Need-add-result
-add-result c = omega (arith, room-in _ _ _ _ (c .before .before .before .before .before .before .before .before .before .has-room .ensures) (c .before .before .before .before .before .before .before .before .if1 .taken))
+add-result c =
+    let at-if1 = c .before .before .before .before .before .before .before .before in
+    let if1 = at-if1 .if1 in
+    let has-room = at-if1 .before .has-room in
+    omega (arith, room-in _ _ _ _ (has-room .ensures) (if1 .taken))
 
 same-length : tie.Need-same-length
 same-length c = search needs
@@ -32,7 +39,12 @@ same-length-2 c = search needs
 
 returns : tie.Need-returns
 unfolding putRayOf
-returns c = simp (← c .before .before .before .before .before .before .before .before .before .has-room .ensures, c .before .before .before .before .before .before .before .before .if1 .taken, ← c .before .before .before .before .before .before .put-ray-values .ensures, ← c .before .before .put-ray-tags .ensures)
+returns c =
+    let put-ray-values = c .before .before .before .before .before .before .put-ray-values in
+    let at-if1 = c .before .before .before .before .before .before .before .before in
+    let if1 = at-if1 .if1 in
+    let has-room = at-if1 .before .has-room in
+    simp (← has-room .ensures, if1 .taken, ← put-ray-values .ensures, ← c .before .before .put-ray-tags .ensures)
 
 returns-2 : tie.Need-returns-2
 unfolding putRayOf

@@ -31,7 +31,12 @@ same-length-4 : tie.Need-same-length-4
 same-length-4 c = search needs
 
 returns : tie.Need-returns
-returns c = simp (← c .before .before .before .before .before .before .before .before .before .before .before .before .before .before .front .ensures, ← c .before .before .before .before .before .before .before .before .before .before .before .before .before .front-wholes .ensures, ← c .before .before .before .before .before .before .before .before .nonseq-trace-rays .ensures)
+returns c =
+    let at-nonseq-trace-rays = c .before .before .before .before .before .before .before .before in
+    let nonseq-trace-rays = at-nonseq-trace-rays .nonseq-trace-rays in
+    let front-wholes = at-nonseq-trace-rays .before .before .before .before .before .front-wholes in
+    let front = at-nonseq-trace-rays .before .before .before .before .before .before .front in
+    simp (← front .ensures, ← front-wholes .ensures, ← nonseq-trace-rays .ensures)
 
 pub trace-flat-spec : {M : Type 1} → statement M
 trace-flat-spec =

@@ -27,11 +27,13 @@ same-length-4 : tie.Need-same-length-4
 same-length-4 c = search needs
 
 returns : tie.Need-returns
-<<<<<<< HEAD:crates/host_tracing/proofs/tracing/nonseq_trace_rays/Proof.antt
-returns c = traced-is _ _ _ _ _ _ _ (c .before .before .before .before .before .before .before .before .before .before .before .before .before .before .trace-config .result) (c .before .before .before .before .before .before .before .before .before .trace-rays .result) _ _ _ _ _ _ (omega arith) (c .before .before .before .before .before .before .before .before .before .before .before .before .before .before .trace-config .ensures) (c .before .before .before .before .before .before .before .before .before .trace-rays .ensures) (c .told .ensures)
-=======
-returns c = traced-is _ _ _ _ _ _ _ (c .before .before .before .before .before .before .before .before .before .before .before .before .before .before .config-of .result) (c .before .before .before .before .before .before .before .before .before .trace-rays .result) _ _ _ _ _ _ (omega (arith, c .before .before .before .before .before .before .before .before .before .before .before .before .before .before .before .if1 .taken)) (c .before .before .before .before .before .before .before .before .before .before .before .before .before .before .config-of .ensures) (c .before .before .before .before .before .before .before .before .before .trace-rays .ensures) (c .told .ensures)
->>>>>>> ca6d44e (host: the test that the traced answer leans on is said to omega):crates/host/proofs/tracing/nonseq_trace_rays/Proof.antt
+returns c =
+    let after-trace-rays = c .before .before .before .before .before .before .before .before in
+    let trace-rays = after-trace-rays .before .trace-rays in
+    let trace-config = after-trace-rays .before .before .before .before .before .before .trace-config in
+    let if1 = after-trace-rays .before .before .before .before .before .before .before .if1 in
+    traced-is _ _ _ _ _ _ _ (trace-config .result) (trace-rays .result) _ _ _ _ _ _ (omega (arith, if1 .taken)) (trace-config .ensures)
+    (trace-rays .ensures) (c .told .ensures)
 
 no-medium-requires : tie.Need-no-medium-requires
 no-medium-requires c κs = search needs

@@ -76,14 +76,25 @@ same-length c = search needs
 
 returns : tie.Need-returns
 unfolding room
-returns c = text-refused _ (c .before .before .before .before .before .before .before .before .before .before .before .before .before .before .before .before .read-scene .result .check) _ _ _ _ (c .before .before .before .before .before .before .before .before .before .before .before .before .before .before .before .before .read-scene .ensures) _ _ _ _ _ _ (c .before .before .before .before .before .before .check .given .1) (c .before .before .before .number .ensures) (c .before .before .put-refusal .ensures)
+returns c =
+    let number = c .before .before .before .number in
+    let check = c .before .before .before .before .before .before .check in
+    let after-read-scene = c .before .before .before .before .before .before .before .before in
+    let read-scene = after-read-scene .before .before .before .before .before .before .before .before .read-scene in
+    text-refused _ (read-scene .result .check) _ _ _ _ (read-scene .ensures) _ _ _ _ _ _ (check .given .1) (number .ensures)
+    (c .before .before .put-refusal .ensures)
 
 same-length-2 : tie.Need-same-length-2
 same-length-2 c = search needs
 
 returns-2 : tie.Need-returns-2
 unfolding room
-returns-2 c = text-mapped _ (c .before .before .before .before .before .before .before .before .before .before .before .before .before .before .before .before .before .before .before .before .before .before .read-scene .result .check) _ _ _ _ (c .before .before .before .before .before .before .before .before .before .before .before .before .before .before .before .before .before .before .before .before .before .before .read-scene .ensures) _ _ _ (c .before .before .before .before .before .before .before .before .before .before .before .before .enum-told .given .1) (c .before .before .put-map .ensures)
+returns-2 c =
+    let after-enum-told = c .before .before .before .before .before .before .before .before in
+    let the-enum-told = after-enum-told .before .before .before .before .enum-told in
+    let after-read-scene = after-enum-told .before .before .before .before .before .before .before .before in
+    let read-scene = after-read-scene .before .before .before .before .before .before .read-scene in
+    text-mapped _ (read-scene .result .check) _ _ _ _ (read-scene .ensures) _ _ _ (the-enum-told .given .1) (c .before .before .put-map .ensures)
 
 pub put-stray-map-spec : {M : Type 1} → statement M
 put-stray-map-spec =

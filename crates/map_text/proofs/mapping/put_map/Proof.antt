@@ -71,13 +71,19 @@ array-borrow-prefix-flux : tie.Need-array-borrow-prefix-flux
 array-borrow-prefix-flux c = search needs
 
 slice-aggregate-put-traced : tie.Need-slice-aggregate-put-traced
-slice-aggregate-put-traced c = sym (length-take-le _ _ (omega (arith, c .before .before .before .before .before .before .before .before .before .few .ensures .1)))
+slice-aggregate-put-traced c =
+    let after-few = c .before .before .before .before .before .before .before .before in
+    let few = after-few .before .few in
+    sym (length-take-le _ _ (omega (arith, few .ensures .1)))
 
 array-borrow-prefix-hits : tie.Need-array-borrow-prefix-hits
 array-borrow-prefix-hits c = search needs
 
 slice-aggregate-put-traced-2 : tie.Need-slice-aggregate-put-traced-2
-slice-aggregate-put-traced-2 c = sym (length-take-le _ _ (omega (arith, c .before .before .before .before .before .before .before .before .before .before .few .ensures .1)))
+slice-aggregate-put-traced-2 c =
+    let after-few = c .before .before .before .before .before .before .before .before in
+    let few = after-few .before .before .few in
+    sym (length-take-le _ _ (omega (arith, few .ensures .1)))
 
 slice-aggregate-put-traced-3 : tie.Need-slice-aggregate-put-traced-3
 slice-aggregate-put-traced-3 c = search needs
@@ -93,7 +99,24 @@ same-length c = search needs
 
 returns : tie.Need-returns
 returns c =
-    map-is _ _ _ _ _ _ _ _ _ _ _ _ _ (c .before .before .before .before .before .before .before .before .before .before .before .before .before .before .before .before .before .before .before .before .before .before .before .detectors .ensures) (c .before .before .before .before .before .before .before .before .before .before .before .before .before .before .before .before .before .before .before .before .before .before .at-most .ensures .0) (c .before .before .before .before .before .before .before .before .before .before .before .before .before .before .before .before .before .before .before .before .before .at-most2 .ensures .0) (c .before .before .before .before .before .before .before .before .before .before .before .before .before .before .before .before .before .before .before .before .all-pixels .ensures) (c .before .before .before .before .before .before .before .before .before .before .before .before .before .before .before .before .before .before .before .few .ensures .0) (c .before .before .before .before .before .before .before .before .before .before .before .before .before .before .before .before .before .config .ensures) (c .before .before .before .before .before .before .before .before .before .before .before .before .before .before .before .before .front .ensures) (c .before .before .before .before .before .before .before .before .before .before .before .before .before .before .before .front-wholes .ensures) (c .before .before .before .before .before .before .before .before .before .before .before .before .before .before .front2 .ensures) (c .before .before .before .before .before .before .before .before .before .before .before .before .before .front-wholes2 .ensures) (c .before .before .before .before .before .before .before .before .before .before .before .before .whole .ensures) (c .before .before .before .before .before .before .before .before .before .before .before .meant .ensures) _ _ _ (c .before .before .before .before .before .before .put-traced .ensures)
+    let put-traced = c .before .before .before .before .before .before .put-traced in
+    let after-meant = c .before .before .before .before .before .before .before .before in
+    let meant = after-meant .before .before .before .meant in
+    let whole = after-meant .before .before .before .before .whole in
+    let front-wholes2 = after-meant .before .before .before .before .before .front-wholes2 in
+    let front2 = after-meant .before .before .before .before .before .before .front2 in
+    let front-wholes = after-meant .before .before .before .before .before .before .before .front-wholes in
+    let at-front = after-meant .before .before .before .before .before .before .before .before in
+    let front = at-front .front in
+    let config = at-front .before .config in
+    let few = at-front .before .before .before .few in
+    let all-pixels = at-front .before .before .before .before .all-pixels in
+    let at-most2 = at-front .before .before .before .before .before .at-most2 in
+    let at-most = at-front .before .before .before .before .before .before .at-most in
+    let detectors = at-front .before .before .before .before .before .before .before .detectors in
+    map-is _ _ _ _ _ _ _ _ _ _ _ _ _ (detectors .ensures) (at-most .ensures .0) (at-most2 .ensures .0) (all-pixels .ensures) (few .ensures .0)
+    (config .ensures) (front .ensures) (front-wholes .ensures) (front2 .ensures) (front-wholes2 .ensures) (whole .ensures) (meant .ensures) _ _ _
+    (put-traced .ensures)
 
 pub put-map-spec : {M : Type 1} → statement M
 put-map-spec =

@@ -38,7 +38,14 @@ same-length-5 : tie.Need-same-length-5
 same-length-5 c = search needs
 
 returns : tie.Need-returns
-returns c = refused-text _ (c .before .before .before .before .before .before .before .before .before .before .before .before .before .before .before .before .before .before .trace-rays .result) _ _ _ _ _ (c .before .before .before .before .before .before .before .before .before .before .before .before .before .before .before .before .before .before .trace-rays .ensures) _ _ _ _ _ _ (c .before .before .before .before .before .before .check .given .1) (c .before .before .before .number .ensures) (c .before .before .put-refusal .ensures)
+returns c =
+    let number = c .before .before .before .number in
+    let at-check = c .before .before .before .before .before .before in
+    let check = at-check .check in
+    let after-trace-rays = at-check .before .before .before .before .before .before .before .before in
+    let trace-rays = after-trace-rays .before .before .before .before .trace-rays in
+    refused-text _ (trace-rays .result) _ _ _ _ _ (trace-rays .ensures) _ _ _ _ _ _ (check .given .1) (number .ensures)
+    (c .before .before .put-refusal .ensures)
 
 same-length-6 : tie.Need-same-length-6
 same-length-6 c = search needs
@@ -56,7 +63,12 @@ same-length-10 : tie.Need-same-length-10
 same-length-10 c = search needs
 
 returns-2 : tie.Need-returns-2
-returns-2 c = done-text _ (c .before .before .before .before .before .before .before .before .before .before .before .before .before .before .before .before .before .before .before .trace-rays .result) _ _ _ _ _ (c .before .before .before .before .before .before .before .before .before .before .before .before .before .before .before .before .before .before .before .trace-rays .ensures) _ _ _ (c .before .before .before .before .before .before .before .enum-told .given .1) (c .before .before .put-answer .ensures)
+returns-2 c =
+    let at-enum-told = c .before .before .before .before .before .before .before in
+    let the-enum-told = at-enum-told .enum-told in
+    let after-trace-rays = at-enum-told .before .before .before .before .before .before .before .before in
+    let trace-rays = after-trace-rays .before .before .before .before .trace-rays in
+    done-text _ (trace-rays .result) _ _ _ _ _ (trace-rays .ensures) _ _ _ (the-enum-told .given .1) (c .before .before .put-answer .ensures)
 
 pub put-traced-spec : {M : Type 1} → statement M
 put-traced-spec =

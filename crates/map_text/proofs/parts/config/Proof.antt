@@ -36,7 +36,27 @@ value-requires-7 c κs = search needs
 
 returns : tie.Need-returns
 unfolding configOf
-returns c = simp (← c .before .before .before .before .before .before .before .before .before .whole .ensures, ← c .before .before .before .before .before .before .before .before .value .ensures, ← c .before .before .before .before .before .before .before .value2 .ensures, ← c .before .before .before .before .before .before .value3 .ensures, ← c .before .before .before .before .before .value4 .ensures, ← c .before .before .before .before .value5 .ensures, ← c .before .before .before .value6 .ensures, ← c .before .before .numbered .ensures, ← c .before .whole2 .ensures, ← c .value7 .ensures)
+returns c =
+    let value6 = c .before .before .before .value6 in
+    let value5 = c .before .before .before .before .value5 in
+    let value4 = c .before .before .before .before .before .value4 in
+    let value3 = c .before .before .before .before .before .before .value3 in
+    let value2 = c .before .before .before .before .before .before .before .value2 in
+    let at-value = c .before .before .before .before .before .before .before .before in
+    let value = at-value .value in
+    let whole = at-value .before .whole in
+    simp (
+      ← whole .ensures,
+      ← value .ensures,
+      ← value2 .ensures,
+      ← value3 .ensures,
+      ← value4 .ensures,
+      ← value5 .ensures,
+      ← value6 .ensures,
+      ← c .before .before .numbered .ensures,
+      ← c .before .whole2 .ensures,
+      ← c .value7 .ensures,
+    )
 
 pub config-spec : {M : Type 1} → statement M
 config-spec =

@@ -67,11 +67,15 @@ whole-requires-2 c κs = search needs
 returns : tie.Need-returns
 unfolding detectorOf
 returns c =
+    let value = c .before .before .before .value in
+    let vector3 = c .before .before .before .before .vector3 in
+    let vector2 = c .before .before .before .before .before .vector2 in
+    let vector = c .before .before .before .before .before .before .vector in
     rw (
-      c .before .before .before .before .before .before .vector .ensures,
-      c .before .before .before .before .before .vector2 .ensures,
-      c .before .before .before .before .vector3 .ensures,
-      c .before .before .before .value .ensures,
+      vector .ensures,
+      vector2 .ensures,
+      vector3 .ensures,
+      value .ensures,
       c .before .before .value2 .ensures,
       c .before .whole .ensures,
       c .whole2 .ensures,

@@ -30,7 +30,22 @@ detector-requires-8 c κs = search needs
 
 returns : tie.Need-returns
 unfolding detectorsOf
-returns c = simp (← c .before .before .before .before .before .before .before .detector .ensures, ← c .before .before .before .before .before .before .detector2 .ensures, ← c .before .before .before .before .before .detector3 .ensures, ← c .before .before .before .before .detector4 .ensures, ← c .before .before .before .detector5 .ensures, ← c .before .before .detector6 .ensures, ← c .before .detector7 .ensures, ← c .detector8 .ensures)
+returns c =
+    let detector5 = c .before .before .before .detector5 in
+    let detector4 = c .before .before .before .before .detector4 in
+    let detector3 = c .before .before .before .before .before .detector3 in
+    let detector2 = c .before .before .before .before .before .before .detector2 in
+    let detector = c .before .before .before .before .before .before .before .detector in
+    simp (
+      ← detector .ensures,
+      ← detector2 .ensures,
+      ← detector3 .ensures,
+      ← detector4 .ensures,
+      ← detector5 .ensures,
+      ← c .before .before .detector6 .ensures,
+      ← c .before .detector7 .ensures,
+      ← c .detector8 .ensures,
+    )
 
 pub detectors-spec : {M : Type 1} → statement M
 detectors-spec =

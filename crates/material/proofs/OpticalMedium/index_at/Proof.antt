@@ -47,11 +47,15 @@ returns-2 c = simp (c .before .before .self .given .1, ← c .constant .ensures)
 
 returns-3 : tie.Need-returns-3
 unfolding indexAtOf
-returns-3 c = simp (c .before .before .before .before .self2 .given .1, ← c .before .before .square-um .ensures, ← c .before .sellmeier .ensures, ← c .root-of-square .ensures)
+returns-3 c =
+    let self2 = c .before .before .before .before .self2 in
+    simp (self2 .given .1, ← c .before .before .square-um .ensures, ← c .before .sellmeier .ensures, ← c .root-of-square .ensures)
 
 returns-4 : tie.Need-returns-4
 unfolding indexAtOf
-returns-4 c = simp (c .before .before .before .before .self3 .given .1, ← c .before .before .square-um2 .ensures, ← c .before .schott .ensures, ← c .root-of-square2 .ensures)
+returns-4 c =
+    let self3 = c .before .before .before .before .self3 in
+    simp (self3 .given .1, ← c .before .before .square-um2 .ensures, ← c .before .schott .ensures, ← c .root-of-square2 .ensures)
 
 pub index-at-spec : {M : Type 1} → statement M
 index-at-spec =

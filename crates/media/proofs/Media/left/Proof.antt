@@ -23,18 +23,27 @@ move-down-requires : tie.Need-move-down-requires
 move-down-requires c κs = search needs
 
 sub-t11 : tie.Need-sub-t11
-sub-t11 c = omega (arith, found-below _ _ _ _ _ (c .before .before .before .before .before .last-place .ensures) (c .before .before .before .i .given .1))
+sub-t11 c =
+    let i = c .before .before .before .i in
+    let last-place = c .before .before .before .before .before .last-place in
+    omega (arith, found-below _ _ _ _ _ (last-place .ensures) (i .given .1))
 
 enum-told : tie.Need-enum-told
 enum-told c = search needs
 
 returns : tie.Need-returns
 unfolding leftOf withoutPlace
-returns c = simp (le-leb _ _ (c .before .before .before .before .before .before .before .before .if1 .taken), ← c .before .before .before .before .before .last-place .ensures, c .before .before .before .i .given .1, ← c .before .move-down .ensures)
+returns c =
+    let i = c .before .before .before .i in
+    let last-place = c .before .before .before .before .before .last-place in
+    let if1 = c .before .before .before .before .before .before .before .before .if1 in
+    simp (le-leb _ _ (if1 .taken), ← last-place .ensures, i .given .1, ← c .before .move-down .ensures)
 
 returns-2 : tie.Need-returns-2
 unfolding leftOf withoutPlace
-returns-2 c = simp (le-leb _ _ (c .before .before .before .before .before .if1 .taken), ← c .before .before .last-place .ensures, c .enum-told .given .1)
+returns-2 c =
+    let if1 = c .before .before .before .before .before .if1 in
+    simp (le-leb _ _ (if1 .taken), ← c .before .before .last-place .ensures, c .enum-told .given .1)
 
 returns-3 : tie.Need-returns-3
 unfolding leftOf withoutPlace

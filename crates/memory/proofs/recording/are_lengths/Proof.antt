@@ -13,7 +13,9 @@ is-hit-list-requires c κs = search needs
 
 returns : tie.Need-returns
 unfolding areLengthsOf
-returns c = simp (← c .before .before .before .all-pixels .ensures, eq-eqb _ _ (c .before .before .if1 .taken), eq-eqb _ _ (c .before .if2 .taken), ← c .is-hit-list .ensures)
+returns c =
+    let all-pixels = c .before .before .before .all-pixels in
+    simp (← all-pixels .ensures, eq-eqb _ _ (c .before .before .if1 .taken), eq-eqb _ _ (c .before .if2 .taken), ← c .is-hit-list .ensures)
 
 returns-2 : tie.Need-returns-2
 unfolding areLengthsOf

@@ -36,7 +36,10 @@ refused-requires-3 : tie.Need-refused-requires-3
 refused-requires-3 c κs = search needs
 
 returns-3 : tie.Need-returns-3
-returns-3 c = put-count _ _ _ (c .before .before .before .before .before .if1 .left) (c .before .before .before .if2 .left) (c .before .if3 .taken) _ (c .refused3 .ensures)
+returns-3 c =
+    let if2 = c .before .before .before .if2 in
+    let if1 = c .before .before .before .before .before .if1 in
+    put-count _ _ _ (if1 .left) (if2 .left) (c .before .if3 .taken) _ (c .refused3 .ensures)
 
 mul-flux : tie.Need-mul-flux
 mul-flux c = search needs
@@ -57,7 +60,12 @@ slice-read-hits : tie.Need-slice-read-hits
 slice-read-hits c = search needs
 
 add-hits : tie.Need-add-hits
-add-hits c = omega (arith, c .before .before .before .before .before .before .slice-known5 .given (c .before .before .before .before .before .before .before .before .before .before .before .before .before .before .before .args .p), c .before .before .before .before .before .if2 .left)
+add-hits c =
+    let if2 = c .before .before .before .before .before .if2 in
+    let slice-known5 = c .before .before .before .before .before .before .slice-known5 in
+    let after-args = c .before .before .before .before .before .before .before .before in
+    let args = after-args .before .before .before .before .before .before .before .args in
+    omega (arith, slice-known5 .given (args .p), if2 .left)
 
 mul-hits-2 : tie.Need-mul-hits-2
 mul-hits-2 c = search needs
@@ -72,7 +80,12 @@ put-hit-values-requires : tie.Need-put-hit-values-requires
 put-hit-values-requires c κs = search needs
 
 mul-put-hit-tags : tie.Need-mul-put-hit-tags
-mul-put-hit-tags c = omega (arith, c .before .before .before .before .before .before .before .before .before .before .before .before .if1 .left, c .before .before .before .before .before .before .before .before .before .before .before .before .before .before .before .before .before .before .before .before .good)
+mul-put-hit-tags c =
+    let after-if1 = c .before .before .before .before .before .before .before .before in
+    let at-if1 = after-if1 .before .before .before .before in
+    let if1 = at-if1 .if1 in
+    let good = at-if1 .before .before .before .before .before .before .before .before .good in
+    omega (arith, if1 .left, good)
 
 put-hit-tags-requires : tie.Need-put-hit-tags-requires
 put-hit-tags-requires c κs = search needs
@@ -81,7 +94,12 @@ raise-requires : tie.Need-raise-requires
 raise-requires c κs = search needs
 
 add-t17 : tie.Need-add-t17
-add-t17 c = omega (arith, c .before .before .before .before .before .before .before .before .before .before .before .before .before .before .before .before .if1 .left, c .before .before .before .before .before .before .before .before .before .before .before .before .before .before .before .before .before .before .before .before .before .before .before .before .good)
+add-t17 c =
+    let after-if1 = c .before .before .before .before .before .before .before .before in
+    let at-if1 = after-if1 .before .before .before .before .before .before .before .before in
+    let if1 = at-if1 .if1 in
+    let good = at-if1 .before .before .before .before .before .before .before .before .good in
+    omega (arith, if1 .left, good)
 
 same-length : tie.Need-same-length
 same-length c = search needs
@@ -97,7 +115,13 @@ same-length-4 c = search needs
 
 returns-4 : tie.Need-returns-4
 returns-4 c =
-    put-done _ _ _ (c .before .before .before .before .before .before .before .before .before .before .before .before .before .before .before .before .if1 .left) (c .before .before .before .before .before .before .before .before .before .before .before .before .before .before .if2 .left) (c .before .before .before .before .before .before .before .before .before .before .before .before .if3 .left) _ _ _ (c .before .before .before .before .before .before .before .put-hit-values .ensures) (c .before .before .before .put-hit-tags .ensures) (c .raise .ensures)
+    let put-hit-tags = c .before .before .before .put-hit-tags in
+    let put-hit-values = c .before .before .before .before .before .before .before .put-hit-values in
+    let after-if3 = c .before .before .before .before .before .before .before .before in
+    let if3 = after-if3 .before .before .before .before .if3 in
+    let if2 = after-if3 .before .before .before .before .before .before .if2 in
+    let if1 = after-if3 .before .before .before .before .before .before .before .before .if1 in
+    put-done _ _ _ (if1 .left) (if2 .left) (if3 .left) _ _ _ (put-hit-values .ensures) (put-hit-tags .ensures) (c .raise .ensures)
 
 pub put-spec : {M : Type 1} → statement M
 put-spec =

@@ -19,8 +19,13 @@ in-maps-requires c κs = search needs
 
 put-requires : tie.Need-put-requires
 put-requires c κs =
-    let t = told-lengths _ _ _ _ _ _ (c .before .before .before .before .before .in-maps .ensures) (c .before .before .before .before .if1 .taken) in
-    (there-below _ _ _ _ (c .before .before .before .before .before .before .before .before .before .before .at .ensures) (c .before .before .before .before .before .before .before .before .d .given .1), t .0, t .1, t .2)
+    let if1 = c .before .before .before .before .if1 in
+    let in-maps = c .before .before .before .before .before .in-maps in
+    let at-d = c .before .before .before .before .before .before .before .before in
+    let d = at-d .d in
+    let at = at-d .before .before .at in
+    let t = told-lengths _ _ _ _ _ _ (in-maps .ensures) (if1 .taken) in
+    (there-below _ _ _ _ (at .ensures) (d .given .1), t .0, t .1, t .2)
 
 same-length : tie.Need-same-length
 same-length c = search needs
@@ -36,7 +41,15 @@ same-length-4 c = search needs
 
 returns : tie.Need-returns
 returns c =
-    record-put _ _ _ (c .before .before .before .before .before .before .before .before .before .before .before .before .before .before .before .before .before .before .before .at .ensures) _ (c .before .before .before .before .before .before .before .before .before .before .before .before .before .before .before .before .before .d .given .1) _ (c .before .before .before .before .before .before .before .before .before .before .before .before .before .before .before .cell .ensures) _ (c .before .before .before .before .before .before .before .before .before .before .before .before .before .before .in-maps .ensures) (c .before .before .before .before .before .before .before .before .before .before .before .before .before .if1 .taken) _ (c .before .before .before .before .before .before .before .before .put .ensures)
+    let at-put = c .before .before .before .before .before .before .before .before in
+    let put = at-put .put in
+    let if1 = at-put .before .before .before .before .before .if1 in
+    let in-maps = at-put .before .before .before .before .before .before .in-maps in
+    let at-cell = at-put .before .before .before .before .before .before .before in
+    let cell = at-cell .cell in
+    let d = at-cell .before .before .d in
+    let at = at-cell .before .before .before .before .at in
+    record-put _ _ _ (at .ensures) _ (d .given .1) _ (cell .ensures) _ (in-maps .ensures) (if1 .taken) _ (put .ensures)
 
 refused-requires : tie.Need-refused-requires
 refused-requires c κs = search needs
@@ -49,7 +62,11 @@ refused-requires-2 c κs = search needs
 
 returns-2 : tie.Need-returns-2
 returns-2 c =
-    record-outside _ _ _ (c .before .before .before .before .before .before .before .at .ensures) _ (c .before .before .before .before .before .d .given .1) _ (c .before .before .before .cell .ensures) _ (c .before .before .in-maps .ensures) (c .before .if1 .left) _ (c .refused .ensures)
+    let cell = c .before .before .before .cell in
+    let d = c .before .before .before .before .before .d in
+    let at = c .before .before .before .before .before .before .before .at in
+    record-outside _ _ _ (at .ensures) _ (d .given .1) _ (cell .ensures) _ (c .before .before .in-maps .ensures) (c .before .if1 .left) _
+    (c .refused .ensures)
 
 returns-3 : tie.Need-returns-3
 returns-3 c = record-nowhere _ _ _ (c .before .before .before .at .ensures) (c .before .enum-told .given .1) _ (c .refused2 .ensures)

@@ -33,7 +33,14 @@ same-length-4 c = search needs
 
 returns : tie.Need-returns
 returns c =
-    recorded _ _ _ (c .before .before .before .before .before .before .before .before .before .before .before .before .before .before .before .before .before .find .ensures) _ (c .before .before .before .before .before .before .before .before .before .before .before .before .before .before .before .enum-told .given .1) _ (c .before .before .before .before .before .before .before .before .before .before .before .before .before .before .are-lengths .ensures) (c .before .before .before .before .before .before .before .before .before .before .before .before .before .if1 .taken) _ (c .before .before .before .before .before .before .before .before .«record» .ensures)
+    let at-record = c .before .before .before .before .before .before .before .before in
+    let the-record = at-record .«record» in
+    let if1 = at-record .before .before .before .before .before .if1 in
+    let are-lengths = at-record .before .before .before .before .before .before .are-lengths in
+    let at-enum-told = at-record .before .before .before .before .before .before .before in
+    let the-enum-told = at-enum-told .enum-told in
+    let find = at-enum-told .before .before .find in
+    recorded _ _ _ (find .ensures) _ (the-enum-told .given .1) _ (are-lengths .ensures) (if1 .taken) _ (the-record .ensures)
 
 refused-requires : tie.Need-refused-requires
 refused-requires c κs = search needs
@@ -42,7 +49,11 @@ returns-2 : tie.Need-returns-2
 returns-2 c = asked-refused _ _ _ (c .before .before .before .find .ensures) _ _ (c .before .error .given .1)
 
 returns-3 : tie.Need-returns-3
-returns-3 c = lengths-refused _ _ _ (c .before .before .before .before .before .find .ensures) _ (c .before .before .before .enum-told .given .1) _ (c .before .before .are-lengths .ensures) (c .before .if1 .left) _ (c .refused .ensures)
+returns-3 c =
+    let the-enum-told = c .before .before .before .enum-told in
+    let find = c .before .before .before .before .before .find in
+    lengths-refused _ _ _ (find .ensures) _ (the-enum-told .given .1) _ (c .before .before .are-lengths .ensures) (c .before .if1 .left) _
+    (c .refused .ensures)
 
 pub record-hit-classified-spec : {M : Type 1} → statement M
 record-hit-classified-spec =

@@ -12,7 +12,9 @@ use Rattle.printing.proofs.rows.put_doubles.Statement.{statement}
 use Rattle.printing.proofs.rows.put_doubles.Tie as tie
 
 abbrev Inv-loop : tie.InvT-loop
-Inv-loop buf₀ at doubles last n p₀ i₀ buf p i = (i ≤ length doubles) × (n ≡ length doubles) × (length buf ≡ length buf₀) × (putAll buf p (spaced doubleText (drop i doubles) last) ≡ putAll buf₀ at (doublesText doubles last))
+Inv-loop buf₀ at doubles last n p₀ i₀ buf p i =
+    (i ≤ length doubles) × (n ≡ length doubles) × (length buf ≡ length buf₀)
+    × (putAll buf p (spaced doubleText (drop i doubles) last) ≡ putAll buf₀ at (doublesText doubles last))
 
 abbrev μ-loop : tie.MeasureT-loop
 μ-loop buf₀ at doubles last n p₀ i₀ buf p i = length doubles - i
@@ -43,7 +45,18 @@ loop-less : tie.Need-loop-less Inv-loop μ-loop
 loop-less c = search needs
 
 loop-again : tie.Need-loop-again Inv-loop μ-loop
-loop-again c = (search needs, c .before .before .before .before .before .before .before .before .before .before .before .loop .inv .1, c .before .before .put .kept .0 ∙ c .before .before .before .before .before .before .before .put-double .kept .0 ∙ c .before .before .before .before .before .before .before .before .before .before .before .loop .inv .2, spaced-again doubleText nan _ (c .before .before .before .before .before .before .before .before .before .before .before .loop .i) _ _ (c .before .before .before .behind .result) _ _ _ _ _ _ _ (c .before .before .before .before .before .before .before .before .before .before .loop-test .taken) (c .before .before .before .before .before .before .before .before .before .before .before .loop .inv .1) (c .before .before .before .before .before .before .before .put-double .ensures) (c .before .before .before .behind .ensures) (c .before .before .put .ensures) (c .before .before .before .before .before .before .before .before .before .before .before .loop .inv .3))
+loop-again c =
+    let behind = c .before .before .before .behind in
+    let at-put-double = c .before .before .before .before .before .before .before in
+    let put-double = at-put-double .put-double in
+    let loop-test = at-put-double .before .before .before .loop-test in
+    let loop = at-put-double .before .before .before .before .loop in (
+      search needs,
+      loop .inv .1,
+      c .before .before .put .kept .0 ∙ put-double .kept .0 ∙ loop .inv .2,
+      spaced-again doubleText nan _ (loop .i) _ _ (behind .result) _ _ _ _ _ _ _ (loop-test .taken) (loop .inv .1) (put-double .ensures)
+          (behind .ensures) (c .before .before .put .ensures) (loop .inv .3),
+    )
 
 same-length : tie.Need-same-length Inv-loop μ-loop
 same-length c = search needs

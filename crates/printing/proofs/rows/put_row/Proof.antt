@@ -23,7 +23,10 @@ same-length-2 : tie.Need-same-length-2
 same-length-2 c = search needs
 
 returns-2 : tie.Need-returns-2
-returns-2 c = row-both _ _ _ _ _ _ _ (c .before .before .before .before .before .before .before .before .if1 .left) (c .before .before .before .before .before .before .put-wholes2 .ensures) (c .before .before .put-doubles .ensures)
+returns-2 c =
+    let put-wholes2 = c .before .before .before .before .before .before .put-wholes2 in
+    let if1 = c .before .before .before .before .before .before .before .before .if1 in
+    row-both _ _ _ _ _ _ _ (if1 .left) (put-wholes2 .ensures) (c .before .before .put-doubles .ensures)
 
 pub put-row-spec : {M : Type 1} → statement M
 put-row-spec =

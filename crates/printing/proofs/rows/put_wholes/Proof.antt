@@ -11,7 +11,9 @@ use Rattle.printing.proofs.rows.put_wholes.Statement.{statement}
 use Rattle.printing.proofs.rows.put_wholes.Tie as tie
 
 abbrev Inv-loop : tie.InvT-loop
-Inv-loop buf₀ at wholes last n p₀ i₀ buf p i = (i ≤ length wholes) × (n ≡ length wholes) × (length buf ≡ length buf₀) × (putAll buf p (spaced (decimalText 20) (drop i wholes) last) ≡ putAll buf₀ at (wholesText wholes last))
+Inv-loop buf₀ at wholes last n p₀ i₀ buf p i =
+    (i ≤ length wholes) × (n ≡ length wholes) × (length buf ≡ length buf₀)
+    × (putAll buf p (spaced (decimalText 20) (drop i wholes) last) ≡ putAll buf₀ at (wholesText wholes last))
 
 abbrev μ-loop : tie.MeasureT-loop
 μ-loop buf₀ at wholes last n p₀ i₀ buf p i = length wholes - i
@@ -42,7 +44,18 @@ loop-less : tie.Need-loop-less Inv-loop μ-loop
 loop-less c = search needs
 
 loop-again : tie.Need-loop-again Inv-loop μ-loop
-loop-again c = (search needs, c .before .before .before .before .before .before .before .before .before .before .before .loop .inv .1, c .before .before .put .kept .0 ∙ c .before .before .before .before .before .before .before .put-decimal .kept .0 ∙ c .before .before .before .before .before .before .before .before .before .before .before .loop .inv .2, spaced-again (decimalText 20) 0 _ (c .before .before .before .before .before .before .before .before .before .before .before .loop .i) _ _ (c .before .before .before .behind .result) _ _ _ _ _ _ _ (c .before .before .before .before .before .before .before .before .before .before .loop-test .taken) (c .before .before .before .before .before .before .before .before .before .before .before .loop .inv .1) (c .before .before .before .before .before .before .before .put-decimal .ensures) (c .before .before .before .behind .ensures) (c .before .before .put .ensures) (c .before .before .before .before .before .before .before .before .before .before .before .loop .inv .3))
+loop-again c =
+    let behind = c .before .before .before .behind in
+    let at-put-decimal = c .before .before .before .before .before .before .before in
+    let put-decimal = at-put-decimal .put-decimal in
+    let loop-test = at-put-decimal .before .before .before .loop-test in
+    let loop = at-put-decimal .before .before .before .before .loop in (
+      search needs,
+      loop .inv .1,
+      c .before .before .put .kept .0 ∙ put-decimal .kept .0 ∙ loop .inv .2,
+      spaced-again (decimalText 20) 0 _ (loop .i) _ _ (behind .result) _ _ _ _ _ _ _ (loop-test .taken) (loop .inv .1) (put-decimal .ensures)
+          (behind .ensures) (c .before .before .put .ensures) (loop .inv .3),
+    )
 
 same-length : tie.Need-same-length Inv-loop μ-loop
 same-length c = search needs

@@ -6,7 +6,9 @@ use Rattle.rays.proofs.Ray.is_finite.Tie as tie
 
 returns : tie.Need-returns
 unfolding isFiniteRayOf
-returns c = eight-finite (c .before .before .before .before .before .before .before .before .args .self .origin) (c .before .before .before .before .before .before .before .before .args .self .direction) _ _
+returns c =
+    let args = c .before .before .before .before .before .before .before .before .args in
+    eight-finite (args .self .origin) (args .self .direction) _ _
 
 pub is-finite-spec : {M : Type 1} → statement M
 is-finite-spec = tie.close (tie.spec returns)

@@ -15,7 +15,10 @@ abs-requires c κs = search needs
 
 returns : tie.Need-returns
 unfolding isValidRayOf
-returns c = simp (← c .before .before .before .before .before .is-finite .ensures, c .before .before .before .before .if1 .taken, c .before .before .if2 .taken, ← c .before .dot .ensures, ← c .abs .ensures)
+returns c =
+    let if1 = c .before .before .before .before .if1 in
+    let is-finite = c .before .before .before .before .before .is-finite in
+    simp (← is-finite .ensures, if1 .taken, c .before .before .if2 .taken, ← c .before .dot .ensures, ← c .abs .ensures)
 
 returns-2 : tie.Need-returns-2
 unfolding isValidRayOf

@@ -18,7 +18,9 @@ after-requires-2 c κs = search needs
 
 returns : tie.Need-returns
 unfolding reportAfterOf
-returns c = simp (← c .before .before .before .after .ensures, ← c .before .before .is-interaction .ensures, ← c .before .more-if .ensures, ← c .after2 .ensures)
+returns c =
+    simp
+    (← c .before .before .before .after .ensures, ← c .before .before .is-interaction .ensures, ← c .before .more-if .ensures, ← c .after2 .ensures)
 
 pub after-spec : {M : Type 1} → statement M
 after-spec =

@@ -18,7 +18,11 @@ enum-told : tie.Need-enum-told
 enum-told c = search needs
 
 returns : tie.Need-returns
-returns c = approach-met _ _ _ _ _ _ _ _ (c .before .before .before .before .before .before .if1 .taken) refl refl refl (c .before .before .before .before .before .meet .ensures) (c .before .before .before .m .given .1) (c .reached .ensures)
+returns c =
+    let m = c .before .before .before .m in
+    let meet = c .before .before .before .before .before .meet in
+    let if1 = c .before .before .before .before .before .before .if1 in
+    approach-met _ _ _ _ _ _ _ _ (if1 .taken) refl refl refl (meet .ensures) (m .given .1) (c .reached .ensures)
 
 returns-2 : tie.Need-returns-2
 returns-2 c = approach-missed _ _ _ _ _ (c .before .before .before .if1 .taken) refl refl (c .before .before .meet .ensures) (c .enum-told .given .1)

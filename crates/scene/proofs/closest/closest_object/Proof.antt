@@ -26,7 +26,11 @@ enum-told-2 : tie.Need-enum-told-2
 enum-told-2 c = search needs
 
 returns : tie.Need-returns
-returns c = closest-found _ _ _ _ _ _ _ _ (c .before .before .before .before .before .before .before .before .nearest-candidate .ensures) (c .before .before .before .before .before .before .c .given .1) (c .before .before .before .arrive-at .ensures) (c .before .h .given .1)
+returns c =
+    let arrive-at = c .before .before .before .arrive-at in
+    let the-c = c .before .before .before .before .before .before .c in
+    let nearest-candidate = c .before .before .before .before .before .before .before .before .nearest-candidate in
+    closest-found _ _ _ _ _ _ _ _ (nearest-candidate .ensures) (the-c .given .1) (arrive-at .ensures) (c .before .h .given .1)
 
 returns-2 : tie.Need-returns-2
 returns-2 c = search needs

@@ -17,7 +17,10 @@ enum-told : tie.Need-enum-told
 enum-told c = search needs
 
 returns : tie.Need-returns
-returns c = closest-strictly _ _ _ _ _ _ (c .before .before .before .before .before .nearest-candidate .ensures) (c .before .before .before .c .given .1) (c .arrive-at .ensures)
+returns c =
+    let the-c = c .before .before .before .c in
+    let nearest-candidate = c .before .before .before .before .before .nearest-candidate in
+    closest-strictly _ _ _ _ _ _ (nearest-candidate .ensures) (the-c .given .1) (c .arrive-at .ensures)
 
 returns-2 : tie.Need-returns-2
 returns-2 c = closest-nothing _ _ _ _ _ (c .before .before .nearest-candidate .ensures) (c .enum-told .given .1)

@@ -19,7 +19,9 @@ closest-object-requires c κs = search needs
 
 returns : tie.Need-returns
 unfolding intersectClosestObjectOf
-returns c = simp (← c .before .before .before .before .check-solids .ensures, c .before .before .enum-told .given .1, le-leb _ _ (c .before .if1 .taken), ← c .closest-object .ensures)
+returns c =
+    let check-solids = c .before .before .before .before .check-solids in
+    simp (← check-solids .ensures, c .before .before .enum-told .given .1, le-leb _ _ (c .before .if1 .taken), ← c .closest-object .ensures)
 
 returns-2 : tie.Need-returns-2
 unfolding intersectClosestObjectOf

@@ -13,7 +13,8 @@ use Rattle.scene.proofs.closest.nearest_candidate.Tie as tie
 abbrev Inv-loop : tie.InvT-loop
 Inv-loop solidValues solidTags count ray strict best₀ i₀ best i =
     (i ≤ count)
-    × (nearestFrom Candidate candidateDistance (candidatesIn strict (objectAtOf solidValues solidTags) ray) (count - i) i (asCandidate best) ≡ nearestAmong Candidate candidateDistance (candidatesIn strict (objectAtOf solidValues solidTags) ray) count)
+    × (nearestFrom Candidate candidateDistance (candidatesIn strict (objectAtOf solidValues solidTags) ray) (count - i) i (asCandidate best)
+    ≡ nearestAmong Candidate candidateDistance (candidatesIn strict (objectAtOf solidValues solidTags) ray) count)
 
 abbrev μ-loop : tie.MeasureT-loop
 μ-loop solidValues solidTags count ray strict best₀ i₀ best i = count - i

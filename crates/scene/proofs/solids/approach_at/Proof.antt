@@ -29,7 +29,10 @@ approach-in-requires c κs = search needs
 
 returns : tie.Need-returns
 unfolding approachAtOf holds objectAtOf
-returns c = simp (le-leb _ _ (c .before .before .before .before .if1 .taken), le-leb _ _ (c .before .before .before .if2 .taken), le-leb _ _ (c .before .if3 .taken), ← c .approach-in .ensures)
+returns c =
+    let if2 = c .before .before .before .if2 in
+    let if1 = c .before .before .before .before .if1 in
+    simp (le-leb _ _ (if1 .taken), le-leb _ _ (if2 .taken), le-leb _ _ (c .before .if3 .taken), ← c .approach-in .ensures)
 
 returns-2 : tie.Need-returns-2
 unfolding approachAtOf holds objectAtOf

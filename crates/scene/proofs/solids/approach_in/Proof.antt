@@ -80,11 +80,25 @@ enum-told c = search needs
 
 returns : tie.Need-returns
 unfolding readObjectOf
-returns c = approach-met _ _ _ _ _ _ _ _ (eq-eqb _ _ (c .before .before .before .before .before .before .before .before .before .before .before .before .before .if1 .taken)) (c .before .before .before .before .before .before .before .numbered .ensures) (c .before .before .before .before .before .before .before .before .before .before .before .before .mat-at .ensures) (c .before .mat-at2 .ensures) (c .before .before .before .before .before .before .meet .ensures) (c .before .before .before .before .m .given .1) (c .reached .ensures)
+returns c =
+    let m = c .before .before .before .before .m in
+    let meet = c .before .before .before .before .before .before .meet in
+    let at-numbered = c .before .before .before .before .before .before .before in
+    let numbered = at-numbered .numbered in
+    let mat-at = at-numbered .before .before .before .before .before .mat-at in
+    let if1 = at-numbered .before .before .before .before .before .before .if1 in
+    approach-met _ _ _ _ _ _ _ _ (eq-eqb _ _ (if1 .taken)) (numbered .ensures) (mat-at .ensures) (c .before .mat-at2 .ensures) (meet .ensures)
+    (m .given .1) (c .reached .ensures)
 
 returns-2 : tie.Need-returns-2
 unfolding readObjectOf
-returns-2 c = approach-missed _ _ _ _ _ (eq-eqb _ _ (c .before .before .before .before .before .before .before .before .before .if1 .taken)) (c .before .before .before .numbered .ensures) (c .before .before .before .before .before .before .before .before .mat-at .ensures) (c .before .before .meet .ensures) (c .enum-told .given .1)
+returns-2 c =
+    let numbered = c .before .before .before .numbered in
+    let at-mat-at = c .before .before .before .before .before .before .before .before in
+    let mat-at = at-mat-at .mat-at in
+    let if1 = at-mat-at .before .if1 in
+    approach-missed _ _ _ _ _ (eq-eqb _ _ (if1 .taken)) (numbered .ensures) (mat-at .ensures) (c .before .before .meet .ensures)
+    (c .enum-told .given .1)
 
 returns-3 : tie.Need-returns-3
 unfolding readObjectOf

@@ -66,10 +66,16 @@ loop-less : tie.Need-loop-less Inv-loop μ-loop
 loop-less c = search needs
 
 loop-again : tie.Need-loop-again Inv-loop μ-loop
-loop-again c = (search needs, tags-again _ _ _ _ _ (c .before .before .before .before .before .before .loop-test .taken) (c .before .tags-fit .ensures) (c .if1 .taken) (c .before .before .before .before .before .before .before .loop .inv .1))
+loop-again c =
+    let loop-test = c .before .before .before .before .before .before .loop-test in
+    let loop = c .before .before .before .before .before .before .before .loop in
+    (search needs, tags-again _ _ _ _ _ (loop-test .taken) (c .before .tags-fit .ensures) (c .if1 .taken) (loop .inv .1))
 
 returns : tie.Need-returns Inv-loop μ-loop
-returns c = tags-refused _ _ _ _ _ (c .before .before .before .before .before .before .loop-test .taken) (c .before .tags-fit .ensures) (c .if1 .left) (c .before .before .before .before .before .before .before .loop .inv .1)
+returns c =
+    let loop-test = c .before .before .before .before .before .before .loop-test in
+    let loop = c .before .before .before .before .before .before .before .loop in
+    tags-refused _ _ _ _ _ (loop-test .taken) (c .before .tags-fit .ensures) (c .if1 .left) (loop .inv .1)
 
 returns-2 : tie.Need-returns-2 Inv-loop μ-loop
 returns-2 c = tags-end _ _ (c .before .loop .i) _ (c .loop-test .left) (c .before .loop .inv .1)

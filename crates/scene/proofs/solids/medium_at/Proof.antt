@@ -91,7 +91,11 @@ numbered-requires c κs = search needs
 
 returns : tie.Need-returns
 unfolding holds mediumAtOf
-returns c = simp (le-leb _ _ (c .before .before .before .before .before .before .before .before .before .if1 .taken), le-leb _ _ (c .before .before .before .before .before .before .before .before .if2 .taken), ← c .numbered .ensures)
+returns c =
+    let at-if2 = c .before .before .before .before .before .before .before .before in
+    let if2 = at-if2 .if2 in
+    let if1 = at-if2 .before .if1 in
+    simp (le-leb _ _ (if1 .taken), le-leb _ _ (if2 .taken), ← c .numbered .ensures)
 
 returns-2 : tie.Need-returns-2
 unfolding holds mediumAtOf

@@ -66,7 +66,10 @@ shared-slice-read-t11 c = search needs
 
 returns : tie.Need-returns
 unfolding readObjectOf
-returns c = simp (← c .before .before .before .before .before .before .before .mat-at .ensures, ← c .before .before .before .before .before .before .mat-at2 .ensures, ← c .before .numbered .ensures)
+returns c =
+    let mat-at2 = c .before .before .before .before .before .before .mat-at2 in
+    let mat-at = c .before .before .before .before .before .before .before .mat-at in
+    simp (← mat-at .ensures, ← mat-at2 .ensures, ← c .before .numbered .ensures)
 
 pub read-object-spec : {M : Type 1} → statement M
 read-object-spec =

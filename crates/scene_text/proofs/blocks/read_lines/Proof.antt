@@ -15,7 +15,8 @@ Inv-loop s names form d₀ w₀ f₀ d w f =
     × (f .rows ≤ f .at)
     × (length d ≡ length d₀)
     × (length w ≡ length w₀)
-    × (comesTo s names form (f .more) (f .ok) (f .at) (f .line) (f .rows) (table (f .ok) d (f .nd) w (f .nw)) ≡ comesTo s names form (f₀ .more) (f₀ .ok) (f₀ .at) (f₀ .line) (f₀ .rows) (table (f₀ .ok) d₀ (f₀ .nd) w₀ (f₀ .nw)))
+    × (comesTo s names form (f .more) (f .ok) (f .at) (f .line) (f .rows) (table (f .ok) d (f .nd) w (f .nw))
+    ≡ comesTo s names form (f₀ .more) (f₀ .ok) (f₀ .at) (f₀ .line) (f₀ .rows) (table (f₀ .ok) d₀ (f₀ .nd) w₀ (f₀ .nw)))
 
 abbrev μ-loop : tie.MeasureT-loop
 μ-loop s names form d₀ w₀ f₀ d w f = left (f .more) (length s) (f .at)
@@ -27,13 +28,23 @@ read-next-requires : tie.Need-read-next-requires Inv-loop μ-loop
 read-next-requires c κs = let i = c .before .before .before .loop .inv in (search needs, i .0, i .1, i .2, c .before .before .loop-test .taken)
 
 loop-less : tie.Need-loop-less Inv-loop μ-loop
-loop-less c = less _ _ _ _ _ (c .before .before .before .before .before .before .before .loop-test .taken) (c .before .before .before .before .before .before .before .before .loop .inv .0) (c .before .before .before .before .read-next .ensures .1 .0) (c .before .before .before .before .read-next .ensures .1 .3)
+loop-less c =
+    let read-next = c .before .before .before .before .read-next in
+    let loop-test = c .before .before .before .before .before .before .before .loop-test in
+    let loop = c .before .before .before .before .before .before .before .before .loop in
+    less _ _ _ _ _ (loop-test .taken) (loop .inv .0) (read-next .ensures .1 .0) (read-next .ensures .1 .3)
 
 loop-again : tie.Need-loop-again Inv-loop μ-loop
 loop-again c =
     let n = c .before .before .before .before in
-    let i = c .before .before .before .before .before .before .before .before .loop .inv in
-    (n .read-next .ensures .1 .0, n .read-next .ensures .1 .1, n .read-next .ensures .1 .2, n .read-next .kept .1 .1 .1 .1 .0 ∙ i .3, n .read-next .kept .1 .1 .1 .1 .1 .0 ∙ i .4, n .read-next .ensures .0 ∙ i .5)
+    let i = c .before .before .before .before .before .before .before .before .loop .inv in (
+      n .read-next .ensures .1 .0,
+      n .read-next .ensures .1 .1,
+      n .read-next .ensures .1 .2,
+      n .read-next .kept .1 .1 .1 .1 .0 ∙ i .3,
+      n .read-next .kept .1 .1 .1 .1 .1 .0 ∙ i .4,
+      n .read-next .ensures .0 ∙ i .5,
+    )
 
 same-length : tie.Need-same-length Inv-loop μ-loop
 same-length c = search needs

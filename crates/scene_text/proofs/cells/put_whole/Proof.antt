@@ -19,7 +19,9 @@ same-length : tie.Need-same-length
 same-length c = search needs
 
 returns : tie.Need-returns
-returns c = put-whole _ _ _ _ _ _ _ _ (ap asWhole (c .before .before .before .before .before .v .given .1)) (c .before .before .put-u32 .ensures)
+returns c =
+    let v = c .before .before .before .before .before .v in
+    put-whole _ _ _ _ _ _ _ _ (ap asWhole (v .given .1)) (c .before .before .put-u32 .ensures)
 
 returns-2 : tie.Need-returns-2
 returns-2 c = put-no-whole _ _ _ _ _ (ap asWhole (c .enum-told .given .1))

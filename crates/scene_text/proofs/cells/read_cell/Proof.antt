@@ -16,7 +16,10 @@ same-length-2 c = search needs
 
 returns : tie.Need-returns
 unfolding readCellOf
-returns c = rw (eq-eqb _ _ (c .before .before .before .before .before .before .before .if1 .taken)) (c .before .before .before .before .read-double .ensures)
+returns c =
+    let read-double = c .before .before .before .before .read-double in
+    let if1 = c .before .before .before .before .before .before .before .if1 in
+    rw (eq-eqb _ _ (if1 .taken)) (read-double .ensures)
 
 read-media-requires : tie.Need-read-media-requires
 read-media-requires c κs = search needs
@@ -29,7 +32,11 @@ same-length-4 c = search needs
 
 returns-2 : tie.Need-returns-2
 unfolding readCellOf
-returns-2 c = rw (ne-eqb _ _ (c .before .before .before .before .before .before .before .before .if1 .left), eq-eqb _ _ (c .before .before .before .before .before .before .before .if2 .taken)) (c .before .before .before .before .read-media .ensures)
+returns-2 c =
+    let read-media = c .before .before .before .before .read-media in
+    let if2 = c .before .before .before .before .before .before .before .if2 in
+    let if1 = c .before .before .before .before .before .before .before .before .if1 in
+    rw (ne-eqb _ _ (if1 .left), eq-eqb _ _ (if2 .taken)) (read-media .ensures)
 
 read-number-requires : tie.Need-read-number-requires
 read-number-requires c κs = search needs
@@ -45,7 +52,13 @@ same-length-6 c = search needs
 
 returns-3 : tie.Need-returns-3
 unfolding readCellOf
-returns-3 c = rw (ne-eqb _ _ (c .before .before .before .before .before .before .before .before .before .if1 .left), ne-eqb _ _ (c .before .before .before .before .before .before .before .before .if2 .left), ← c .before .before .before .before .before .before .before .read-number .ensures) (c .before .before .before .before .put-whole .ensures)
+returns-3 c =
+    let put-whole = c .before .before .before .before .put-whole in
+    let read-number = c .before .before .before .before .before .before .before .read-number in
+    let at-if2 = c .before .before .before .before .before .before .before .before in
+    let if2 = at-if2 .if2 in
+    let if1 = at-if2 .before .if1 in
+    rw (ne-eqb _ _ (if1 .left), ne-eqb _ _ (if2 .left), ← read-number .ensures) (put-whole .ensures)
 
 pub read-cell-spec : {M : Type 1} → statement M
 read-cell-spec =

@@ -25,7 +25,11 @@ same-length : tie.Need-same-length
 same-length c = search needs
 
 returns : tie.Need-returns
-returns c = put-double _ _ _ _ _ _ _ _ _ (sym (c .before .before .before .before .before .before .before .before .read-bits .ensures) ∙ ap asBits (c .before .before .before .before .before .before .b .given .1)) (c .before .before .before .before .from-bits .ensures) (c .before .before .put-f64 .ensures)
+returns c =
+    let from-bits = c .before .before .before .before .from-bits in
+    let b = c .before .before .before .before .before .before .b in
+    let read-bits = c .before .before .before .before .before .before .before .before .read-bits in
+    put-double _ _ _ _ _ _ _ _ _ (sym (read-bits .ensures) ∙ ap asBits (b .given .1)) (from-bits .ensures) (c .before .before .put-f64 .ensures)
 
 returns-2 : tie.Need-returns-2
 returns-2 c = put-no-double _ _ _ _ _ (sym (c .before .before .read-bits .ensures) ∙ ap asBits (c .enum-told .given .1))

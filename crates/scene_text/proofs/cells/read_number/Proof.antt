@@ -27,7 +27,13 @@ read-below-requires c κs = search needs
 
 returns-3 : tie.Need-returns-3
 unfolding readNumberOf
-returns-3 c = simp (ne-eqb _ _ (c .before .before .before .if1 .left), ne-eqb _ _ (c .before .before .if2 .left), ← c .before .limit .ensures, ← c .read-below .ensures)
+returns-3 c =
+    simp (
+      ne-eqb _ _ (c .before .before .before .if1 .left),
+      ne-eqb _ _ (c .before .before .if2 .left),
+      ← c .before .limit .ensures,
+      ← c .read-below .ensures,
+    )
 
 pub read-number-spec : {M : Type 1} → statement M
 read-number-spec =

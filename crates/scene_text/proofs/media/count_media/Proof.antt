@@ -45,18 +45,36 @@ enum-told-2 : tie.Need-enum-told-2 Inv-loop μ-loop
 enum-told-2 c = search needs
 
 returns : tie.Need-returns Inv-loop μ-loop
-returns c = count-bad _ (c .before .before .before .before .before .before .loop .at) _ (c .before .before .before .before .end-at .ensures) (c .before .before .before .before .before .loop-test .taken) _ _ _ (c .before .before .read-whole .ensures) (c .enum-told2 .given .1) (c .before .before .before .before .before .before .loop .inv .1)
+returns c =
+    let end-at = c .before .before .before .before .end-at in
+    let loop-test = c .before .before .before .before .before .loop-test in
+    let loop = c .before .before .before .before .before .before .loop in
+    count-bad _ (loop .at) _ (end-at .ensures) (loop-test .taken) _ _ _ (c .before .before .read-whole .ensures) (c .enum-told2 .given .1)
+    (loop .inv .1)
 
 add-at : tie.Need-add-at Inv-loop μ-loop
-add-at c = let h = end-in _ _ _ _ (c .before .before .before .before .before .end-at .ensures) (c .before .before .before .before .before .before .loop-test .taken) in search needs
+add-at c =
+    let end-at = c .before .before .before .before .before .end-at in
+    let loop-test = c .before .before .before .before .before .before .loop-test in
+    let h = end-in _ _ _ _ (end-at .ensures) (loop-test .taken) in search needs
 
 loop-less : tie.Need-loop-less Inv-loop μ-loop
-loop-less c = let h = end-in _ _ _ _ (c .before .before .before .before .before .end-at .ensures) (c .before .before .before .before .before .before .loop-test .taken) in omega (arith, h .0, h .1, c .before .before .before .before .before .before .loop-test .taken)
+loop-less c =
+    let end-at = c .before .before .before .before .before .end-at in
+    let loop-test = c .before .before .before .before .before .before .loop-test in
+    let h = end-in _ _ _ _ (end-at .ensures) (loop-test .taken) in omega (arith, h .0, h .1, loop-test .taken)
 
 loop-again : tie.Need-loop-again Inv-loop μ-loop
 loop-again c =
-    let h = end-in _ _ _ _ (c .before .before .before .before .before .end-at .ensures) (c .before .before .before .before .before .before .loop-test .taken) in
-    (omega (arith, h .1), rw (c .one-more .ensures) (count-again _ (c .before .before .before .before .before .before .before .loop .at) _ (c .before .before .before .before .before .end-at .ensures) (c .before .before .before .before .before .before .loop-test .taken) _ _ _ _ (c .before .before .before .read-whole .ensures) (c .before .enum-told .given .1) (c .before .before .before .before .before .before .before .loop .inv .1)))
+    let read-whole = c .before .before .before .read-whole in
+    let end-at = c .before .before .before .before .before .end-at in
+    let loop-test = c .before .before .before .before .before .before .loop-test in
+    let loop = c .before .before .before .before .before .before .before .loop in
+    let h = end-in _ _ _ _ (end-at .ensures) (loop-test .taken) in (
+      omega (arith, h .1),
+      rw (c .one-more .ensures)
+          (count-again _ (loop .at) _ (end-at .ensures) (loop-test .taken) _ _ _ _ (read-whole .ensures) (c .before .enum-told .given .1) (loop .inv .1)),
+    )
 
 returns-2 : tie.Need-returns-2 Inv-loop μ-loop
 returns-2 c = count-done _ (c .before .loop .at) _ _ (c .loop-test .left) (c .before .loop .inv .1)

@@ -12,7 +12,8 @@ use Rattle.scene_text.proofs.media.put_media.Statement.{statement}
 use Rattle.scene_text.proofs.media.put_media.Tie as tie
 
 abbrev Inv-loop : tie.InvT-loop
-Inv-loop f from w₀ nw at₀ p₀ j₀ w at p j = (at ≤ length f + 1) × (length w ≡ length w₀) × (putAll w p (mediaFrom (8 - j) (partsAt 44 f at)) ≡ putAll w₀ nw (mediaFrom 8 (partsAt 44 f from)))
+Inv-loop f from w₀ nw at₀ p₀ j₀ w at p j =
+    (at ≤ length f + 1) × (length w ≡ length w₀) × (putAll w p (mediaFrom (8 - j) (partsAt 44 f at)) ≡ putAll w₀ nw (mediaFrom 8 (partsAt 44 f from)))
 
 abbrev μ-loop : tie.MeasureT-loop
 μ-loop f from w₀ nw at₀ p₀ j₀ w at p j = 8 - j
@@ -33,7 +34,15 @@ loop-less : tie.Need-loop-less Inv-loop μ-loop
 loop-less c = search needs
 
 loop-again : tie.Need-loop-again Inv-loop μ-loop
-loop-again c = (c .before .before .before .before .next-medium .ensures .1, c .before .before .put-u32 .kept .0 ∙ c .before .before .before .before .before .before .loop .inv .1, media-again _ (c .before .before .before .before .before .before .loop .at) _ _ (c .before .before .before .before .before .before .loop .j) _ _ _ _ _ (omega (arith, c .before .before .before .before .before .loop-test .taken)) (c .before .before .before .before .next-medium .ensures .0) (c .before .before .put-u32 .ensures) (c .before .before .before .before .before .before .loop .inv .2))
+loop-again c =
+    let next-medium = c .before .before .before .before .next-medium in
+    let loop-test = c .before .before .before .before .before .loop-test in
+    let loop = c .before .before .before .before .before .before .loop in (
+      next-medium .ensures .1,
+      c .before .before .put-u32 .kept .0 ∙ loop .inv .1,
+      media-again _ (loop .at) _ _ (loop .j) _ _ _ _ _ (omega (arith, loop-test .taken)) (next-medium .ensures .0)
+          (c .before .before .put-u32 .ensures) (loop .inv .2),
+    )
 
 same-length : tie.Need-same-length Inv-loop μ-loop
 same-length c = search needs

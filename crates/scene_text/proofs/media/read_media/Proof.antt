@@ -24,10 +24,19 @@ enum-told : tie.Need-enum-told
 enum-told c = search needs
 
 same-length : tie.Need-same-length
-same-length c = c .before .before .put-media .kept .1 .1 .0 ∙ c .before .before .before .before .before .before .put-u32 .kept .0
+same-length c =
+    let put-u32 = c .before .before .before .before .before .before .put-u32 in
+    c .before .before .put-media .kept .1 .1 .0 ∙ put-u32 .kept .0
 
 returns : tie.Need-returns
-returns c = media-some _ _ _ _ _ _ _ (c .before .before .before .before .before .before .before .before .before .before .before .before .media-start .ensures .0) (c .before .before .before .before .before .before .before .before .before .before .before .count-media .ensures) _ _ _ _ _ (c .before .before .before .before .before .before .before .before .before .v .given .1) (c .before .before .before .before .before .before .put-u32 .ensures) (c .before .before .put-media .ensures)
+returns c =
+    let at-put-u32 = c .before .before .before .before .before .before in
+    let put-u32 = at-put-u32 .put-u32 in
+    let v = at-put-u32 .before .before .before .v in
+    let count-media = at-put-u32 .before .before .before .before .before .count-media in
+    let media-start = at-put-u32 .before .before .before .before .before .before .media-start in
+    media-some _ _ _ _ _ _ _ (media-start .ensures .0) (count-media .ensures) _ _ _ _ _ (v .given .1) (put-u32 .ensures)
+    (c .before .before .put-media .ensures)
 
 returns-2 : tie.Need-returns-2
 returns-2 c = media-no _ _ _ _ _ _ _ (c .before .before .before .media-start .ensures .0) (c .before .before .count-media .ensures) (c .enum-told .given .1)

@@ -30,10 +30,19 @@ same-length-2 : tie.Need-same-length-2
 same-length-2 c = search needs
 
 returns : tie.Need-returns
-returns c = ((λ form. cell-again _ _ _ _ (c .before .before .before .before .before .before .before .before .before .end-at .ensures) (search needs) _ _ _ _ _ _ _ form (c .before .before .before .before .before .before .before .before .if2 .taken) (c .before .before .before .before .before .before .before .before .before .before .if1 .taken) (c .before .before .before .before .read-cell .ensures)), search needs)
+returns c =
+    let read-cell = c .before .before .before .before .read-cell in
+    let at-if2 = c .before .before .before .before .before .before .before .before in
+    let if2 = at-if2 .if2 in
+    let end-at = at-if2 .before .end-at in
+    let if1 = at-if2 .before .before .if1 in
+    ((λ form. cell-again _ _ _ _ (end-at .ensures) (search needs) _ _ _ _ _ _ _ form (if2 .taken) (if1 .taken) (read-cell .ensures)), search needs)
 
 returns-2 : tie.Need-returns-2
-returns-2 c = ((λ form. cell-none _ _ _ _ (c .before .end-at .ensures) (search needs) _ _ _ _ _ _ form (c .if2 .left) (c .before .before .if1 .taken)), search needs)
+returns-2 c = (
+  (λ form. cell-none _ _ _ _ (c .before .end-at .ensures) (search needs) _ _ _ _ _ _ form (c .if2 .left) (c .before .before .if1 .taken)),
+  search needs,
+)
 
 returns-3 : tie.Need-returns-3
 returns-3 c = ((λ form. cell-past _ _ _ _ _ form (c .if1 .left)), search needs)

@@ -48,13 +48,15 @@ loop-less c = search needs
 
 loop-again : tie.Need-loop-again Inv-loop μ-loop
 loop-again c =
-    let n = c .before .before .before .before in
-    let l = c .before .before .before .before .before .before .before .before .before .before in (
-      omega (arith, c .before .before .before .before .before .before .before .before .before .loop-test .taken),
-      n .next-cell .ensures .1,
-      n .next-cell .kept .1 .1 .1 .1 .0 ∙ l .loop .inv .2,
-      n .next-cell .kept .1 .1 .1 .1 .1 .0 ∙ l .loop .inv .3,
-      line-again _ _ (l .loop .k) _ _ _ _ _ (c .before .before .before .before .before .before .before .before .before .loop-test .taken) (n .next-cell .ensures .0) (l .loop .inv .4),
+    let at-next-cell = c .before .before .before .before in
+    let next-cell = at-next-cell .next-cell in
+    let loop-test = at-next-cell .before .before .before .before .before .loop-test in
+    let loop = at-next-cell .before .before .before .before .before .before .loop in (
+      omega (arith, loop-test .taken),
+      next-cell .ensures .1,
+      next-cell .kept .1 .1 .1 .1 .0 ∙ loop .inv .2,
+      next-cell .kept .1 .1 .1 .1 .1 .0 ∙ loop .inv .3,
+      line-again _ _ (loop .k) _ _ _ _ _ (loop-test .taken) (next-cell .ensures .0) (loop .inv .4),
     )
 
 ends-there-requires : tie.Need-ends-there-requires Inv-loop μ-loop

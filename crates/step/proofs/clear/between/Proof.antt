@@ -30,11 +30,16 @@ ends-requires-2 c κs = search needs
 
 returns : tie.Need-returns
 unfolding betweenOf
-returns c = simp (c .before .before .before .before .before .before .here .given .1, c .before .before .before .there .given .1, ← c .before .compute-snell-fresnel-interaction .ensures, ← c .parted .ensures)
+returns c =
+    let there = c .before .before .before .there in
+    let here = c .before .before .before .before .before .before .here in
+    simp (here .given .1, there .given .1, ← c .before .compute-snell-fresnel-interaction .ensures, ← c .parted .ensures)
 
 returns-2 : tie.Need-returns-2
 unfolding betweenOf
-returns-2 c = simp (c .before .before .before .before .before .here .given .1, c .before .before .there2 .given .1, ← c .ends .ensures)
+returns-2 c =
+    let here = c .before .before .before .before .before .here in
+    simp (here .given .1, c .before .before .there2 .given .1, ← c .ends .ensures)
 
 returns-3 : tie.Need-returns-3
 unfolding betweenOf

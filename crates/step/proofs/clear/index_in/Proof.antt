@@ -24,7 +24,10 @@ refractive-index-requires-2 c κs = search needs
 
 returns : tie.Need-returns
 unfolding indexInOf mediumFrom
-returns c = simp (← c .before .before .before .before .before .newest .ensures, c .before .before .before .solid .given .1, ← c .before .medium-at .ensures, ← c .refractive-index .ensures)
+returns c =
+    let solid = c .before .before .before .solid in
+    let newest = c .before .before .before .before .before .newest in
+    simp (← newest .ensures, solid .given .1, ← c .before .medium-at .ensures, ← c .refractive-index .ensures)
 
 returns-2 : tie.Need-returns-2
 unfolding indexInOf mediumFrom

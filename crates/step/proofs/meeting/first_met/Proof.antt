@@ -27,7 +27,9 @@ enum-told-3 c = search needs
 
 returns : tie.Need-returns
 unfolding firstMetOf
-returns c = simp (c .before .before .before .before .before .seen .given .1, c .before .before .met .given .1, ← c .nearer .ensures)
+returns c =
+    let seen = c .before .before .before .before .before .seen in
+    simp (seen .given .1, c .before .before .met .given .1, ← c .nearer .ensures)
 
 returns-2 : tie.Need-returns-2
 unfolding firstMetOf

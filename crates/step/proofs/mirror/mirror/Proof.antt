@@ -15,7 +15,13 @@ mirror-from-requires c κs = search needs
 
 returns : tie.Need-returns
 unfolding mirrorOf
-returns c = simp (← c .before .before .before .before .mirrored-power .ensures, c .before .before .if1 .taken, ← c .before .mirrored .ensures, ← c .mirror-from .ensures)
+returns c =
+    simp (
+      ← c .before .before .before .before .mirrored-power .ensures,
+      c .before .before .if1 .taken,
+      ← c .before .mirrored .ensures,
+      ← c .mirror-from .ensures,
+    )
 
 ends-requires : tie.Need-ends-requires
 ends-requires c κs = search needs

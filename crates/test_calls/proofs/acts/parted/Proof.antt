@@ -7,7 +7,9 @@ use Rattle.test_calls.proofs.acts.parted.Statement.{statement}
 use Rattle.test_calls.proofs.acts.parted.Tie as tie
 
 abbrev Inv-loop : tie.InvT-loop
-Inv-loop parts w d flux₀ hits₀ hitValues₀ hitTags₀ ds₀ used cuts a₀ k₀ done₀ flux hits hitValues hitTags ds a k done = (k ≤ 4) × (length flux ≡ length flux₀) × (length hits ≡ length hits₀) × (length hitValues ≡ length hitValues₀) × (length hitTags ≡ length hitTags₀) × (length ds ≡ length ds₀)
+Inv-loop parts w d flux₀ hits₀ hitValues₀ hitTags₀ ds₀ used cuts a₀ k₀ done₀ flux hits hitValues hitTags ds a k done =
+    (k ≤ 4) × (length flux ≡ length flux₀) × (length hits ≡ length hits₀) × (length hitValues ≡ length hitValues₀)
+    × (length hitTags ≡ length hitTags₀) × (length ds ≡ length ds₀)
 
 abbrev μ-loop : tie.MeasureT-loop
 μ-loop parts w d flux₀ hits₀ hitValues₀ hitTags₀ ds₀ used cuts a₀ k₀ done₀ flux hits hitValues hitTags ds a k done = k

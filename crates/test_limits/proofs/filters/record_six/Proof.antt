@@ -7,7 +7,9 @@ use Rattle.test_limits.proofs.filters.record_six.Statement.{statement}
 use Rattle.test_limits.proofs.filters.record_six.Tie as tie
 
 abbrev Inv-loop : tie.InvT-loop
-Inv-loop flux₀ hits₀ hitValues₀ hitTags₀ r₀ i₀ flux hits hitValues hitTags r i = (i ≤ 6) × (length flux ≡ length flux₀) × (length hits ≡ length hits₀) × (length hitValues ≡ length hitValues₀) × (length hitTags ≡ length hitTags₀)
+Inv-loop flux₀ hits₀ hitValues₀ hitTags₀ r₀ i₀ flux hits hitValues hitTags r i =
+    (i ≤ 6) × (length flux ≡ length flux₀) × (length hits ≡ length hits₀) × (length hitValues ≡ length hitValues₀)
+    × (length hitTags ≡ length hitTags₀)
 
 abbrev μ-loop : tie.MeasureT-loop
 μ-loop flux₀ hits₀ hitValues₀ hitTags₀ r₀ i₀ flux hits hitValues hitTags r i = 6 - i

@@ -27,7 +27,20 @@ both-requires c κs = search needs
 
 returns : tie.Need-returns
 unfolding crossingLineOf
-returns c = simp (← c .before .before .before .before .before .before .detector-in .ensures, ← c .before .before .before .before .before .face .ensures, ← c .before .before .before .before .ray-in .ensures, ← c .before .before .before .intersect-ray .ensures, ← c .before .before .is-crossing-given .ensures, ← c .before .is-crossing .ensures, ← c .both .ensures)
+returns c =
+    let intersect-ray = c .before .before .before .intersect-ray in
+    let ray-in = c .before .before .before .before .ray-in in
+    let face = c .before .before .before .before .before .face in
+    let detector-in = c .before .before .before .before .before .before .detector-in in
+    simp (
+      ← detector-in .ensures,
+      ← face .ensures,
+      ← ray-in .ensures,
+      ← intersect-ray .ensures,
+      ← c .before .before .is-crossing-given .ensures,
+      ← c .before .is-crossing .ensures,
+      ← c .both .ensures,
+    )
 
 pub crossing-line-spec : {M : Type 1} → statement M
 crossing-line-spec =

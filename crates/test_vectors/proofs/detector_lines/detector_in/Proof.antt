@@ -27,7 +27,20 @@ whole-at-requires-2 c κs = search needs
 
 returns : tie.Need-returns
 unfolding detectorInOf
-returns c = simp (← c .before .before .before .before .before .before .vec-at .ensures, ← c .before .before .before .before .before .vec-at2 .ensures, ← c .before .before .before .before .vec-at3 .ensures, ← c .before .before .before .double-at .ensures, ← c .before .before .double-at2 .ensures, ← c .before .whole-at .ensures, ← c .whole-at2 .ensures)
+returns c =
+    let double-at = c .before .before .before .double-at in
+    let vec-at3 = c .before .before .before .before .vec-at3 in
+    let vec-at2 = c .before .before .before .before .before .vec-at2 in
+    let vec-at = c .before .before .before .before .before .before .vec-at in
+    simp (
+      ← vec-at .ensures,
+      ← vec-at2 .ensures,
+      ← vec-at3 .ensures,
+      ← double-at .ensures,
+      ← c .before .before .double-at2 .ensures,
+      ← c .before .whole-at .ensures,
+      ← c .whole-at2 .ensures,
+    )
 
 pub detector-in-spec : {M : Type 1} → statement M
 detector-in-spec =

@@ -21,7 +21,10 @@ grid-requires c κs = search needs
 
 returns : tie.Need-returns
 unfolding gridInOf
-returns c = simp (← c .before .before .before .before .double-at .ensures, ← c .before .before .before .double-at2 .ensures, ← c .before .before .whole-at .ensures, ← c .before .whole-at2 .ensures, ← c .grid .ensures)
+returns c =
+    let double-at2 = c .before .before .before .double-at2 in
+    let double-at = c .before .before .before .before .double-at in
+    simp (← double-at .ensures, ← double-at2 .ensures, ← c .before .before .whole-at .ensures, ← c .before .whole-at2 .ensures, ← c .grid .ensures)
 
 pub grid-in-spec : {M : Type 1} → statement M
 grid-in-spec =

@@ -30,11 +30,19 @@ both-requires-2 c κs = search needs
 
 returns : tie.Need-returns
 unfolding isCrossingOf
-returns c = simp (c .before .before .before .before .c .given .1, ← c .before .before .has-shape .ensures, ← c .before .is-crossing-at .ensures, ← c .both .ensures)
+returns c =
+    simp (
+      c .before .before .before .before .c .given .1,
+      ← c .before .before .has-shape .ensures,
+      ← c .before .is-crossing-at .ensures,
+      ← c .both .ensures,
+    )
 
 returns-2 : tie.Need-returns-2
 unfolding isCrossingOf
-returns-2 c = simp (c .before .before .before .enum-told .given .1, ← c .before .before .has-shape2 .ensures, ← c .before .is-dash .ensures, ← c .both2 .ensures)
+returns-2 c =
+    simp
+    (c .before .before .before .enum-told .given .1, ← c .before .before .has-shape2 .ensures, ← c .before .is-dash .ensures, ← c .both2 .ensures)
 
 pub is-crossing-spec : {M : Type 1} → statement M
 is-crossing-spec =

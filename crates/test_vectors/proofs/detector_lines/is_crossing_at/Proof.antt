@@ -33,7 +33,24 @@ both-requires-4 c κs = search needs
 
 returns : tie.Need-returns
 unfolding isCrossingAtOf
-returns c = simp (← c .before .before .before .before .before .before .before .before .is-double .ensures, ← c .before .before .before .before .before .before .before .is-double2 .ensures, ← c .before .before .before .before .before .before .is-double3 .ensures, ← c .before .before .before .before .before .is-index .ensures, ← c .before .before .before .before .is-index2 .ensures, ← c .before .before .before .both .ensures, ← c .before .before .both2 .ensures, ← c .before .both3 .ensures, ← c .both4 .ensures)
+returns c =
+    let both = c .before .before .before .both in
+    let is-index2 = c .before .before .before .before .is-index2 in
+    let is-index = c .before .before .before .before .before .is-index in
+    let is-double3 = c .before .before .before .before .before .before .is-double3 in
+    let is-double2 = c .before .before .before .before .before .before .before .is-double2 in
+    let is-double = c .before .before .before .before .before .before .before .before .is-double in
+    simp (
+      ← is-double .ensures,
+      ← is-double2 .ensures,
+      ← is-double3 .ensures,
+      ← is-index .ensures,
+      ← is-index2 .ensures,
+      ← both .ensures,
+      ← c .before .before .both2 .ensures,
+      ← c .before .both3 .ensures,
+      ← c .both4 .ensures,
+    )
 
 pub is-crossing-at-spec : {M : Type 1} → statement M
 is-crossing-at-spec =

@@ -27,7 +27,20 @@ both-requires-3 c κs = search needs
 
 returns : tie.Need-returns
 unfolding isCrossingGivenOf
-returns c = simp (← c .before .before .before .before .before .before .are-bits .ensures, ← c .before .before .before .before .before .is-any-whole .ensures, ← c .before .before .before .before .is-any-whole2 .ensures, ← c .before .before .before .are-bits2 .ensures, ← c .before .before .both .ensures, ← c .before .both2 .ensures, ← c .both3 .ensures)
+returns c =
+    let are-bits2 = c .before .before .before .are-bits2 in
+    let is-any-whole2 = c .before .before .before .before .is-any-whole2 in
+    let is-any-whole = c .before .before .before .before .before .is-any-whole in
+    let are-bits = c .before .before .before .before .before .before .are-bits in
+    simp (
+      ← are-bits .ensures,
+      ← is-any-whole .ensures,
+      ← is-any-whole2 .ensures,
+      ← are-bits2 .ensures,
+      ← c .before .before .both .ensures,
+      ← c .before .both2 .ensures,
+      ← c .both3 .ensures,
+    )
 
 pub is-crossing-given-spec : {M : Type 1} → statement M
 is-crossing-given-spec =

@@ -24,11 +24,18 @@ enum-told c = search needs
 
 returns : tie.Need-returns
 unfolding isIndexOf
-returns c = simp (← c .before .before .before .before .before .index-along .ensures, ← c .before .before .before .before .part .ensures, ← c .before .before .before .read-whole .ensures, c .before .a .given .1)
+returns c =
+    let read-whole = c .before .before .before .read-whole in
+    let part = c .before .before .before .before .part in
+    let index-along = c .before .before .before .before .before .index-along in
+    simp (← index-along .ensures, ← part .ensures, ← read-whole .ensures, c .before .a .given .1)
 
 returns-2 : tie.Need-returns-2
 unfolding isIndexOf
-returns-2 c = simp (← c .before .before .before .before .index-along .ensures, ← c .before .before .before .part .ensures, ← c .before .before .read-whole .ensures, c .enum-told .given .1)
+returns-2 c =
+    let part = c .before .before .before .part in
+    let index-along = c .before .before .before .before .index-along in
+    simp (← index-along .ensures, ← part .ensures, ← c .before .before .read-whole .ensures, c .enum-told .given .1)
 
 pub is-index-spec : {M : Type 1} → statement M
 is-index-spec =

@@ -21,7 +21,10 @@ both-requires c κs = search needs
 
 returns : tie.Need-returns
 unfolding isPixelOf
-returns c = simp (← c .before .before .before .before .double-at .ensures, ← c .before .before .before .is-index .ensures, ← c .before .before .double-at2 .ensures, ← c .before .is-index2 .ensures, ← c .both .ensures)
+returns c =
+    let is-index = c .before .before .before .is-index in
+    let double-at = c .before .before .before .before .double-at in
+    simp (← double-at .ensures, ← is-index .ensures, ← c .before .before .double-at2 .ensures, ← c .before .is-index2 .ensures, ← c .both .ensures)
 
 pub is-pixel-spec : {M : Type 1} → statement M
 is-pixel-spec =

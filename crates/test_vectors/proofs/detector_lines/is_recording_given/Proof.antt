@@ -33,7 +33,24 @@ both-requires-4 c κs = search needs
 
 returns : tie.Need-returns
 unfolding isRecordingGivenOf
-returns c = simp (← c .before .before .before .before .before .before .before .before .has-shape .ensures, ← c .before .before .before .before .before .before .before .are-bits .ensures, ← c .before .before .before .before .before .before .both .ensures, ← c .before .before .before .before .before .is-any-whole .ensures, ← c .before .before .before .before .is-any-whole2 .ensures, ← c .before .before .before .are-bits2 .ensures, ← c .before .before .both2 .ensures, ← c .before .both3 .ensures, ← c .both4 .ensures)
+returns c =
+    let are-bits2 = c .before .before .before .are-bits2 in
+    let is-any-whole2 = c .before .before .before .before .is-any-whole2 in
+    let is-any-whole = c .before .before .before .before .before .is-any-whole in
+    let both = c .before .before .before .before .before .before .both in
+    let are-bits = c .before .before .before .before .before .before .before .are-bits in
+    let has-shape = c .before .before .before .before .before .before .before .before .has-shape in
+    simp (
+      ← has-shape .ensures,
+      ← are-bits .ensures,
+      ← both .ensures,
+      ← is-any-whole .ensures,
+      ← is-any-whole2 .ensures,
+      ← are-bits2 .ensures,
+      ← c .before .before .both2 .ensures,
+      ← c .before .both3 .ensures,
+      ← c .both4 .ensures,
+    )
 
 pub is-recording-given-spec : {M : Type 1} → statement M
 is-recording-given-spec =

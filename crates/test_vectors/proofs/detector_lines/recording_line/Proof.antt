@@ -39,7 +39,29 @@ both-requires-3 c κs = search needs
 
 returns : tie.Need-returns
 unfolding recordingLineOf
-returns c = simp (← c .before .before .before .before .before .before .before .before .before .before .grid-in .ensures, ← c .before .before .before .before .before .before .before .before .before .is-recording-given .ensures, ← c .before .before .before .before .before .before .before .before .is-pixel .ensures, ← c .before .before .before .before .before .before .before .both .ensures, ← c .before .before .before .before .before .before .pixel-area-m2 .ensures, ← c .before .before .before .before .before .is-area .ensures, ← c .before .before .before .before .double-at .ensures, ← c .before .before .before .irradiance .ensures, ← c .before .before .is-double .ensures, ← c .before .both2 .ensures, ← c .both3 .ensures)
+returns c =
+    let irradiance = c .before .before .before .irradiance in
+    let double-at = c .before .before .before .before .double-at in
+    let is-area = c .before .before .before .before .before .is-area in
+    let pixel-area-m2 = c .before .before .before .before .before .before .pixel-area-m2 in
+    let both = c .before .before .before .before .before .before .before .both in
+    let at-is-pixel = c .before .before .before .before .before .before .before .before in
+    let is-pixel = at-is-pixel .is-pixel in
+    let is-recording-given = at-is-pixel .before .is-recording-given in
+    let grid-in = at-is-pixel .before .before .grid-in in
+    simp (
+      ← grid-in .ensures,
+      ← is-recording-given .ensures,
+      ← is-pixel .ensures,
+      ← both .ensures,
+      ← pixel-area-m2 .ensures,
+      ← is-area .ensures,
+      ← double-at .ensures,
+      ← irradiance .ensures,
+      ← c .before .before .is-double .ensures,
+      ← c .before .both2 .ensures,
+      ← c .both3 .ensures,
+    )
 
 pub recording-line-spec : {M : Type 1} → statement M
 recording-line-spec =

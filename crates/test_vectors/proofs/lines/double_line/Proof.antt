@@ -63,7 +63,46 @@ both-requires-5 c κs = search needs
 
 returns : tie.Need-returns
 unfolding doubleLineOf
-returns c = simp (← c .before .before .before .before .before .before .before .before .before .before .before .before .before .before .before .before .before .before .bits-at .ensures, ← c .before .before .before .before .before .before .before .before .before .before .before .before .before .before .before .before .before .from-bits .ensures, ← c .before .before .before .before .before .before .before .before .before .before .before .before .before .before .before .before .is-given .ensures, ← c .before .before .before .before .before .before .before .before .before .before .before .before .before .before .before .abs .ensures, ← c .before .before .before .before .before .before .before .before .before .before .before .before .before .before .is-double .ensures, ← c .before .before .before .before .before .before .before .before .before .before .before .before .before .max-zero .ensures, ← c .before .before .before .before .before .before .before .before .before .before .before .before .is-double2 .ensures, ← c .before .before .before .before .before .before .before .before .before .before .before .clamp .ensures, ← c .before .before .before .before .before .before .before .before .before .before .is-double3 .ensures, ← c .before .before .before .before .before .before .before .before .before .is-finite .ensures, ← c .before .before .before .before .before .before .before .before .one-if .ensures, ← c .before .before .before .before .before .before .before .is-whole .ensures, ← c .before .before .before .before .before .before .to-usize .ensures, ← c .before .before .before .before .before .is-bits .ensures, ← c .before .before .before .before .both .ensures, ← c .before .before .before .both2 .ensures, ← c .before .before .both3 .ensures, ← c .before .both4 .ensures, ← c .both5 .ensures)
+returns c =
+    let both2 = c .before .before .before .both2 in
+    let both = c .before .before .before .before .both in
+    let is-bits = c .before .before .before .before .before .is-bits in
+    let to-usize = c .before .before .before .before .before .before .to-usize in
+    let is-whole = c .before .before .before .before .before .before .before .is-whole in
+    let at-one-if = c .before .before .before .before .before .before .before .before in
+    let one-if = at-one-if .one-if in
+    let is-finite = at-one-if .before .is-finite in
+    let is-double3 = at-one-if .before .before .is-double3 in
+    let clamp = at-one-if .before .before .before .clamp in
+    let is-double2 = at-one-if .before .before .before .before .is-double2 in
+    let max-zero = at-one-if .before .before .before .before .before .max-zero in
+    let is-double = at-one-if .before .before .before .before .before .before .is-double in
+    let abs = at-one-if .before .before .before .before .before .before .before .abs in
+    let at-is-given = at-one-if .before .before .before .before .before .before .before .before in
+    let is-given = at-is-given .is-given in
+    let from-bits = at-is-given .before .from-bits in
+    let bits-at = at-is-given .before .before .bits-at in
+    simp (
+      ← bits-at .ensures,
+      ← from-bits .ensures,
+      ← is-given .ensures,
+      ← abs .ensures,
+      ← is-double .ensures,
+      ← max-zero .ensures,
+      ← is-double2 .ensures,
+      ← clamp .ensures,
+      ← is-double3 .ensures,
+      ← is-finite .ensures,
+      ← one-if .ensures,
+      ← is-whole .ensures,
+      ← to-usize .ensures,
+      ← is-bits .ensures,
+      ← both .ensures,
+      ← both2 .ensures,
+      ← c .before .before .both3 .ensures,
+      ← c .before .both4 .ensures,
+      ← c .both5 .ensures,
+    )
 
 pub double-line-spec : {M : Type 1} → statement M
 double-line-spec =

@@ -21,7 +21,10 @@ both-requires c κs = search needs
 
 returns : tie.Need-returns
 unfolding drawLineOf
-returns c = simp (← c .before .before .before .before .is-given .ensures, ← c .before .before .before .bits-at .ensures, ← c .before .before .new .ensures, ← c .before .draws-agree .ensures, ← c .both .ensures)
+returns c =
+    let bits-at = c .before .before .before .bits-at in
+    let is-given = c .before .before .before .before .is-given in
+    simp (← is-given .ensures, ← bits-at .ensures, ← c .before .before .new .ensures, ← c .before .draws-agree .ensures, ← c .both .ensures)
 
 pub draw-line-spec : {M : Type 1} → statement M
 draw-line-spec =

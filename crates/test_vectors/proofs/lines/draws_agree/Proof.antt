@@ -30,13 +30,18 @@ loop-less c = search needs
 
 loop-again : tie.Need-loop-again Inv-loop μ-loop
 loop-again c =
-    let l = c .before .before .before .before .before in
-    (search needs, draw-again _ _ _ _ (l .loop .inv .1) _ _ (c .before .before .before .before .loop-test .taken) (c .before .before .before .next-u64 .ensures) (c .before .before .is-bits .ensures) (c .before .if1 .taken))
+    let next-u64 = c .before .before .before .next-u64 in
+    let loop-test = c .before .before .before .before .loop-test in
+    let loop = c .before .before .before .before .before .loop in (
+      search needs,
+      draw-again _ _ _ _ (loop .inv .1) _ _ (loop-test .taken) (next-u64 .ensures) (c .before .before .is-bits .ensures) (c .before .if1 .taken),
+    )
 
 returns : tie.Need-returns Inv-loop μ-loop
 returns c =
-    let l = c .before .before .before .before in
-    draw-stop _ _ _ _ (l .loop .inv .1) _ _ (c .before .before .before .loop-test .taken) (c .before .before .next-u64 .ensures) (c .before .is-bits .ensures) (c .if1 .left)
+    let loop-test = c .before .before .before .loop-test in
+    let loop = c .before .before .before .before .loop in
+    draw-stop _ _ _ _ (loop .inv .1) _ _ (loop-test .taken) (c .before .before .next-u64 .ensures) (c .before .is-bits .ensures) (c .if1 .left)
 
 next-f64-requires : tie.Need-next-f64-requires Inv-loop μ-loop
 next-f64-requires c κs = search needs

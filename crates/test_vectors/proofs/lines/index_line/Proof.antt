@@ -16,7 +16,10 @@ enum-known-number c = search needs
 
 returns : tie.Need-returns
 unfolding indexLineOf indexOfMedium
-returns c = simp (← c .before .before .before .before .before .part .ensures, ← c .before .before .before .before .read-whole .ensures, c .before .before .number .given .1, lt-ltb _ _ (c .if1 .taken))
+returns c =
+    let read-whole = c .before .before .before .before .read-whole in
+    let part = c .before .before .before .before .before .part in
+    simp (← part .ensures, ← read-whole .ensures, c .before .before .number .given .1, lt-ltb _ _ (c .if1 .taken))
 
 has-shape-requires : tie.Need-has-shape-requires
 has-shape-requires c κs = search needs
@@ -47,7 +50,31 @@ enum-told c = search needs
 
 returns-2 : tie.Need-returns-2
 unfolding indexLineOf indexOfMedium
-returns-2 c = simp (← c .before .before .before .before .before .before .before .before .before .before .before .before .before .part .ensures, ← c .before .before .before .before .before .before .before .before .before .before .before .before .read-whole .ensures, c .before .before .before .before .before .before .before .before .before .before .number .given .1, le-ltb _ _ (c .before .before .before .before .before .before .before .before .if1 .left), ← c .before .before .before .before .before .before .before .has-shape .ensures, ← c .before .before .before .before .before .before .are-bits .ensures, ← c .before .before .before .before .before .both .ensures, ← c .before .before .before .before .medium .ensures, ← c .before .before .before .double-at .ensures, ← c .before .before .refractive-index .ensures, ← c .before .is-answer .ensures, ← c .both2 .ensures)
+returns-2 c =
+    let double-at = c .before .before .before .double-at in
+    let medium = c .before .before .before .before .medium in
+    let both = c .before .before .before .before .before .both in
+    let are-bits = c .before .before .before .before .before .before .are-bits in
+    let has-shape = c .before .before .before .before .before .before .before .has-shape in
+    let at-if1 = c .before .before .before .before .before .before .before .before in
+    let if1 = at-if1 .if1 in
+    let number = at-if1 .before .before .number in
+    let read-whole = at-if1 .before .before .before .before .read-whole in
+    let part = at-if1 .before .before .before .before .before .part in
+    simp (
+      ← part .ensures,
+      ← read-whole .ensures,
+      number .given .1,
+      le-ltb _ _ (if1 .left),
+      ← has-shape .ensures,
+      ← are-bits .ensures,
+      ← both .ensures,
+      ← medium .ensures,
+      ← double-at .ensures,
+      ← c .before .before .refractive-index .ensures,
+      ← c .before .is-answer .ensures,
+      ← c .both2 .ensures,
+    )
 
 returns-3 : tie.Need-returns-3
 unfolding indexLineOf indexOfMedium

@@ -34,11 +34,32 @@ enum-told c = search needs
 
 returns : tie.Need-returns
 unfolding isRefusalOf
-returns c = simp (lt-ltb _ _ (c .before .before .before .before .before .before .before .before .if1 .taken), eq-eqb _ _ (c .before .before .before .before .before .before .if2 .taken), ← (c .before .before .before .before .read-whole .ensures ∙ ap readWholeOf (all-but-first (c .before .before .before .before .before .before .before .before .before .before .args .part .now))), c .before .before .n .given .1, ← c .number .ensures)
+returns c =
+    let read-whole = c .before .before .before .before .read-whole in
+    let if2 = c .before .before .before .before .before .before .if2 in
+    let at-if1 = c .before .before .before .before .before .before .before .before in
+    let if1 = at-if1 .if1 in
+    let args = at-if1 .before .before .args in
+    simp (
+      lt-ltb _ _ (if1 .taken),
+      eq-eqb _ _ (if2 .taken),
+      ← (read-whole .ensures ∙ ap readWholeOf (all-but-first (args .part .now))),
+      c .before .before .n .given .1,
+      ← c .number .ensures,
+    )
 
 returns-2 : tie.Need-returns-2
 unfolding isRefusalOf
-returns-2 c = simp (lt-ltb _ _ (c .before .before .before .before .before .before .if1 .taken), eq-eqb _ _ (c .before .before .before .before .if2 .taken), ← (c .before .before .read-whole .ensures ∙ ap readWholeOf (all-but-first (c .before .before .before .before .before .before .before .before .args .part .now))), c .enum-told .given .1)
+returns-2 c =
+    let if2 = c .before .before .before .before .if2 in
+    let if1 = c .before .before .before .before .before .before .if1 in
+    let args = c .before .before .before .before .before .before .before .before .args in
+    simp (
+      lt-ltb _ _ (if1 .taken),
+      eq-eqb _ _ (if2 .taken),
+      ← (c .before .before .read-whole .ensures ∙ ap readWholeOf (all-but-first (args .part .now))),
+      c .enum-told .given .1,
+    )
 
 returns-3 : tie.Need-returns-3
 unfolding isRefusalOf

@@ -42,7 +42,31 @@ both-requires-3 c κs = search needs
 
 returns : tie.Need-returns
 unfolding matrixLineOf
-returns c = simp (← c .before .before .before .before .before .before .before .before .before .before .before .mat-at .ensures, ← c .before .before .before .before .before .before .before .before .before .before .vec-at .ensures, ← c .before .before .before .before .before .before .before .before .before .transform-point .ensures, ← c .before .before .before .before .before .before .before .before .is-vec .ensures, ← c .before .before .before .before .before .before .before .transform-direction .ensures, ← c .before .before .before .before .before .before .is-vec2 .ensures, ← c .before .before .before .before .before .transform-normal .ensures, ← c .before .before .before .before .is-vec3 .ensures, ← c .before .before .before .is-given .ensures, ← c .before .before .both .ensures, ← c .before .both2 .ensures, ← c .both3 .ensures)
+returns c =
+    let is-given = c .before .before .before .is-given in
+    let is-vec3 = c .before .before .before .before .is-vec3 in
+    let transform-normal = c .before .before .before .before .before .transform-normal in
+    let is-vec2 = c .before .before .before .before .before .before .is-vec2 in
+    let transform-direction = c .before .before .before .before .before .before .before .transform-direction in
+    let at-is-vec = c .before .before .before .before .before .before .before .before in
+    let is-vec = at-is-vec .is-vec in
+    let transform-point = at-is-vec .before .transform-point in
+    let vec-at = at-is-vec .before .before .vec-at in
+    let mat-at = at-is-vec .before .before .before .mat-at in
+    simp (
+      ← mat-at .ensures,
+      ← vec-at .ensures,
+      ← transform-point .ensures,
+      ← is-vec .ensures,
+      ← transform-direction .ensures,
+      ← is-vec2 .ensures,
+      ← transform-normal .ensures,
+      ← is-vec3 .ensures,
+      ← is-given .ensures,
+      ← c .before .before .both .ensures,
+      ← c .before .both2 .ensures,
+      ← c .both3 .ensures,
+    )
 
 pub matrix-line-spec : {M : Type 1} → statement M
 matrix-line-spec =

@@ -27,7 +27,20 @@ numbered-requires c κs = search needs
 
 returns : tie.Need-returns
 unfolding mediumOf
-returns c = simp (← c .before .before .before .before .before .before .double-at .ensures, ← c .before .before .before .before .before .double-at2 .ensures, ← c .before .before .before .before .double-at3 .ensures, ← c .before .before .before .double-at4 .ensures, ← c .before .before .double-at5 .ensures, ← c .before .double-at6 .ensures, ← c .numbered .ensures)
+returns c =
+    let double-at4 = c .before .before .before .double-at4 in
+    let double-at3 = c .before .before .before .before .double-at3 in
+    let double-at2 = c .before .before .before .before .before .double-at2 in
+    let double-at = c .before .before .before .before .before .before .double-at in
+    simp (
+      ← double-at .ensures,
+      ← double-at2 .ensures,
+      ← double-at3 .ensures,
+      ← double-at4 .ensures,
+      ← c .before .before .double-at5 .ensures,
+      ← c .before .double-at6 .ensures,
+      ← c .numbered .ensures,
+    )
 
 pub medium-spec : {M : Type 1} → statement M
 medium-spec =

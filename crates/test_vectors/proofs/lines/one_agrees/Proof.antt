@@ -48,7 +48,35 @@ both-requires-4 c κs = search needs
 
 returns : tie.Need-returns
 unfolding oneAgreesOf
-returns c = simp (← c .before .before .before .before .before .before .before .before .before .before .before .before .before .scale .ensures, ← c .before .before .before .before .before .before .before .before .before .before .before .before .is-vec .ensures, ← c .before .before .before .before .before .before .before .before .before .before .before .divide .ensures, ← c .before .before .before .before .before .before .before .before .before .before .is-vec2 .ensures, ← c .before .before .before .before .before .before .before .before .before .negate .ensures, ← c .before .before .before .before .before .before .before .before .is-vec3 .ensures, ← c .before .before .before .before .before .before .before .norm .ensures, ← c .before .before .before .before .before .before .is-double .ensures, ← c .before .before .before .before .before .normalize .ensures, ← c .before .before .before .before .is-vec4 .ensures, ← c .before .before .before .both .ensures, ← c .before .before .both2 .ensures, ← c .before .both3 .ensures, ← c .both4 .ensures)
+returns c =
+    let both = c .before .before .before .both in
+    let is-vec4 = c .before .before .before .before .is-vec4 in
+    let normalize = c .before .before .before .before .before .normalize in
+    let is-double = c .before .before .before .before .before .before .is-double in
+    let norm = c .before .before .before .before .before .before .before .norm in
+    let at-is-vec3 = c .before .before .before .before .before .before .before .before in
+    let is-vec3 = at-is-vec3 .is-vec3 in
+    let negate = at-is-vec3 .before .negate in
+    let is-vec2 = at-is-vec3 .before .before .is-vec2 in
+    let divide = at-is-vec3 .before .before .before .divide in
+    let is-vec = at-is-vec3 .before .before .before .before .is-vec in
+    let scale = at-is-vec3 .before .before .before .before .before .scale in
+    simp (
+      ← scale .ensures,
+      ← is-vec .ensures,
+      ← divide .ensures,
+      ← is-vec2 .ensures,
+      ← negate .ensures,
+      ← is-vec3 .ensures,
+      ← norm .ensures,
+      ← is-double .ensures,
+      ← normalize .ensures,
+      ← is-vec4 .ensures,
+      ← both .ensures,
+      ← c .before .before .both2 .ensures,
+      ← c .before .both3 .ensures,
+      ← c .both4 .ensures,
+    )
 
 pub one-agrees-spec : {M : Type 1} → statement M
 one-agrees-spec =

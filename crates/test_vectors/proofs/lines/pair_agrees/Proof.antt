@@ -39,7 +39,29 @@ both-requires-3 c κs = search needs
 
 returns : tie.Need-returns
 unfolding pairAgreesOf
-returns c = simp (← c .before .before .before .before .before .before .before .before .before .before .dot .ensures, ← c .before .before .before .before .before .before .before .before .before .is-double .ensures, ← c .before .before .before .before .before .before .before .before .cross .ensures, ← c .before .before .before .before .before .before .before .is-vec .ensures, ← c .before .before .before .before .before .before .plus .ensures, ← c .before .before .before .before .before .is-vec2 .ensures, ← c .before .before .before .before .minus .ensures, ← c .before .before .before .is-vec3 .ensures, ← c .before .before .both .ensures, ← c .before .both2 .ensures, ← c .both3 .ensures)
+returns c =
+    let is-vec3 = c .before .before .before .is-vec3 in
+    let minus = c .before .before .before .before .minus in
+    let is-vec2 = c .before .before .before .before .before .is-vec2 in
+    let plus = c .before .before .before .before .before .before .plus in
+    let is-vec = c .before .before .before .before .before .before .before .is-vec in
+    let at-cross = c .before .before .before .before .before .before .before .before in
+    let cross = at-cross .cross in
+    let is-double = at-cross .before .is-double in
+    let dot = at-cross .before .before .dot in
+    simp (
+      ← dot .ensures,
+      ← is-double .ensures,
+      ← cross .ensures,
+      ← is-vec .ensures,
+      ← plus .ensures,
+      ← is-vec2 .ensures,
+      ← minus .ensures,
+      ← is-vec3 .ensures,
+      ← c .before .before .both .ensures,
+      ← c .before .both2 .ensures,
+      ← c .both3 .ensures,
+    )
 
 pub pair-agrees-spec : {M : Type 1} → statement M
 pair-agrees-spec =

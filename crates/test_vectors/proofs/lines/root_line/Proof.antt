@@ -24,7 +24,18 @@ both-requires c κs = search needs
 
 returns : tie.Need-returns
 unfolding rootLineOf
-returns c = simp (← c .before .before .before .before .before .bits-at .ensures, ← c .before .before .before .before .from-bits .ensures, ← c .before .before .before .is-given .ensures, ← c .before .before .sqrt .ensures, ← c .before .is-double .ensures, ← c .both .ensures)
+returns c =
+    let is-given = c .before .before .before .is-given in
+    let from-bits = c .before .before .before .before .from-bits in
+    let bits-at = c .before .before .before .before .before .bits-at in
+    simp (
+      ← bits-at .ensures,
+      ← from-bits .ensures,
+      ← is-given .ensures,
+      ← c .before .before .sqrt .ensures,
+      ← c .before .is-double .ensures,
+      ← c .both .ensures,
+    )
 
 pub root-line-spec : {M : Type 1} → statement M
 root-line-spec =

@@ -27,7 +27,20 @@ both-requires-2 c κs = search needs
 
 returns : tie.Need-returns
 unfolding stateLineOf
-returns c = simp (← c .before .before .before .before .before .before .before .is-given .ensures, ← c .before .before .before .before .before .before .bits-at .ensures, ← c .before .before .before .before .before .next-u64 .ensures, ← c .before .before .before .is-bits .ensures, ← c .before .before .is-bits2 .ensures, ← c .before .both .ensures, ← c .both2 .ensures)
+returns c =
+    let is-bits = c .before .before .before .is-bits in
+    let next-u64 = c .before .before .before .before .before .next-u64 in
+    let bits-at = c .before .before .before .before .before .before .bits-at in
+    let is-given = c .before .before .before .before .before .before .before .is-given in
+    simp (
+      ← is-given .ensures,
+      ← bits-at .ensures,
+      ← next-u64 .ensures,
+      ← is-bits .ensures,
+      ← c .before .before .is-bits2 .ensures,
+      ← c .before .both .ensures,
+      ← c .both2 .ensures,
+    )
 
 pub state-line-spec : {M : Type 1} → statement M
 state-line-spec =

@@ -39,7 +39,29 @@ both-requires-3 c κs = search needs
 
 returns : tie.Need-returns
 unfolding vectorLineOf
-returns c = simp (← c .before .before .before .before .before .before .before .before .before .before .vec-at .ensures, ← c .before .before .before .before .before .before .before .before .before .vec-at2 .ensures, ← c .before .before .before .before .before .before .before .before .double-at .ensures, ← c .before .before .before .before .before .before .before .pair-agrees .ensures, ← c .before .before .before .before .before .before .one-agrees .ensures, ← c .before .before .before .before .before .both .ensures, ← c .before .before .before .before .is-given .ensures, ← c .before .before .before .at .ensures, ← c .before .before .is-vec .ensures, ← c .before .both2 .ensures, ← c .both3 .ensures)
+returns c =
+    let at = c .before .before .before .at in
+    let is-given = c .before .before .before .before .is-given in
+    let both = c .before .before .before .before .before .both in
+    let one-agrees = c .before .before .before .before .before .before .one-agrees in
+    let pair-agrees = c .before .before .before .before .before .before .before .pair-agrees in
+    let at-double-at = c .before .before .before .before .before .before .before .before in
+    let double-at = at-double-at .double-at in
+    let vec-at2 = at-double-at .before .vec-at2 in
+    let vec-at = at-double-at .before .before .vec-at in
+    simp (
+      ← vec-at .ensures,
+      ← vec-at2 .ensures,
+      ← double-at .ensures,
+      ← pair-agrees .ensures,
+      ← one-agrees .ensures,
+      ← both .ensures,
+      ← is-given .ensures,
+      ← at .ensures,
+      ← c .before .before .is-vec .ensures,
+      ← c .before .both2 .ensures,
+      ← c .both3 .ensures,
+    )
 
 pub vector-line-spec : {M : Type 1} → statement M
 vector-line-spec =

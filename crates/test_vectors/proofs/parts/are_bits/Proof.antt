@@ -26,7 +26,9 @@ loop-less : tie.Need-loop-less Inv-loop μ-loop
 loop-less c = search needs
 
 loop-again : tie.Need-loop-again Inv-loop μ-loop
-loop-again c = bits-again _ _ _ _ (c .before .before .before .loop .inv) _ (c .before .before .loop-test .taken) (c .before .is-any-bits .ensures) (c .if1 .taken)
+loop-again c =
+    bits-again _ _ _ _ (c .before .before .before .loop .inv) _ (c .before .before .loop-test .taken) (c .before .is-any-bits .ensures)
+    (c .if1 .taken)
 
 returns : tie.Need-returns Inv-loop μ-loop
 returns c = bits-stop _ _ _ _ (c .before .before .before .loop .inv) _ (c .before .before .loop-test .taken) (c .before .is-any-bits .ensures) (c .if1 .left)

@@ -16,7 +16,9 @@ is-byte-requires c κs = search needs
 
 returns : tie.Need-returns
 unfolding hasShapeOf
-returns c = simp (← c .before .before .before .count-parts .ensures, eq-eqb _ _ (c .before .before .if1 .taken), ← c .before .part .ensures, ← c .is-byte .ensures)
+returns c =
+    simp
+    (← c .before .before .before .count-parts .ensures, eq-eqb _ _ (c .before .before .if1 .taken), ← c .before .part .ensures, ← c .is-byte .ensures)
 
 returns-2 : tie.Need-returns-2
 unfolding hasShapeOf

@@ -27,7 +27,20 @@ both-requires-2 c κs = search needs
 
 returns : tie.Need-returns
 unfolding isVecOf
-returns c = simp (← c .before .before .before .before .before .before .next .ensures, ← c .before .before .before .before .before .is-double .ensures, ← c .before .before .before .before .next2 .ensures, ← c .before .before .before .is-double2 .ensures, ← c .before .before .is-double3 .ensures, ← c .before .both .ensures, ← c .both2 .ensures)
+returns c =
+    let is-double2 = c .before .before .before .is-double2 in
+    let next2 = c .before .before .before .before .next2 in
+    let is-double = c .before .before .before .before .before .is-double in
+    let next = c .before .before .before .before .before .before .next in
+    simp (
+      ← next .ensures,
+      ← is-double .ensures,
+      ← next2 .ensures,
+      ← is-double2 .ensures,
+      ← c .before .before .is-double3 .ensures,
+      ← c .before .both .ensures,
+      ← c .both2 .ensures,
+    )
 
 pub is-vec-spec : {M : Type 1} → statement M
 is-vec-spec =

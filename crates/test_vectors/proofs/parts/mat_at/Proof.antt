@@ -27,7 +27,20 @@ row-at-requires-4 c κs = search needs
 
 returns : tie.Need-returns
 unfolding matAtOf
-returns c = simp (← c .before .before .before .before .before .before .row-at .ensures, ← c .before .before .before .before .before .next .ensures, ← c .before .before .before .before .row-at2 .ensures, ← c .before .before .before .next2 .ensures, ← c .before .before .row-at3 .ensures, ← c .before .next3 .ensures, ← c .row-at4 .ensures)
+returns c =
+    let next2 = c .before .before .before .next2 in
+    let row-at2 = c .before .before .before .before .row-at2 in
+    let next = c .before .before .before .before .before .next in
+    let row-at = c .before .before .before .before .before .before .row-at in
+    simp (
+      ← row-at .ensures,
+      ← next .ensures,
+      ← row-at2 .ensures,
+      ← next2 .ensures,
+      ← c .before .before .row-at3 .ensures,
+      ← c .before .next3 .ensures,
+      ← c .row-at4 .ensures,
+    )
 
 pub mat-at-spec : {M : Type 1} → statement M
 mat-at-spec =

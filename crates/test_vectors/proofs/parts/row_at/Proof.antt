@@ -27,7 +27,20 @@ double-at-requires-4 c κs = search needs
 
 returns : tie.Need-returns
 unfolding rowAtOf
-returns c = simp (← c .before .before .before .before .before .before .double-at .ensures, ← c .before .before .before .before .before .next .ensures, ← c .before .before .before .before .double-at2 .ensures, ← c .before .before .before .next2 .ensures, ← c .before .before .double-at3 .ensures, ← c .before .next3 .ensures, ← c .double-at4 .ensures)
+returns c =
+    let next2 = c .before .before .before .next2 in
+    let double-at2 = c .before .before .before .before .double-at2 in
+    let next = c .before .before .before .before .before .next in
+    let double-at = c .before .before .before .before .before .before .double-at in
+    simp (
+      ← double-at .ensures,
+      ← next .ensures,
+      ← double-at2 .ensures,
+      ← next2 .ensures,
+      ← c .before .before .double-at3 .ensures,
+      ← c .before .next3 .ensures,
+      ← c .double-at4 .ensures,
+    )
 
 pub row-at-spec : {M : Type 1} → statement M
 row-at-spec =

@@ -21,7 +21,10 @@ double-at-requires-3 c κs = search needs
 
 returns : tie.Need-returns
 unfolding vecAtOf
-returns c = simp (← c .before .before .before .before .double-at .ensures, ← c .before .before .before .next .ensures, ← c .before .before .double-at2 .ensures, ← c .before .next2 .ensures, ← c .double-at3 .ensures)
+returns c =
+    let next = c .before .before .before .next in
+    let double-at = c .before .before .before .before .double-at in
+    simp (← double-at .ensures, ← next .ensures, ← c .before .before .double-at2 .ensures, ← c .before .next2 .ensures, ← c .double-at3 .ensures)
 
 pub vec-at-spec : {M : Type 1} → statement M
 vec-at-spec =

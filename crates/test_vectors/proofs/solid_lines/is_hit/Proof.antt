@@ -34,7 +34,9 @@ returns c = simp (c .before .before .before .before .h .given .1, ← c .before 
 
 returns-2 : tie.Need-returns-2
 unfolding isHitOf
-returns-2 c = simp (c .before .before .before .enum-told .given .1, ← c .before .before .has-shape2 .ensures, ← c .before .is-dash .ensures, ← c .both2 .ensures)
+returns-2 c =
+    simp
+    (c .before .before .before .enum-told .given .1, ← c .before .before .has-shape2 .ensures, ← c .before .is-dash .ensures, ← c .both2 .ensures)
 
 pub is-hit-spec : {M : Type 1} → statement M
 is-hit-spec =

@@ -36,7 +36,27 @@ both-requires-4 c κs = search needs
 
 returns : tie.Need-returns
 unfolding isHitAtOf
-returns c = simp (← c .before .before .before .before .before .before .before .before .before .is-double .ensures, ← c .before .before .before .before .before .before .before .before .is-vec .ensures, ← c .before .before .before .before .before .before .before .is-vec2 .ensures, ← c .before .before .before .before .before .before .is-vec3 .ensures, ← c .before .before .before .before .before .one-if .ensures, ← c .before .before .before .before .is-whole .ensures, ← c .before .before .before .both .ensures, ← c .before .before .both2 .ensures, ← c .before .both3 .ensures, ← c .both4 .ensures)
+returns c =
+    let both = c .before .before .before .both in
+    let is-whole = c .before .before .before .before .is-whole in
+    let one-if = c .before .before .before .before .before .one-if in
+    let is-vec3 = c .before .before .before .before .before .before .is-vec3 in
+    let is-vec2 = c .before .before .before .before .before .before .before .is-vec2 in
+    let at-is-vec = c .before .before .before .before .before .before .before .before in
+    let is-vec = at-is-vec .is-vec in
+    let is-double = at-is-vec .before .is-double in
+    simp (
+      ← is-double .ensures,
+      ← is-vec .ensures,
+      ← is-vec2 .ensures,
+      ← is-vec3 .ensures,
+      ← one-if .ensures,
+      ← is-whole .ensures,
+      ← both .ensures,
+      ← c .before .before .both2 .ensures,
+      ← c .before .both3 .ensures,
+      ← c .both4 .ensures,
+    )
 
 pub is-hit-at-spec : {M : Type 1} → statement M
 is-hit-at-spec =

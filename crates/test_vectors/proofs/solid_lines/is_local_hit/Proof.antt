@@ -36,11 +36,18 @@ both-requires-3 c κs = search needs
 
 returns : tie.Need-returns
 unfolding isLocalHitOf
-returns c = simp (c .before .before .before .before .before .before .h .given .1, ← c .before .before .before .before .is-double .ensures, ← c .before .before .before .is-vec .ensures, ← c .before .before .both .ensures, ← c .before .has-shape .ensures, ← c .both2 .ensures)
+returns c =
+    let is-vec = c .before .before .before .is-vec in
+    let is-double = c .before .before .before .before .is-double in
+    let h = c .before .before .before .before .before .before .h in
+    simp
+    (h .given .1, ← is-double .ensures, ← is-vec .ensures, ← c .before .before .both .ensures, ← c .before .has-shape .ensures, ← c .both2 .ensures)
 
 returns-2 : tie.Need-returns-2
 unfolding isLocalHitOf
-returns-2 c = simp (c .before .before .before .enum-told .given .1, ← c .before .before .has-shape2 .ensures, ← c .before .is-dash .ensures, ← c .both3 .ensures)
+returns-2 c =
+    simp
+    (c .before .before .before .enum-told .given .1, ← c .before .before .has-shape2 .ensures, ← c .before .is-dash .ensures, ← c .both3 .ensures)
 
 pub is-local-hit-spec : {M : Type 1} → statement M
 is-local-hit-spec =

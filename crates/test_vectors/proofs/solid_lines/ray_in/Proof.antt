@@ -18,7 +18,9 @@ double-at-requires-2 c κs = search needs
 
 returns : tie.Need-returns
 unfolding rayInOf
-returns c = simp (← c .before .before .before .vec-at .ensures, ← c .before .before .vec-at2 .ensures, ← c .before .double-at .ensures, ← c .double-at2 .ensures)
+returns c =
+    simp
+    (← c .before .before .before .vec-at .ensures, ← c .before .before .vec-at2 .ensures, ← c .before .double-at .ensures, ← c .double-at2 .ensures)
 
 pub ray-in-spec : {M : Type 1} → statement M
 ray-in-spec =

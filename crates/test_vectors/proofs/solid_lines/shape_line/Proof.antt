@@ -16,7 +16,10 @@ enum-known-number c = search needs
 
 returns : tie.Need-returns
 unfolding shapeLineOf shapeNumbered
-returns c = simp (← c .before .before .before .before .before .part .ensures, ← c .before .before .before .before .read-whole .ensures, c .before .before .number .given .1, lt-ltb _ _ (c .if1 .taken))
+returns c =
+    let read-whole = c .before .before .before .before .read-whole in
+    let part = c .before .before .before .before .before .part in
+    simp (← part .ensures, ← read-whole .ensures, c .before .before .number .given .1, lt-ltb _ _ (c .if1 .taken))
 
 vec-at-requires : tie.Need-vec-at-requires
 vec-at-requires c κs = search needs
@@ -44,7 +47,29 @@ enum-told c = search needs
 
 returns-2 : tie.Need-returns-2
 unfolding shapeLineOf shapeNumbered
-returns-2 c = simp (← c .before .before .before .before .before .before .before .before .before .before .before .before .part .ensures, ← c .before .before .before .before .before .before .before .before .before .before .before .read-whole .ensures, c .before .before .before .before .before .before .before .before .before .number .given .1, le-ltb _ _ (c .before .before .before .before .before .before .before .if1 .left), ← c .before .before .before .before .before .before .vec-at .ensures, ← c .before .before .before .before .before .vec-at2 .ensures, ← c .before .before .before .before .shape-in .ensures, ← c .before .before .before .intersect-local .ensures, ← c .before .before .are-bits .ensures, ← c .before .is-local-hit .ensures, ← c .both .ensures)
+returns-2 c =
+    let intersect-local = c .before .before .before .intersect-local in
+    let shape-in = c .before .before .before .before .shape-in in
+    let vec-at2 = c .before .before .before .before .before .vec-at2 in
+    let vec-at = c .before .before .before .before .before .before .vec-at in
+    let at-if1 = c .before .before .before .before .before .before .before in
+    let if1 = at-if1 .if1 in
+    let number = at-if1 .before .before .number in
+    let read-whole = at-if1 .before .before .before .before .read-whole in
+    let part = at-if1 .before .before .before .before .before .part in
+    simp (
+      ← part .ensures,
+      ← read-whole .ensures,
+      number .given .1,
+      le-ltb _ _ (if1 .left),
+      ← vec-at .ensures,
+      ← vec-at2 .ensures,
+      ← shape-in .ensures,
+      ← intersect-local .ensures,
+      ← c .before .before .are-bits .ensures,
+      ← c .before .is-local-hit .ensures,
+      ← c .both .ensures,
+    )
 
 returns-3 : tie.Need-returns-3
 unfolding shapeLineOf shapeNumbered

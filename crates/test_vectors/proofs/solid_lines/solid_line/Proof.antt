@@ -16,7 +16,10 @@ enum-known-number c = search needs
 
 returns : tie.Need-returns
 unfolding solidLineOf solidNumbered
-returns c = simp (← c .before .before .before .before .before .part .ensures, ← c .before .before .before .before .read-whole .ensures, c .before .before .number .given .1, lt-ltb _ _ (c .if1 .taken))
+returns c =
+    let read-whole = c .before .before .before .before .read-whole in
+    let part = c .before .before .before .before .before .part in
+    simp (← part .ensures, ← read-whole .ensures, c .before .before .number .given .1, lt-ltb _ _ (c .if1 .taken))
 
 object-in-requires : tie.Need-object-in-requires
 object-in-requires c κs = search needs
@@ -50,7 +53,33 @@ enum-told c = search needs
 
 returns-2 : tie.Need-returns-2
 unfolding solidLineOf solidNumbered
-returns-2 c = simp (← c .before .before .before .before .before .before .before .before .before .before .before .before .before .before .part .ensures, ← c .before .before .before .before .before .before .before .before .before .before .before .before .before .read-whole .ensures, c .before .before .before .before .before .before .before .before .before .before .before .number .given .1, le-ltb _ _ (c .before .before .before .before .before .before .before .before .before .if1 .left), ← c .before .before .before .before .before .before .before .before .object-in .ensures, ← c .before .before .before .before .before .before .before .one-if .ensures, ← c .before .before .before .before .before .before .is-whole .ensures, ← c .before .before .before .before .before .are-bits .ensures, ← c .before .before .before .before .both .ensures, ← c .before .before .before .ray-in .ensures, ← c .before .before .intersect .ensures, ← c .before .is-hit .ensures, ← c .both2 .ensures)
+returns-2 c =
+    let ray-in = c .before .before .before .ray-in in
+    let both = c .before .before .before .before .both in
+    let are-bits = c .before .before .before .before .before .are-bits in
+    let is-whole = c .before .before .before .before .before .before .is-whole in
+    let one-if = c .before .before .before .before .before .before .before .one-if in
+    let at-object-in = c .before .before .before .before .before .before .before .before in
+    let object-in = at-object-in .object-in in
+    let if1 = at-object-in .before .if1 in
+    let number = at-object-in .before .before .before .number in
+    let read-whole = at-object-in .before .before .before .before .before .read-whole in
+    let part = at-object-in .before .before .before .before .before .before .part in
+    simp (
+      ← part .ensures,
+      ← read-whole .ensures,
+      number .given .1,
+      le-ltb _ _ (if1 .left),
+      ← object-in .ensures,
+      ← one-if .ensures,
+      ← is-whole .ensures,
+      ← are-bits .ensures,
+      ← both .ensures,
+      ← ray-in .ensures,
+      ← c .before .before .intersect .ensures,
+      ← c .before .is-hit .ensures,
+      ← c .both2 .ensures,
+    )
 
 returns-3 : tie.Need-returns-3
 unfolding solidLineOf solidNumbered

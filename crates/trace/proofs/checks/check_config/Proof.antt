@@ -10,11 +10,20 @@ is-finite-requires c κs = search needs
 
 returns : tie.Need-returns
 unfolding checkConfigOf
-returns c = simp (← c .before .before .before .before .is-finite .ensures, c .before .before .before .if1 .taken, c .before .before .if2 .taken, le-leb _ _ (c .if3 .taken))
+returns c =
+    let if1 = c .before .before .before .if1 in
+    let is-finite = c .before .before .before .before .is-finite in
+    simp (← is-finite .ensures, if1 .taken, c .before .before .if2 .taken, le-leb _ _ (c .if3 .taken))
 
 returns-2 : tie.Need-returns-2
 unfolding checkConfigOf
-returns-2 c = simp (← c .before .before .before .before .is-finite .ensures, c .before .before .before .if1 .taken, c .before .before .if2 .taken, lt-leb _ _ (c .if3 .left))
+returns-2 c =
+    simp (
+      ← c .before .before .before .before .is-finite .ensures,
+      c .before .before .before .if1 .taken,
+      c .before .before .if2 .taken,
+      lt-leb _ _ (c .if3 .left),
+    )
 
 returns-3 : tie.Need-returns-3
 unfolding checkConfigOf

@@ -36,15 +36,48 @@ enum-known-error-3 c = search needs
 
 returns : tie.Need-returns
 unfolding checkTraceOf
-returns c = simp (← c .before .before .before .before .before .before .before .before .before .check-flat .ensures, c .before .before .before .before .before .before .before .enum-told .given .1, ← c .before .before .before .before .before .before .check-rules .ensures, c .before .before .before .before .enum-told2 .given .1, ← c .before .before .before .check-memory .ensures, c .before .enum-told3 .given .1, ← c .check-rays .ensures)
+returns c =
+    let check-memory = c .before .before .before .check-memory in
+    let enum-told2 = c .before .before .before .before .enum-told2 in
+    let check-rules = c .before .before .before .before .before .before .check-rules in
+    let at-enum-told = c .before .before .before .before .before .before .before in
+    let the-enum-told = at-enum-told .enum-told in
+    let check-flat = at-enum-told .before .before .check-flat in
+    simp (
+      ← check-flat .ensures,
+      the-enum-told .given .1,
+      ← check-rules .ensures,
+      enum-told2 .given .1,
+      ← check-memory .ensures,
+      c .before .enum-told3 .given .1,
+      ← c .check-rays .ensures,
+    )
 
 returns-2 : tie.Need-returns-2
 unfolding checkTraceOf
-returns-2 c = simp (← c .before .before .before .before .before .before .before .before .before .check-flat .ensures, c .before .before .before .before .before .before .before .enum-told .given .1, ← c .before .before .before .before .before .before .check-rules .ensures, c .before .before .before .before .enum-told2 .given .1, ← c .before .before .before .check-memory .ensures, c .before .error .given .1)
+returns-2 c =
+    let check-memory = c .before .before .before .check-memory in
+    let enum-told2 = c .before .before .before .before .enum-told2 in
+    let check-rules = c .before .before .before .before .before .before .check-rules in
+    let at-enum-told = c .before .before .before .before .before .before .before in
+    let the-enum-told = at-enum-told .enum-told in
+    let check-flat = at-enum-told .before .before .check-flat in
+    simp (
+      ← check-flat .ensures,
+      the-enum-told .given .1,
+      ← check-rules .ensures,
+      enum-told2 .given .1,
+      ← check-memory .ensures,
+      c .before .error .given .1,
+    )
 
 returns-3 : tie.Need-returns-3
 unfolding checkTraceOf
-returns-3 c = simp (← c .before .before .before .before .before .before .check-flat .ensures, c .before .before .before .before .enum-told .given .1, ← c .before .before .before .check-rules .ensures, c .before .error2 .given .1)
+returns-3 c =
+    let check-rules = c .before .before .before .check-rules in
+    let the-enum-told = c .before .before .before .before .enum-told in
+    let check-flat = c .before .before .before .before .before .before .check-flat in
+    simp (← check-flat .ensures, the-enum-told .given .1, ← check-rules .ensures, c .before .error2 .given .1)
 
 returns-4 : tie.Need-returns-4
 unfolding checkTraceOf

@@ -24,15 +24,49 @@ is-within-requires-2 c κs = search needs
 
 returns : tie.Need-returns
 unfolding acrossOf
-returns c = simp (← c .before .before .before .before .before .before .before .at .ensures, ← c .before .before .before .before .before .before .minus .ensures, ← c .before .before .before .before .before .dot .ensures, ← c .before .before .before .before .dot2 .ensures, ← c .before .before .before .is-within .ensures, c .before .before .if1 .taken, ← c .before .is-within2 .ensures, c .if2 .taken)
+returns c =
+    let is-within = c .before .before .before .is-within in
+    let dot2 = c .before .before .before .before .dot2 in
+    let dot = c .before .before .before .before .before .dot in
+    let minus = c .before .before .before .before .before .before .minus in
+    let at = c .before .before .before .before .before .before .before .at in
+    simp (
+      ← at .ensures,
+      ← minus .ensures,
+      ← dot .ensures,
+      ← dot2 .ensures,
+      ← is-within .ensures,
+      c .before .before .if1 .taken,
+      ← c .before .is-within2 .ensures,
+      c .if2 .taken,
+    )
 
 returns-2 : tie.Need-returns-2
 unfolding acrossOf
-returns-2 c = simp (← c .before .before .before .before .before .before .before .at .ensures, ← c .before .before .before .before .before .before .minus .ensures, ← c .before .before .before .before .before .dot .ensures, ← c .before .before .before .before .dot2 .ensures, ← c .before .before .before .is-within .ensures, c .before .before .if1 .taken, ← c .before .is-within2 .ensures, c .if2 .left)
+returns-2 c =
+    let is-within = c .before .before .before .is-within in
+    let dot2 = c .before .before .before .before .dot2 in
+    let dot = c .before .before .before .before .before .dot in
+    let minus = c .before .before .before .before .before .before .minus in
+    let at = c .before .before .before .before .before .before .before .at in
+    simp (
+      ← at .ensures,
+      ← minus .ensures,
+      ← dot .ensures,
+      ← dot2 .ensures,
+      ← is-within .ensures,
+      c .before .before .if1 .taken,
+      ← c .before .is-within2 .ensures,
+      c .if2 .left,
+    )
 
 returns-3 : tie.Need-returns-3
 unfolding acrossOf
-returns-3 c = simp (← c .before .before .before .before .before .at .ensures, ← c .before .before .before .before .minus .ensures, ← c .before .before .before .dot .ensures, ← c .before .before .dot2 .ensures, ← c .before .is-within .ensures, c .if1 .left)
+returns-3 c =
+    let dot = c .before .before .before .dot in
+    let minus = c .before .before .before .before .minus in
+    let at = c .before .before .before .before .before .at in
+    simp (← at .ensures, ← minus .ensures, ← dot .ensures, ← c .before .before .dot2 .ensures, ← c .before .is-within .ensures, c .if1 .left)
 
 pub across-spec : {M : Type 1} → statement M
 across-spec =

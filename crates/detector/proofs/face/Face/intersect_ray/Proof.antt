@@ -22,14 +22,24 @@ dot-requires-2 c κs = search needs
 
 returns-2 : tie.Need-returns-2
 unfolding faceIntersectRayOf
-returns-2 c = simp (← c .before .before .before .before .before .dot .ensures, ← c .before .before .before .before .is-under .ensures, c .before .before .before .if1 .left, ← c .before .before .minus .ensures, ← c .before .dot2 .ensures, c .if2 .taken)
+returns-2 c =
+    let if1 = c .before .before .before .if1 in
+    let is-under = c .before .before .before .before .is-under in
+    let dot = c .before .before .before .before .before .dot in
+    simp (← dot .ensures, ← is-under .ensures, if1 .left, ← c .before .before .minus .ensures, ← c .before .dot2 .ensures, c .if2 .taken)
 
 across-requires : tie.Need-across-requires
 across-requires c κs = search needs
 
 returns-3 : tie.Need-returns-3
 unfolding faceIntersectRayOf
-returns-3 c = simp (← c .before .before .before .before .before .before .dot .ensures, ← c .before .before .before .before .before .is-under .ensures, c .before .before .before .before .if1 .left, ← c .before .before .before .minus .ensures, ← c .before .before .dot2 .ensures, c .before .if2 .left, ← c .across .ensures)
+returns-3 c =
+    let minus = c .before .before .before .minus in
+    let if1 = c .before .before .before .before .if1 in
+    let is-under = c .before .before .before .before .before .is-under in
+    let dot = c .before .before .before .before .before .before .dot in
+    simp
+    (← dot .ensures, ← is-under .ensures, if1 .left, ← minus .ensures, ← c .before .before .dot2 .ensures, c .before .if2 .left, ← c .across .ensures)
 
 pub intersect-ray-spec : {M : Type 1} → statement M
 intersect-ray-spec =

@@ -21,7 +21,10 @@ more-if-requires-4 c κs = search needs
 
 returns : tie.Need-returns
 unfolding addSurfaceOf
-returns c = simp (← c .before .before .before .before .more-if .ensures, ← c .before .before .before .more-if2 .ensures, ← c .before .before .more .ensures, ← c .before .more-if3 .ensures, ← c .more-if4 .ensures)
+returns c =
+    let more-if2 = c .before .before .before .more-if2 in
+    let more-if = c .before .before .before .before .more-if in
+    simp (← more-if .ensures, ← more-if2 .ensures, ← c .before .before .more .ensures, ← c .before .more-if3 .ensures, ← c .more-if4 .ensures)
 
 pub add-surface-spec : {M : Type 1} → statement M
 add-surface-spec =

@@ -71,7 +71,13 @@ returns-5 c = simp (c .before .enum-told5 .given .1, ← c .add-surface .ensures
 
 returns-6 : tie.Need-returns-6
 unfolding talliesAfterOf
-returns-6 c = simp (c .before .before .before .before .end .given .1, ← c .before .before .opposite .ensures, ← c .before .faint .ensures, ← c .add-surface2 .ensures)
+returns-6 c =
+    simp (
+      c .before .before .before .before .end .given .1,
+      ← c .before .before .opposite .ensures,
+      ← c .before .faint .ensures,
+      ← c .add-surface2 .ensures,
+    )
 
 returns-7 : tie.Need-returns-7
 unfolding talliesAfterOf
