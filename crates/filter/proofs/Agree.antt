@@ -23,10 +23,10 @@ use Rattle.doubles.specs.Doubles.{#0}
 
 -- ---- a detector's view without its hit counts
 
-abbrev pub fluxOf : View → Map
-fluxOf v = record { flux = v .flux; total = v .total; count = v .count }
+abbrev pub mapInView : View → Map
+mapInView v = record { flux = v .flux; total = v .total; count = v .count }
 
-plus-flux : (e : Detector2D) (v : View) (h : DetectorHit) → fluxOf (plusHit e v h) ≡ addHitOf e (fluxOf v) h
+plus-flux : (e : Detector2D) (v : View) (h : DetectorHit) → mapInView (plusHit e v h) ≡ addHitOf e (mapInView v) h
 unfolding plusHit addHitOf addAtOf
 plus-flux e v h = refl
 
@@ -35,13 +35,13 @@ and-true true = refl
 and-true false = refl
 
 -- adding a detector's hits to its view is adding those that pass All
-views-flux : (e : Detector2D) (d : DetectorNo) (b : List DetectorHit) (v : View) → fluxOf (plusAll (d .0) e v b) ≡ plusEach e (fluxOf v) (passing All d b)
+views-flux : (e : Detector2D) (d : DetectorNo) (b : List DetectorHit) (v : View) → mapInView (plusAll (d .0) e v b) ≡ plusEach e (mapInView v) (passing All d b)
 unfolding plusAll plusEach passing passesOf
 views-flux e d [] v = refl
 views-flux e d (h ∷ b) v = rw (and-true (eqb (h .detector .0) (d .0))) (go (eqb (h .detector .0) (d .0)) (views-flux e d b v) (views-flux e d b (plusHit e v h)))
   where
-    go : (x : Bool) → fluxOf (plusAll (d .0) e v b) ≡ plusEach e (fluxOf v) (passing All d b) → fluxOf (plusAll (d .0) e (plusHit e v h) b) ≡ plusEach e (fluxOf (plusHit e v h)) (passing All d b)
-        → fluxOf (plusAll (d .0) e (cond x (plusHit e v h) v) b) ≡ plusEach e (fluxOf v) (cond x (h ∷ passing All d b) (passing All d b))
+    go : (x : Bool) → mapInView (plusAll (d .0) e v b) ≡ plusEach e (mapInView v) (passing All d b) → mapInView (plusAll (d .0) e (plusHit e v h) b) ≡ plusEach e (mapInView (plusHit e v h)) (passing All d b)
+        → mapInView (plusAll (d .0) e (cond x (plusHit e v h) v) b) ≡ plusEach e (mapInView v) (cond x (h ∷ passing All d b) (passing All d b))
     go true p q = q ∙ ap (λ m. plusEach e m (passing All d b)) (plus-flux e v h)
     go false p q = p
 
@@ -69,21 +69,21 @@ module _ (s : Memory) (eight : length (s .detectors .list) ≡ 8) (empty : Empty
   abbrev own : Detector2D
   own = detectorAt (m .detectors .list) (d .0)
 
-  start : fluxOf (viewIn s (d .0)) ≡ zeros (pixelsOf (detectorAt (s .detectors .list) (d .0)))
+  start : mapInView (viewIn s (d .0)) ≡ zeros (pixelsOf (detectorAt (s .detectors .list) (d .0)))
   unfolding viewIn partIn
   start = rw (empty .totals (d .0) there, empty .counts (d .0) there, zero-part #0 (firstPixelOf (s .detectors .list) (d .0)) (pixelsOf (detectorAt (s .detectors .list) (d .0))) (s .flux) within (empty .flux))
 
   -- the stored map, total and count are those that All would make anew
-  pub all-agrees : fluxOf (viewIn m (d .0)) ≡ refillOf All d own (pixelsOf own) (listed m)
+  pub all-agrees : mapInView (viewIn m (d .0)) ≡ refillOf All d own (pixelsOf own) (listed m)
   unfolding refillOf
   all-agrees =
-      ap fluxOf (booked-view s eight empty m (d .0) booked)
+      ap mapInView (booked-view s eight empty m (d .0) booked)
       ∙ views-flux (detectorAt (s .detectors .list) (d .0)) d (listed m) (viewIn s (d .0))
       ∙ ap (λ z. plusEach (detectorAt (s .detectors .list) (d .0)) z (passing All d (listed m))) start
       ∙ sym (each-same (detectorAt (s .detectors .list) (d .0)) own (booked-pixel s eight empty m (d .0) booked) (passing All d (listed m)) _)
       ∙ ap (λ n. plusEach own (zeros n) (passing All d (listed m))) (sym (booked-pixels s eight empty m (d .0) booked))
 
   -- so are those of any filter that lets all of the detector's hits through
-  pub full-agrees : (f : RayPathFilter) → passing f d (listed m) ≡ passing All d (listed m) → refillOf f d own (pixelsOf own) (listed m) ≡ fluxOf (viewIn m (d .0))
+  pub full-agrees : (f : RayPathFilter) → passing f d (listed m) ≡ passing All d (listed m) → refillOf f d own (pixelsOf own) (listed m) ≡ mapInView (viewIn m (d .0))
   unfolding refillOf
   full-agrees f e = ap (plusEach own (zeros (pixelsOf own))) e ∙ sym all-agrees

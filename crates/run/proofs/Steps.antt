@@ -30,8 +30,8 @@ use Rattle.run.specs.declared.settling.Catch.the-variants.{Hit, Nothing}
 use Rattle.run.specs.Stack.{takenFrom, stackAfter}
 use Rattle.run.specs.Run.{Run, Settled, hitInOf, refusalInOf, isLeft, andThen, settle, stepFrom, stepOn, drive, asCatch, asRun, goesOnOf, placedOf, settledOf}
 
-abbrev progressOf : Stack → ℕ → NonSeqTraceReport → Progress
-progressOf s left r = record { stack = s; left = left; report = r }
+abbrev progressAt : Stack → ℕ → NonSeqTraceReport → Progress
+progressAt s left r = record { stack = s; left = left; report = r }
 
 pub goes-pos : (c : Check) (k len left : ℕ) (b : Bool) → b ≡ goesOnOf c k len left → b ≡ true → 0 < k
 unfolding goesOnOf
@@ -73,7 +73,7 @@ module _ (S : Scene) (given : ℕ → ActiveRay) where
 
   module _ (c : Check) (k : ℕ) (m : Memory) (stack : Stack) (left : ℕ) (report : NonSeqTraceReport) (b : Bool) (z : Run Memory)
       (tested : b ≡ goesOnOf c k (stack .len) left) (on : b ≡ true)
-      (inv : andThen (drive recordOf S given k) (asOutcome c m) (progressOf stack left report) ≡ z)
+      (inv : andThen (drive recordOf S given k) (asOutcome c m) (progressAt stack left report) ≡ z)
       (t : Taken) (took : t ≡ takenFrom given stack left)
       (e : code.Step) (came : asStep e ≡ takeStepOf S (t .ray))
       (after : NonSeqTraceReport) (added : after ≡ reportAfterOf report (t .ray .ray .energy) (asStep e))
@@ -83,19 +83,19 @@ module _ (S : Scene) (given : ℕ → ActiveRay) where
     go-on r = andThen (drive recordOf S given (k - 1)) (r .outcome) (r .progress)
 
     abbrev with-settled : Stack → Settled Memory → Run Memory
-    with-settled s x = record { outcome = x .outcome; progress = progressOf s (t .left) (x .report) }
+    with-settled s x = record { outcome = x .outcome; progress = progressAt s (t .left) (x .report) }
 
     turned : go-on (with-settled (stackAfter stack (asStep e)) (settle recordOf m (t .left) report (t .ray .ray .energy) (asStep e))) ≡ z
-    turned = ap go-on (sym (step-is m (progressOf stack left report) t (asStep e) took came)) ∙ goes c k m (progressOf stack left report) b z tested on inv
+    turned = ap go-on (sym (step-is m (progressAt stack left report) t (asStep e) took came)) ∙ goes c k m (progressAt stack left report) b z tested on inv
 
     -- a hit is recorded
-    pub step-hit : (h : DetectorHit) → q ≡ Hit h → (n : Memory) (d : Check) → asOutcome d n ≡ recordOf m h → (r : NonSeqTraceReport) → r ≡ settledOf d report after → (f : Check) → f ≡ placedOf d (t .left) → andThen (drive recordOf S given (k - 1)) (asOutcome f n) (progressOf next (t .left) r) ≡ z
+    pub step-hit : (h : DetectorHit) → q ≡ Hit h → (n : Memory) (d : Check) → asOutcome d n ≡ recordOf m h → (r : NonSeqTraceReport) → r ≡ settledOf d report after → (f : Check) → f ≡ placedOf d (t .left) → andThen (drive recordOf S given (k - 1)) (asOutcome f n) (progressAt next (t .left) r) ≡ z
     step-hit h g n d said r er f ef =
         rw (er, ef, added, pushed)
         (ap (λ (x : Settled Memory). go-on (with-settled (stackAfter stack (asStep e)) x)) (sym (settled-hit m n (t .left) report (t .ray .ray .energy) (asStep e) h d (sym caught ∙ ap asCatch g) said)) ∙ turned)
 
     -- no hit: the step goes on or is refused
-    pub step-no-hit : q ≡ Nothing → (f : Check) → asChecked f ≡ refusalInOf (asStep e .end) (t .left) → andThen (drive recordOf S given (k - 1)) (asOutcome f m) (progressOf next (t .left) after) ≡ z
+    pub step-no-hit : q ≡ Nothing → (f : Check) → asChecked f ≡ refusalInOf (asStep e .end) (t .left) → andThen (drive recordOf S given (k - 1)) (asOutcome f m) (progressAt next (t .left) after) ≡ z
     step-no-hit g f said =
         rw (added, pushed)
         (ap (λ (x : Settled Memory). go-on (with-settled (stackAfter stack (asStep e)) x)) (sym (settled-no-hit m (t .left) report (t .ray .ray .energy) (asStep e) f (sym caught ∙ ap asCatch g) said)) ∙ turned)

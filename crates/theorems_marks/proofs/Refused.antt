@@ -188,14 +188,14 @@ mirror-refuses r h power n x = leaving-refuses r (h .point) _ power n x
 
 -- ---- what becomes of a ray
 
-abbrev refusalOf : End → ℕ
-refusalOf dim = 0
-refusalOf spent = 0
-refusalOf gone = 0
-refusalOf (caught h) = 0
-refusalOf (stopped x) = 0
-refusalOf (parted r t all) = 0
-refusalOf (refusing n) = n
+abbrev refusalNo : End → ℕ
+refusalNo dim = 0
+refusalNo spent = 0
+refusalNo gone = 0
+refusalNo (caught h) = 0
+refusalNo (stopped x) = 0
+refusalNo (parted r t all) = 0
+refusalNo (refusing n) = n
 
 abbrev isRefusing : End → Bool
 isRefusing dim = false
@@ -231,13 +231,13 @@ module _ (O : Optics) (a : ActiveRay) (h : NonSeqHit) (n : ℕ) where
           → partedOf threshold a (beyondOf (a .media) h) p .end ≡ refusing n → SurfaceRefused O a h n
       sends n1 n2 e f (value p) g x = absurd (other (partedBy threshold a (beyondOf (a .media) h) p .end) (parted-ends threshold a (beyondOf (a .media) h) p) x)
       sends n1 n2 e f (refusal k) g x =
-          let l = snell-refuses (a .ray) h n1 n2 (a .ray .energy) n (g ∙ ap refusal (ap refusalOf x)) in
+          let l = snell-refuses (a .ray) h n1 n2 (a .ray .energy) n (g ∙ ap refusal (ap refusalNo x)) in
           inl (s, inr (inr (l .0, (n1, (n2, (e, (f, l .1)))))))
 
       go : (i j : Answer Float) → indexInOf O (a .media) w ≡ i → indexInOf O (beyondOf (a .media) h) w ≡ j → betweenOf threshold a h (beyondOf (a .media) h) i j .end ≡ refusing n → SurfaceRefused O a h n
       go (value n1) (value n2) e f x = sends n1 n2 e f (computeSnellFresnelInteractionOf (a .ray) h n1 n2 (a .ray .energy)) refl x
-      go (value n1) (refusal k) e f x = inl (s, inr (inl (index-refuses _ w n (f ∙ ap refusal (ap refusalOf x)))))
-      go (refusal k) j e f x = inl (s, inl (index-refuses _ w n (e ∙ ap refusal (ap refusalOf x))))
+      go (value n1) (refusal k) e f x = inl (s, inr (inl (index-refuses _ w n (f ∙ ap refusal (ap refusalNo x)))))
+      go (refusal k) j e f x = inl (s, inl (index-refuses _ w n (e ∙ ap refusal (ap refusalNo x))))
 
   mirrored-refuses : (rho : Float) → O .finish (h .«object_id») ≡ Mirror rho → mirrorOf (O .config .«min_power_threshold») a h rho .end ≡ refusing n → SurfaceRefused O a h n
   unfolding mirrorOf mirrorFromOf
@@ -252,7 +252,7 @@ module _ (O : Optics) (a : ActiveRay) (h : NonSeqHit) (n : ℕ) where
       sends : (r : Answer Ray) → mirroredOf (a .ray) h power ≡ r → mirrorFromOf a left r .end ≡ refusing n → SurfaceRefused O a h n
       sends (value r) g x = absurd (other (stopped left) refl x)
       sends (refusal k) g x =
-          let l = mirror-refuses (a .ray) h power n (g ∙ ap refusal (ap refusalOf x)) in
+          let l = mirror-refuses (a .ray) h power n (g ∙ ap refusal (ap refusalNo x)) in
           inr (l .0, (rho, (s, l .1)))
 
       go : (b : Bool) → cond b (mirrorFromOf a left (mirroredOf (a .ray) h power)) (endsOf a (stopped left)) .end ≡ refusing n → SurfaceRefused O a h n
