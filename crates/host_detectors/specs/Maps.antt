@@ -9,7 +9,7 @@ use Rattle.detector.specs.Pixels.{pixelsOf}
 use Rattle.detectors.specs.declared.Detectors.{Detectors}
 use Rattle.detectors.specs.declared.Placed.{Placed}
 use Rattle.memory.specs.Memory.{Memory, Outcome, done, refused}
-use Rattle.filter.specs.Filters.{numberedFilterOf}
+use Rattle.filter.specs.Filters.{numberedFilterOf, lastFilter}
 use Rattle.filter.specs.Handed.{Handed, handed, refilterOf}
 use Rattle.host_detectors.specs.declared.maps.HostRecorded.{HostRecorded}
 use Rattle.host_detectors.specs.declared.maps.HostFiltered.{HostFiltered}
@@ -57,7 +57,7 @@ filteredFrom h = filteredWith (h .check) (h .map) (h .total) (h .count)
 -- a number over 4 is no filter (17)
 unfoldable pub hostRefilterOf : Detectors → ℕ → ℕ → List Float → List Float → List Float → List ℕ → ℕ → Handed
 hostRefilterOf ds asked f stored work values tags used =
-    cond (leb f 4) (refilterOf ds (record { 0 = asked }) (numberedFilterOf f) stored work values tags used)
+    cond (leb f lastFilter) (refilterOf ds (record { 0 = asked }) (numberedFilterOf f) stored work values tags used)
     (handed (refusedAt 17 0) work #0 0)
 
 -- ---- where a detector's pixels stand

@@ -5,7 +5,7 @@ use mathlib.Core.List.{List}
 use lib.Dec.{leb, eqb}
 use lib.ListN.{length}
 use Rattle.error.specs.Refusals.{Checked, passed, refusedAt}
-use Rattle.filter.specs.Filters.{numberedFilterOf}
+use Rattle.filter.specs.Filters.{numberedFilterOf, lastFilter}
 use Rattle.report.specs.declared.NonSeqTraceReport.{NonSeqTraceReport}
 use Rattle.detectors.specs.declared.Detectors.{Detectors}
 use Rattle.detectors.specs.Detectors.{allPixelsOf, checkDetectorsOf}
@@ -57,4 +57,5 @@ textAfter (refusedAt n place) t = refusalText n place
 
 -- a number over 4 is no filter (17); then 3, 5 to 8, 9
 unfoldable pub hostAnswerText : NonSeqTraceReport → ℕ → Held → List ℕ
-hostAnswerText r f m = cond (leb f 4) (textAfter (checkDetectorsOf (m .detectors)) (heldText r f m)) (refusalText 17 0)
+hostAnswerText r f m =
+    cond (leb f lastFilter) (textAfter (checkDetectorsOf (m .detectors)) (heldText r f m)) (refusalText 17 0)

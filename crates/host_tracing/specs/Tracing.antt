@@ -5,7 +5,7 @@ use mathlib.Core.List.{List}
 use lib.Dec.{leb}
 use lib.Ieee.{Float}
 use Rattle.error.specs.Refusals.{asChecked}
-use Rattle.material.specs.Media.{numberedMediumOf}
+use Rattle.material.specs.Media.{numberedMediumOf, lastMedium}
 use Rattle.detectors.specs.declared.Detectors.{Detectors}
 use Rattle.memory.specs.Memory.{Memory, Outcome, done, refused, memoryLeft}
 use Rattle.step.specs.declared.NonSeqTraceConfig.{NonSeqTraceConfig}
@@ -62,7 +62,7 @@ leftBy t =
 -- 17 for an ambient medium that is none, first of all
 unfoldable pub hostTraceRaysOf : HostConfig → List Float → List ℕ → ℕ → List Float → List ℕ → ℕ → Memory → Left
 hostTraceRaysOf g x k n v t m s =
-    cond (leb (g .ambient) 3)
+    cond (leb (g .ambient) lastMedium)
     (leftBy (traceRaysOf (lentBatch (traceConfigOf g) x k n v t m) s))
     (leftBy (record { outcome = refused 17 0 s; report = startReportOf 0 #0 }))
 

@@ -5,6 +5,7 @@ use crate::answers::no_medium;
 use crate::answers::told;
 use crate::answers::trace_config;
 use detectors::Detectors;
+use material::OpticalMedium;
 ghost use mathlib.Core.Path.{_≡_};
 ghost use Rattle.memory.specs.Memory.{lentMemory};
 ghost use Rattle.host_tracing.specs.Tracing.{left, hostTraceRaysOf};
@@ -30,7 +31,7 @@ pub extern "C" fn nonseq_trace_rays(
         ≡ hostTraceRaysOf config (now («solid_values» .entry)) (now («solid_tags» .entry)) count (now («ray_values» .entry)) (now («ray_tags» .entry)) given
         (lentMemory detectors (now (flux .entry)) (now (hits .entry)) (now («hit_values» .entry)) (now («hit_tags» .entry)) used) ⌝ }
 {
-    if config.ambient <= 3 {
+    if config.ambient <= OpticalMedium::LAST {
         let g = trace_config(config);
         let r = trace::trace_rays(
             g,

@@ -61,9 +61,13 @@ readNumberOf k f =
 unfoldable pub mediaParts : List ℕ → List (List ℕ)
 mediaParts f = cond (isByteOf f 45) [] (split 44 f)
 
--- one more, but no more than 9
+-- places for the media of a ray
+abbrev pub mediaPlaces : ℕ
+mediaPlaces = 8
+
+-- one more, but no more than one past the places
 unfoldable pub oneMoreOf : ℕ → ℕ
-oneMoreOf n = cond (ltb n 9) (n + 1) n
+oneMoreOf n = cond (ltb n (mediaPlaces + 1)) (n + 1) n
 
 unfoldable pub isNumber : Read → Bool
 isNumber (number n) = true
@@ -86,7 +90,7 @@ mediaFrom (suc n) (f ∷ fs) = numberOrZeroOf (readWholeOf f) ∷ mediaFrom n fs
 
 -- how many media there are, and then eight places for them
 unfoldable pub mediaCell : Read → List (List ℕ) → Values
-mediaCell (number n) fs = values true [] (n ∷ mediaFrom 8 fs)
+mediaCell (number n) fs = values true [] (n ∷ mediaFrom mediaPlaces fs)
 mediaCell malformed fs = badValues
 
 unfoldable pub readMediaOf : List ℕ → Values

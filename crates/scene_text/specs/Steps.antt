@@ -1,5 +1,5 @@
 -- Nobody has to believe this page: what private functions answer on the way, tied to Scene by `gathered`
--- (proofs/Gathering.antt). They read a line or a block step by step, and say what it all comes to from where they stand.
+-- (proofs/Gathering.antt). They read a line or a block step by step, and say what it all comes to from there on.
 use Prim.Native.Nat.{ℕ, _+_}
 use mathlib.Core.List.{List, []}
 use mathlib.Core.Bool.{Bool, cond}
