@@ -55,6 +55,20 @@ enum {
     NONSEQ_MAX_ANSWER = 131072
 };
 
+/* Doubles and whole numbers of one of each in its two slices. */
+enum {
+    NONSEQ_RUN_DOUBLES = 7,
+    NONSEQ_RUN_WHOLES = 3,
+    NONSEQ_SOLID_DOUBLES = 42,
+    NONSEQ_SOLID_WHOLES = 4,
+    NONSEQ_DETECTOR_DOUBLES = 11,
+    NONSEQ_DETECTOR_WHOLES = 2,
+    NONSEQ_RAY_DOUBLES = 8,
+    NONSEQ_RAY_WHOLES = 10,
+    NONSEQ_HIT_DOUBLES = 4,
+    NONSEQ_HIT_WHOLES = 4
+};
+
 /* Shapes, finishes, media and filters by number. */
 enum { NONSEQ_PLANE, NONSEQ_DISK, NONSEQ_SPHERE, NONSEQ_CYLINDER, NONSEQ_BOX };
 enum { NONSEQ_SPECULAR, NONSEQ_MIRROR, NONSEQ_ABSORBER };

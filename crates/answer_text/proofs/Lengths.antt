@@ -29,7 +29,7 @@ use Rattle.report.specs.declared.NonSeqTraceReport.{NonSeqTraceReport}
 use Rattle.report.specs.declared.tallies.Tallies.{Tallies}
 use Rattle.printing.specs.Rows.{rowText}
 use Rattle.printing.proofs.Lengths.{decimal-few, row-short, three-short}
-use Rattle.answer_text.specs.Answer.{Held, ledgerText, talliesText, gridAtOf, shownOf, detectorText, pixelText, pixelsFrom, mapText, eachFrom, detectorCountOf, countIn, detectorsText, mapsText, answerText, refusalText}
+use Rattle.answer_text.specs.Answer.{Held, ledgerText, talliesText, gridAtOf, shownOf, detectorText, pixelText, pixelsText, detectorMapText, eachFrom, detectorCountOf, countIn, detectorsText, mapsText, answerText, refusalText}
 use Rattle.doubles.specs.Doubles.{#0}
 use Rattle.fields.specs.Split.{bytes}
 
@@ -61,15 +61,15 @@ pixel-short d px py x p q r = go (ne x #0)
     go true = three-short d px py x 1 4 4 (decimal-few 20 0 d p) (decimal-few 20 3 px q) (decimal-few 20 3 py r)
     go false = omega arith
 
-pixels-short : (d w i : ℕ) (l : List Float) → d < 10 → i + length l ≤ 10000 → length (pixelsFrom d w i l) ≤ length l * 29
-unfolding pixelsFrom
+pixels-short : (d w i : ℕ) (l : List Float) → d < 10 → i + length l ≤ 10000 → length (pixelsText d w i l) ≤ length l * 29
+unfolding pixelsText
 pixels-short d w i [] p h = omega arith
 pixels-short d w i (x ∷ l) p h =
     let a : i % w < 10000 = omega (arith, mod-le i w) in
     let b : i / w < 10000 = omega (arith, div-le-self i w) in
     let t = pixel-short d (i % w) (i / w) x p a b in
     let r = pixels-short d w (i + 1) l p (omega arith) in
-    rw (length-append (pixelText d (i % w) (i / w) x) (pixelsFrom d w (i + 1) l)) (omega arith)
+    rw (length-append (pixelText d (i % w) (i / w) x) (pixelsText d w (i + 1) l)) (omega arith)
 
 -- ---- what a filter hands back
 
@@ -143,11 +143,11 @@ held-part m f d =
     found-part (m .detectors) d f (m .flux) (take (gridAtOf (m .detectors) d .pixels) (replicate textPixels #0)) (hitsFrom (m .hitValues) (m .hitTags) (m .used) 0) (length (m .hitValues)) (length (m .hitTags)) (m .used)
     (findOf (m .detectors) (record { 0 = d })) refl
 
-map-short : (m : Held) (f : RayPathFilter) (d : ℕ) → d < 10 → length (shownOf m f d .map) ≤ 10000 → length (mapText m f d) ≤ length (shownOf m f d .map) * 29
-unfolding mapText
+map-short : (m : Held) (f : RayPathFilter) (d : ℕ) → d < 10 → length (shownOf m f d .map) ≤ 10000 → length (detectorMapText m f d) ≤ length (shownOf m f d .map) * 29
+unfolding detectorMapText
 map-short m f d p h = go (eqb (gridAtOf (m .detectors) d .columns) 0)
   where
-    go : (b : Bool) → length (cond b [] (pixelsFrom d (gridAtOf (m .detectors) d .columns) 0 (shownOf m f d .map))) ≤ length (shownOf m f d .map) * 29
+    go : (b : Bool) → length (cond b [] (pixelsText d (gridAtOf (m .detectors) d .columns) 0 (shownOf m f d .map))) ≤ length (shownOf m f d .map) * 29
     go true = omega arith
     go false = pixels-short d (gridAtOf (m .detectors) d .columns) 0 (shownOf m f d .map) p (omega arith)
 
@@ -191,20 +191,20 @@ module _ (f : RayPathFilter) (m : Held) (few : length (m .flux) ≤ textPixels) 
   list = m .detectors .list
 
   abbrev maps : ℕ
-  maps = length (eachFrom (mapText m f) (countIn m) 0)
+  maps = length (eachFrom (detectorMapText m f) (countIn m) 0)
 
   -- a detector's lines, by its pixels
-  some-lines : (d : ℕ) → d < 8 → length (mapText m f d) ≤ pixelsOf (detectorAt list d) * 29
+  some-lines : (d : ℕ) → d < 8 → length (detectorMapText m f d) ≤ pixelsOf (detectorAt list d) * 29
   some-lines d p = go (held-part m f d)
     where
-      go : PartOrNone (m .detectors) d (length (m .flux)) (length (shownOf m f d .map)) → length (mapText m f d) ≤ pixelsOf (detectorAt list d) * 29
+      go : PartOrNone (m .detectors) d (length (m .flux)) (length (shownOf m f d .map)) → length (detectorMapText m f d) ≤ pixelsOf (detectorAt list d) * 29
       go (inl z) = omega (arith, map-short m f d (omega arith) (omega arith))
       go (inr r) = omega (arith, map-short m f d (omega arith) (omega arith))
 
-  no-lines : (d : ℕ) → d < 8 → (length (m .flux) ≡ allPixelsOf (m .detectors) → ⊥) → length (mapText m f d) ≤ 0
+  no-lines : (d : ℕ) → d < 8 → (length (m .flux) ≡ allPixelsOf (m .detectors) → ⊥) → length (detectorMapText m f d) ≤ 0
   no-lines d p n = go (held-part m f d)
     where
-      go : PartOrNone (m .detectors) d (length (m .flux)) (length (shownOf m f d .map)) → length (mapText m f d) ≤ 0
+      go : PartOrNone (m .detectors) d (length (m .flux)) (length (shownOf m f d .map)) → length (detectorMapText m f d) ≤ 0
       go (inl z) = omega (arith, map-short m f d (omega arith) (omega arith))
       go (inr r) = absurd (n (r .all))
 
@@ -217,12 +217,12 @@ module _ (f : RayPathFilter) (m : Held) (few : length (m .flux) ≤ textPixels) 
           let a = eqb-true (length (m .flux)) (allPixelsOf (m .detectors)) e in
           let c = count-most (m .detectors .count) in
           let z : 0 + countIn m ≡ countIn m = omega arith in
-          let h = each-most (mapText m f) (λ i. firstPixelOf list i * 29) 8 (λ i p. omega (arith, some-lines i p, first-more list i)) (countIn m) 0 (omega arith) in
+          let h = each-most (detectorMapText m f) (λ i. firstPixelOf list i * 29) 8 (λ i p. omega (arith, some-lines i p, first-more list i)) (countIn m) 0 (omega arith) in
           omega (arith, rw z at h, first-all (m .detectors))
       go false e =
           let a = eqb-false (length (m .flux)) (allPixelsOf (m .detectors)) e in
           let c = count-most (m .detectors .count) in
-          let h = each-most (mapText m f) (λ i. 0) 8 (λ i p. omega (arith, no-lines i p a)) (countIn m) 0 (omega arith) in
+          let h = each-most (detectorMapText m f) (λ i. 0) 8 (λ i p. omega (arith, no-lines i p a)) (countIn m) 0 (omega arith) in
           omega arith
 
   maps-short : length (mapsText f m) ≤ 118804

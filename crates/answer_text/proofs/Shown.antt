@@ -11,7 +11,7 @@ use Rattle.filter.specs.declared.calls.Filtered.{Filtered}
 use Rattle.filter.specs.Handed.{Handed, Numbered, asHanded, refilterOf, filteredPixelFluxOf, filteredPlaced, inNumbers, withNumbers}
 use Rattle.printing.specs.Printing.{Out, out, putAll}
 use Rattle.answer_text.specs.declared.maps.Grid.{Grid}
-use Rattle.answer_text.specs.Answer.{Held, gridAtOf, shownOf, pixelsFrom, mapText}
+use Rattle.answer_text.specs.Answer.{Held, gridAtOf, shownOf, pixelsText, detectorMapText}
 use Rattle.memory.specs.Memory.{textPixels}
 use Rattle.doubles.specs.Doubles.{#0}
 
@@ -40,13 +40,13 @@ module _ (m : Held) (f : RayPathFilter) (d : ℕ) (g : Grid) (e : g ≡ gridAtOf
     unfolding filteredPixelFluxOf filteredPlaced refilterOf
     count-shown = ap (λ (x : Handed). x .count) h ∙ ap (λ (x : Handed). x .count) handed-is
 
-  pub map-none : (b : List ℕ) (p : ℕ) → g .columns ≡ 0 → out b p ≡ putAll b p (mapText m f d)
-  unfolding mapText putAll
+  pub map-none : (b : List ℕ) (p : ℕ) → g .columns ≡ 0 → out b p ≡ putAll b p (detectorMapText m f d)
+  unfolding detectorMapText putAll
   map-none b p z = rw (← e, eq-eqb (g .columns) 0 z)
 
   pub map-some : (b : List ℕ) (p : ℕ) (w : Out) (n : Numbered) → (g .columns ≡ 0 → ⊥) → n ≡ inNumbers (filteredPixelFluxOf (m .detectors) (record { 0 = d }) f (m .flux) work (m .hitValues) (m .hitTags) (m .used))
-      → w ≡ putAll b p (pixelsFrom d (g .columns) 0 (n .part)) → w ≡ putAll b p (mapText m f d)
-  unfolding mapText
+      → w ≡ putAll b p (pixelsText d (g .columns) 0 (n .part)) → w ≡ putAll b p (detectorMapText m f d)
+  unfolding detectorMapText
   map-some b p w n z q v =
       let k : n .part ≡ shownOf m f d .map = ap (λ (x : Numbered). x .part) q ∙ same-part (filteredPixelFluxOf (m .detectors) (record { 0 = d }) f (m .flux) work (m .hitValues) (m .hitTags) (m .used)) ∙ ap (λ (x : Handed). x .map) handed-is in
       rw (← e, ne-eqb (g .columns) 0 z) (rw k at v)

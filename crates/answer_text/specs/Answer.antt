@@ -83,15 +83,15 @@ unfoldable pub pixelText : ℕ → ℕ → ℕ → Float → List ℕ
 pixelText d px py x = cond (ne x #0) (rowText (d ∷ px ∷ py ∷ []) (x ∷ [])) []
 
 -- the pixels of a map with w columns, from pixel i on, row by row
-unfoldable pub pixelsFrom : ℕ → ℕ → ℕ → List Float → List ℕ
-pixelsFrom d w i [] = []
-pixelsFrom d w i (x ∷ l) = pixelText d (i % w) (i / w) x ++ pixelsFrom d w (i + 1) l
+unfoldable pub pixelsText : ℕ → ℕ → ℕ → List Float → List ℕ
+pixelsText d w i [] = []
+pixelsText d w i (x ∷ l) = pixelText d (i % w) (i / w) x ++ pixelsText d w (i + 1) l
 
 -- the map of detector d under the filter
-unfoldable pub mapText : Held → RayPathFilter → ℕ → List ℕ
-mapText m f d =
+unfoldable pub detectorMapText : Held → RayPathFilter → ℕ → List ℕ
+detectorMapText m f d =
     let w = gridAtOf (m .detectors) d .columns in
-    cond (eqb w 0) [] (pixelsFrom d w 0 (shownOf m f d .map))
+    cond (eqb w 0) [] (pixelsText d w 0 (shownOf m f d .map))
 
 -- ---- all of it
 
@@ -111,7 +111,7 @@ unfoldable pub detectorsText : RayPathFilter → Held → List ℕ
 detectorsText f m = named "detector hits signal stray flux" ++ eachFrom (detectorText m f) (countIn m) 0
 
 unfoldable pub mapsText : RayPathFilter → Held → List ℕ
-mapsText f m = named "detector px py flux" ++ eachFrom (mapText m f) (countIn m) 0
+mapsText f m = named "detector px py flux" ++ eachFrom (detectorMapText m f) (countIn m) 0
 
 unfoldable pub answerText : NonSeqTraceReport → RayPathFilter → Held → List ℕ
 answerText r f m = ledgerText r ++ (talliesText (r .tallies) ++ (detectorsText f m ++ mapsText f m))

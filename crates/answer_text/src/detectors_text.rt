@@ -4,7 +4,7 @@ use detectors::Detectors;
 use filter::RayPathFilter;
 ghost use mathlib.Core.Path.{_≡_};
 ghost use Rattle.printing.specs.Printing.{out, putAll};
-ghost use Rattle.answer_text.specs.Answer.{held, detectorText, mapText, eachFrom, detectorCountOf};
+ghost use Rattle.answer_text.specs.Answer.{held, detectorText, detectorMapText, eachFrom, detectorCountOf};
 
 // A count that is refused (3) is no count.
 fn detector_count(count: u32) -> u32
@@ -60,13 +60,13 @@ pub(crate) fn put_maps(
     used: usize,
 ) -> usize
     ensures { λ r. ⌜ out (now (buf .exit)) r ≡ putAll (now (buf .entry)) at
-        (eachFrom (mapText (held detectors (now (flux .entry)) (now («hit_values» .entry)) (now («hit_tags» .entry)) used) filter) (detectorCountOf (detectors .count)) 0) ⌝ }
+        (eachFrom (detectorMapText (held detectors (now (flux .entry)) (now («hit_values» .entry)) (now («hit_tags» .entry)) used) filter) (detectorCountOf (detectors .count)) 0) ⌝ }
 {
     let n = detector_count(detectors.count);
     let mut p = at;
     let mut d: u32 = 0;
     while d < n {
-        p = maps::put_map(
+        p = maps::put_detector_map(
             buf,
             p,
             detectors,

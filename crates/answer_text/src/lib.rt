@@ -102,7 +102,7 @@ fn put_maps(
     detectors_text::put_maps(buf, p, detectors, filter, flux, hit_values, hit_tags, used)
 }
 
-// The whole answer. `flux` is the stored map, `values` and `tags` the hit list.
+// The whole answer. `flux` is the stored map, `hit_values` and `hit_tags` the hit list.
 pub fn put_answer(
     buf: &mut [u8],
     at: usize,

@@ -9,7 +9,7 @@ use memory::TEXT_PIXELS;
 ghost use mathlib.Core.Path.{_≡_};
 ghost use Prim.Native.Nat.{_≤_};
 ghost use Rattle.printing.specs.Printing.{out, putAll};
-ghost use Rattle.answer_text.specs.Answer.{held, fewOf, gridAtOf, shownOf, detectorText, mapText};
+ghost use Rattle.answer_text.specs.Answer.{held, fewOf, gridAtOf, shownOf, detectorText, detectorMapText};
 ghost use Rattle.memory.specs.Memory.{textPixels};
 
 // How many pixels a detector has, and how many columns.
@@ -119,7 +119,7 @@ pub(crate) fn put_detector(
 }
 
 // The lines of its pixels.
-pub(crate) fn put_map(
+pub(crate) fn put_detector_map(
     buf: &mut [u8],
     at: usize,
     detectors: Detectors,
@@ -131,7 +131,7 @@ pub(crate) fn put_map(
     used: usize,
 ) -> usize
     ensures { λ r. ⌜ out (now (buf .exit)) r ≡ putAll (now (buf .entry)) at
-        (mapText (held detectors (now (flux .entry)) (now («hit_values» .entry)) (now («hit_tags» .entry)) used) filter d) ⌝ }
+        (detectorMapText (held detectors (now (flux .entry)) (now («hit_values» .entry)) (now («hit_tags» .entry)) used) filter d) ⌝ }
 {
     let g = grid_at(detectors, d);
     let n = g.pixels;

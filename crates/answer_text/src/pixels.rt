@@ -2,7 +2,7 @@
 ghost use mathlib.Core.Path.{_≡_};
 ghost use Prim.Native.Nat.{_<_};
 ghost use Rattle.printing.specs.Printing.{out, putAll};
-ghost use Rattle.answer_text.specs.Answer.{pixelText, pixelsFrom};
+ghost use Rattle.answer_text.specs.Answer.{pixelText, pixelsText};
 
 // A pixel's line, unless its flux is zero.
 fn put_pixel(buf: &mut [u8], at: usize, detector: u64, px: u64, py: u64, flux: f64) -> usize
@@ -25,7 +25,7 @@ pub(crate) fn put_pixels(
     map: &[f64],
 ) -> usize
     requires { ⌜ 0 < width ⌝ }
-    ensures { λ r. ⌜ out (now (buf .exit)) r ≡ putAll (now (buf .entry)) at (pixelsFrom detector width 0 (now (map .entry))) ⌝ }
+    ensures { λ r. ⌜ out (now (buf .exit)) r ≡ putAll (now (buf .entry)) at (pixelsText detector width 0 (now (map .entry))) ⌝ }
 {
     let mut p = at;
     let mut i: usize = 0;

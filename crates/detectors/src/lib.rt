@@ -13,11 +13,11 @@ ghost use Rattle.error.specs.Refusals.{asChecked};
 ghost use Rattle.detectors.specs.Detectors.{firstPixelOf, allPixelsOf, placedOf, checkListOf, checkDetectorsOf, findOf, asFound, atOf, asSpot, maxDetectors};
 
 // Places of a list of detectors.
-pub const DETECTOR_PLACES: usize = 8;
+pub const MAX_DETECTORS: usize = 8;
 
 #[repr(C)]
 pub struct Detectors {
-    pub list: [Detector2D; DETECTOR_PLACES],
+    pub list: [Detector2D; MAX_DETECTORS],
     pub count: u32,
 }
 
@@ -39,7 +39,7 @@ pub enum Spot {
 }
 
 // The first detector that is refused, by 5 to 8.
-fn check_list(list: [Detector2D; DETECTOR_PLACES], count: u32) -> Check
+fn check_list(list: [Detector2D; MAX_DETECTORS], count: u32) -> Check
     requires { ⌜ count ≤ maxDetectors ⌝ }
     ensures { λ r. ⌜ asChecked r ≡ checkListOf list count 0 ⌝ }
 {
@@ -59,7 +59,7 @@ fn check_list(list: [Detector2D; DETECTOR_PLACES], count: u32) -> Check
 }
 
 // The pixels of the first n detectors, which is the place of the first pixel of detector n.
-fn first_pixel(list: [Detector2D; DETECTOR_PLACES], n: usize) -> usize
+fn first_pixel(list: [Detector2D; MAX_DETECTORS], n: usize) -> usize
     requires { ⌜ n ≤ maxDetectors ⌝ }
     ensures { λ r. ⌜ r ≡ firstPixelOf list n ⌝ }
 {
@@ -75,7 +75,7 @@ fn first_pixel(list: [Detector2D; DETECTOR_PLACES], n: usize) -> usize
 
 impl Detectors {
     // The most detectors.
-    pub const MAX: u32 = DETECTOR_PLACES as u32;
+    pub const MAX: u32 = MAX_DETECTORS as u32;
 
     // 3 for more than 8, then 5 to 8 of each in list order.
     pub fn check(self) -> Check

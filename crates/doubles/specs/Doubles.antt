@@ -2,7 +2,7 @@
 -- infinities, and `fin s m e` for ±m * 2 ^ e.
 -- From bits, to bits and `as usize` are `lib.Ieee`'s own `ofBits`, `toBits` and `toUnsigned`.
 use mathlib.Core.Bool.{Bool, true, false, cond}
-use lib.Ieee.{Float, nan, inf, fin, lt, ofBits, binary64}
+use lib.Ieee.{Float, nan, inf, fin, lt, le, ofBits, binary64}
 
 -- doubles that are written often
 
@@ -32,6 +32,16 @@ unfoldable pub absOf : Float → Float
 absOf nan = nan
 absOf (inf s) = inf false
 absOf (fin s m e) = fin false m e
+
+-- a size compared with h: above it, below it, at most it
+abbrev pub exceedsOf : Float → Float → Bool
+exceedsOf x h = lt h (absOf x)
+
+abbrev pub isUnderOf : Float → Float → Bool
+isUnderOf x h = lt (absOf x) h
+
+abbrev pub isWithinOf : Float → Float → Bool
+isWithinOf x h = le (absOf x) h
 
 -- Rust's `f64::clamp`: lo where x is below it, else hi where x is above it, else x. So NaN stays, and so does a -0
 -- between 0 and 1.

@@ -1,4 +1,4 @@
--- Nobody has to believe this page: the first guess of the root, which `root_by` tests exactly (`near-nearest`,
+-- Nobody has to believe this page: the first guess of the root, which `root_by` tests exactly (`nearest-of`,
 -- proofs/Whole.antt) and replaces where it fails.
 use Prim.Native.Nat.{ℕ, _+_, _-_, _/_, _%_, _^_}
 use lib.Ieee.{Float, binary64, add, sub, mul, ofBits}

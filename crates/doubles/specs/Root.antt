@@ -18,8 +18,8 @@ wholeRoot n = rootIn (size n) n
 
 -- The value of the format f that is nearest to √n of the format's smallest values. Of the root's whole part w the
 -- format keeps the `prec` leading digits, q, and drops k.
--- So the result is q or q + 1, times 2 ^ k, by how √n compares with the number halfway between the two, (2 * q + 1) * 2
--- ^ k / 2: both are doubled, and squared.
+-- So the result is q or q + 1, times 2 ^ k, by how √n compares with the number halfway between the two,
+-- (2 * q + 1) * 2 ^ k / 2: both are doubled, and squared.
 unfoldable pub rootRound : Format → ℕ → Float
 unfolding wholeRoot size units
 rootRound f n =
@@ -29,8 +29,8 @@ rootRound f n =
     let h = (2 * q + 1) * 2 ^ k in
     units f false (nearest q (compare (4 * n) (h * h))) k
 
--- Of a zero that zero, of any other negative number `nan`. m * 2 ^ e is (√n * 2 ^ -low) ^ 2 for n = m * 2 ^ (e + 2 *
--- low), a whole number.
+-- Of a zero that zero, of any other negative number `nan`. m * 2 ^ e is (√n * 2 ^ -low) ^ 2 for
+-- n = m * 2 ^ (e + 2 * low), a whole number.
 unfoldable pub sqrtIn : Format → Float → Float
 unfolding rootRound
 sqrtIn f nan = nan
@@ -44,8 +44,8 @@ sqrtOf x = sqrtIn binary64 x
 
 -- ---- on whole numbers: what the functions that `sqrt` calls answer
 
--- the whole number nearest to √w, which never lies halfway between two: the whole part q, or one more from (q + 1/2) ^
--- 2 on
+-- the whole number nearest to √w, which never lies halfway between two: the whole part q, or one more
+-- from (q + 1/2) ^ 2 on
 unfoldable pub nearestRootOf : ℕ → ℕ
 unfolding wholeRoot
 nearestRootOf w = let q = wholeRoot w in cond (leb w (q * q + q)) q (suc q)

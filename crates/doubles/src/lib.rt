@@ -6,8 +6,8 @@ pub use root::root_elsewhere;
 pub use root::sqrt;
 ghost use mathlib.Core.Path.{_≡_};
 ghost use mathlib.Core.Bool.{false};
-ghost use lib.Ieee.{inf, binary64, lt, le, ofBits, toBits, toUnsigned};
-ghost use Rattle.doubles.specs.Doubles.{absOf, clampOf, maxZeroOf, isFiniteOf};
+ghost use lib.Ieee.{inf, binary64, ofBits, toBits, toUnsigned};
+ghost use Rattle.doubles.specs.Doubles.{absOf, clampOf, maxZeroOf, isFiniteOf, exceedsOf, isUnderOf, isWithinOf};
 
 // The double of a bit pattern. Every NaN pattern gives the one NaN.
 pub fn from_bits(b: u64) -> f64
@@ -41,7 +41,7 @@ pub fn abs(x: f64) -> f64
 
 // `x.abs() > h`, without a test for NaN.
 pub fn exceeds(x: f64, h: f64) -> bool
-    ensures { λ r. ⌜ r ≡ lt h (absOf x) ⌝ }
+    ensures { λ r. ⌜ r ≡ exceedsOf x h ⌝ }
 {
     if x > h {
         return true;
@@ -51,7 +51,7 @@ pub fn exceeds(x: f64, h: f64) -> bool
 
 // `x.abs() < h`.
 pub fn is_under(x: f64, h: f64) -> bool
-    ensures { λ r. ⌜ r ≡ lt (absOf x) h ⌝ }
+    ensures { λ r. ⌜ r ≡ isUnderOf x h ⌝ }
 {
     if x < h {
         return x > -h;
@@ -61,7 +61,7 @@ pub fn is_under(x: f64, h: f64) -> bool
 
 // `x.abs() <= h`.
 pub fn is_within(x: f64, h: f64) -> bool
-    ensures { λ r. ⌜ r ≡ le (absOf x) h ⌝ }
+    ensures { λ r. ⌜ r ≡ isWithinOf x h ⌝ }
 {
     if x <= h {
         return x >= -h;

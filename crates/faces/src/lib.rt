@@ -4,8 +4,8 @@ use detector::Crossed;
 use detector::Crossing;
 use detector::DetectorNo;
 use detector::Face;
-use detectors::DETECTOR_PLACES;
 use detectors::Detectors;
+use detectors::MAX_DETECTORS;
 use rays::Ray;
 ghost use mathlib.Core.Path.{_≡_};
 ghost use Prim.Native.Nat.{_≤_};
@@ -16,7 +16,7 @@ ghost use Rattle.faces.specs.Faces.{newFacesOf, sightDistance, sightFrom
 ghost use Rattle.detectors.specs.Detectors.{maxDetectors};
 
 pub struct Faces {
-    pub list: [Face; DETECTOR_PLACES],
+    pub list: [Face; MAX_DETECTORS],
     pub count: u32,
 }
 

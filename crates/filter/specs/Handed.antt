@@ -21,14 +21,14 @@ use Rattle.doubles.specs.Doubles.{#0}
 -- ---- the checks: 3, 5 to 8, 4, then 9, also for All
 
 unfoldable pub checkPlaced : Detectors → ℕ → ℕ → ℕ → ℕ → ℕ → Checked Placed → Checked Placed
-checkPlaced ds stored work values tags used (passed p) =
-    cond (eqb stored (allPixelsOf ds) && (eqb work (pixelsOf (p .detector)) && isHitListOf values tags used)) (passed p)
+checkPlaced ds stored work hitValues hitTags used (passed p) =
+    cond (eqb stored (allPixelsOf ds) && (eqb work (pixelsOf (p .detector)) && isHitListOf hitValues hitTags used)) (passed p)
     (refusedAt 9 0)
-checkPlaced ds stored work values tags used (refusedAt n place) = refusedAt n place
+checkPlaced ds stored work hitValues hitTags used (refusedAt n place) = refusedAt n place
 
 -- the asked detector, if slices of these lengths are its stored map, work map and hit list
 unfoldable pub checkFilterOf : Detectors → DetectorNo → ℕ → ℕ → ℕ → ℕ → ℕ → Checked Placed
-checkFilterOf ds asked stored work values tags used = checkPlaced ds stored work values tags used (findOf ds asked)
+checkFilterOf ds asked stored work hitValues hitTags used = checkPlaced ds stored work hitValues hitTags used (findOf ds asked)
 
 -- ---- what is handed back: the check's word, a map or a part of one, its total and its count
 
@@ -54,9 +54,9 @@ refilterPlaced f asked work hits (refusedAt n place) = handed (refusedAt n place
 
 unfoldable pub refilterOf :
     Detectors → DetectorNo → RayPathFilter → List Float → List Float → List Float → List ℕ → ℕ → Handed
-refilterOf ds asked f stored work values tags used =
-    refilterPlaced f asked work (hitsFrom values tags used 0)
-    (checkFilterOf ds asked (length stored) (length work) (length values) (length tags) used)
+refilterOf ds asked f stored work hitValues hitTags used =
+    refilterPlaced f asked work (hitsFrom hitValues hitTags used 0)
+    (checkFilterOf ds asked (length stored) (length work) (length hitValues) (length hitTags) used)
 
 -- ---- the part that is handed back: of the stored map for All, else the work map; an empty one where the call is
 -- refused
@@ -70,8 +70,8 @@ partPlaced f stored work (refusedAt n place) = []
 
 unfoldable pub filteredPartOf :
     Detectors → DetectorNo → RayPathFilter → List Float → List Float → List Float → List ℕ → ℕ → List Float
-filteredPartOf ds asked f stored work values tags used =
-    partPlaced f stored work (checkFilterOf ds asked (length stored) (length work) (length values) (length tags) used)
+filteredPartOf ds asked f stored work hitValues hitTags used =
+    partPlaced f stored work (checkFilterOf ds asked (length stored) (length work) (length hitValues) (length hitTags) used)
 
 -- ---- both in one call
 
@@ -83,9 +83,9 @@ filteredPlaced f asked stored work hits c =
 
 unfoldable pub filteredPixelFluxOf :
     Detectors → DetectorNo → RayPathFilter → List Float → List Float → List Float → List ℕ → ℕ → Handed
-filteredPixelFluxOf ds asked f stored work values tags used =
-    filteredPlaced f asked stored work (hitsFrom values tags used 0)
-    (checkFilterOf ds asked (length stored) (length work) (length values) (length tags) used)
+filteredPixelFluxOf ds asked f stored work hitValues hitTags used =
+    filteredPlaced f asked stored work (hitsFrom hitValues hitTags used 0)
+    (checkFilterOf ds asked (length stored) (length work) (length hitValues) (length hitTags) used)
 
 -- what the code's answer says
 abbrev pub asHanded : Filtered → List Float → Handed

@@ -3,7 +3,7 @@
 // numbers: bounce, number of media, 8 media.
 use error::Check;
 use error::NonSeqError;
-use media::MEDIA_PLACES;
+use media::MAX_MEDIA;
 use media::Media;
 use rays::Ray;
 use rays::Vec3;
@@ -59,7 +59,7 @@ fn read_media(ray_tags: &[u32], i: u32) -> Media
     ensures { λ r. ⌜ r ≡ readMediaOf (now («ray_tags» .entry)) i ⌝ }
 {
     let a = i as usize * RAY_WHOLES;
-    let mut list = [SolidNo(0); MEDIA_PLACES];
+    let mut list = [SolidNo(0); MAX_MEDIA];
     list[0] = SolidNo(ray_tags[a + 2]);
     list[1] = SolidNo(ray_tags[a + 3]);
     list[2] = SolidNo(ray_tags[a + 4]);
@@ -84,7 +84,7 @@ pub fn no_ray() -> ActiveRay
         y: nan,
         z: nan,
     };
-    let list = [SolidNo(0); MEDIA_PLACES];
+    let list = [SolidNo(0); MAX_MEDIA];
     ActiveRay {
         ray: Ray {
             origin: v,
@@ -134,7 +134,7 @@ pub fn check_lists(ray_values: usize, ray_tags: usize, rays: u32) -> Check
 }
 
 // Whether the first n places hold solids.
-fn all_solids(list: [SolidNo; MEDIA_PLACES], n: usize, solids: u32) -> bool
+fn all_solids(list: [SolidNo; MAX_MEDIA], n: usize, solids: u32) -> bool
     requires { ⌜ n ≤ maxMedia ⌝ }
     ensures { λ r. ⌜ r ≡ allSolidsOf list solids n 0 ⌝ }
 {

@@ -113,7 +113,7 @@ fn put_held(
     ensures { λ r. ⌜ out (now (buf .exit)) r ≡ putAll (now (buf .entry)) 0
         (heldText report filter (held detectors (now (flux .entry)) (now («hit_values» .entry)) (now («hit_tags» .entry)) used)) ⌝ }
 {
-    if flux.len() <= 4096 {
+    if flux.len() <= memory::TEXT_PIXELS {
         if is_held(
             detectors,
             flux.len(),

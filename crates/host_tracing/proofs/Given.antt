@@ -19,21 +19,21 @@ use Rattle.trace.specs.Trace.{Batch, lentBatch, checkFlatOf, checkConfigOf, che
 use Rattle.host_tracing.specs.declared.answers.HostConfig.{HostConfig}
 use Rattle.host_tracing.specs.declared.slices.GivenRay.{GivenRay}
 use Rattle.host_tracing.specs.Tracing.{Left, hostTraceRaysOf}
-use Rattle.host_tracing.specs.Flat.{valuesRow, tagsRow, flatValues, flatTags, laid, flattenOf}
+use Rattle.host_tracing.specs.Flat.{rayValuesRow, rayTagsRow, flatValues, flatTags, laid, flattenOf}
 use Rattle.host_tracing.proofs.Laying.{zeros, nones, long-f, long-h, LaidOut, out}
 use Rattle.fields.specs.Split.{frontOf}
 
 -- ---- the lists of the rays are as long as 17 asks
 
 values-length : (ys : List GivenRay) → length (flatValues ys) ≡ length ys * 8
-unfolding flatValues valuesRow
+unfolding flatValues rayValuesRow
 values-length [] = refl
-values-length (y ∷ ys) = length-append (valuesRow y) (flatValues ys) ∙ omega (arith, values-length ys)
+values-length (y ∷ ys) = length-append (rayValuesRow y) (flatValues ys) ∙ omega (arith, values-length ys)
 
 marks-length : (ys : List GivenRay) → length (flatTags ys) ≡ length ys * 10
-unfolding flatTags tagsRow
+unfolding flatTags rayTagsRow
 marks-length [] = refl
-marks-length (y ∷ ys) = length-append (tagsRow y) (flatTags ys) ∙ omega (arith, marks-length ys)
+marks-length (y ∷ ys) = length-append (rayTagsRow y) (flatTags ys) ∙ omega (arith, marks-length ys)
 
 lists-fit : (ys : List GivenRay) → checkListsOf (length (flatValues ys)) (length (flatTags ys)) (length ys) ≡ passed tt
 unfolding checkListsOf

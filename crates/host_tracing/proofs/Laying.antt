@@ -12,7 +12,7 @@ use borrow.Author.Tests.{lt-ltb, le-ltb, le-leb, lt-leb, ltb-true, leb-true}
 use lib.ListN.{length, getD, take, drop, replicate, length-append, length-replicate, drop-of-length-le}
 use lib.Seq.{sets, sets-eq, length-sets, drop-cons, take-at, length-take-le}
 use Rattle.host_tracing.specs.declared.slices.GivenRay.{GivenRay}
-use Rattle.host_tracing.specs.Flat.{valuesRow, tagsRow, flatValues, flatTags, Laid, laid, hasRoomOf, putRayOf, flattenOf}
+use Rattle.host_tracing.specs.Flat.{rayValuesRow, rayTagsRow, flatValues, flatTags, Laid, laid, hasRoomOf, putRayOf, flattenOf}
 use Rattle.doubles.proofs.Floats.{and-left, and-right}
 
 -- what stands for a ray past the end of a list
@@ -84,7 +84,7 @@ add-nine n = omega arith
 take-sets : {A : Type 0} (l xs : List A) (i m : ℕ) → i + length xs ≤ length l → m ≡ i + length xs → take m (sets l i xs) ≡ take i l ++ xs
 take-sets l xs i m h e = ap (take m) (sets-eq xs l i h) ∙ take-at (take i l ++ xs) _ m (length-append (take i l) xs ∙ ap (λ (k : ℕ). k + length xs) (length-take-le i l (omega (arith, h))) ∙ sym e)
 
-put-more : (y : GivenRay) (n : ℕ) (v : List Float) (m : List ℕ) → n < 4097 → length v ≡ 32776 → length m ≡ 40970 → putRayOf y (laid n v m) ≡ laid (n + 1) (sets v (n * 8) (valuesRow y)) (sets m (n * 10) (tagsRow y))
+put-more : (y : GivenRay) (n : ℕ) (v : List Float) (m : List ℕ) → n < 4097 → length v ≡ 32776 → length m ≡ 40970 → putRayOf y (laid n v m) ≡ laid (n + 1) (sets v (n * 8) (rayValuesRow y)) (sets m (n * 10) (rayTagsRow y))
 unfolding putRayOf hasRoomOf
 put-more y n v m h a b = simp (lt-ltb n 4097 h, a, b)
 
@@ -105,13 +105,13 @@ unfolding flatValues flatTags
 none n v m a b = record { count-is = sym (add-zero n); values-are = sym (append-nil (take (n * 8) v)); marks-are = sym (append-nil (take (n * 10) m)); values-long = a; marks-long = b }
 
 one-more : (y : GivenRay) (n : ℕ) (v : List Float) (m : List ℕ) (zs : List GivenRay) (s : Laid) → n < 4097 → length v ≡ 32776 → length m ≡ 40970
-    → LaidOut (n + 1) (sets v (n * 8) (valuesRow y)) (sets m (n * 10) (tagsRow y)) zs s → LaidOut n v m (y ∷ zs) s
-unfolding flatValues flatTags valuesRow tagsRow
+    → LaidOut (n + 1) (sets v (n * 8) (rayValuesRow y)) (sets m (n * 10) (rayTagsRow y)) zs s → LaidOut n v m (y ∷ zs) s
+unfolding flatValues flatTags rayValuesRow rayTagsRow
 one-more y n v m zs s h a b o =
     record {
       count-is = o .count-is ∙ omega arith;
-      values-are = o .values-are ∙ ap (λ (l : List Float). l ++ flatValues zs) (take-sets v (valuesRow y) (n * 8) ((n + 1) * 8) (omega (arith, a, h)) (omega arith)) ∙ append-assoc (take (n * 8) v) (valuesRow y) (flatValues zs);
-      marks-are = o .marks-are ∙ ap (λ (l : List ℕ). l ++ flatTags zs) (take-sets m (tagsRow y) (n * 10) ((n + 1) * 10) (omega (arith, b, h)) (omega arith)) ∙ append-assoc (take (n * 10) m) (tagsRow y) (flatTags zs);
+      values-are = o .values-are ∙ ap (λ (l : List Float). l ++ flatValues zs) (take-sets v (rayValuesRow y) (n * 8) ((n + 1) * 8) (omega (arith, a, h)) (omega arith)) ∙ append-assoc (take (n * 8) v) (rayValuesRow y) (flatValues zs);
+      marks-are = o .marks-are ∙ ap (λ (l : List ℕ). l ++ flatTags zs) (take-sets m (rayTagsRow y) (n * 10) ((n + 1) * 10) (omega (arith, b, h)) (omega arith)) ∙ append-assoc (take (n * 10) m) (rayTagsRow y) (flatTags zs);
       values-long = o .values-long;
       marks-long = o .marks-long;
     }
@@ -125,4 +125,4 @@ out (suc k) (y ∷ ys) n v m e a b =
     let h : n < 4097 = omega (arith, e) in
     rw (put-more y n v m h a b)
     (one-more y n v m (take k ys) _ h a b
-    (out k ys (n + 1) (sets v (n * 8) (valuesRow y)) (sets m (n * 10) (tagsRow y)) (omega (arith, e)) (length-sets v (n * 8) (valuesRow y) ∙ a) (length-sets m (n * 10) (tagsRow y) ∙ b)))
+    (out k ys (n + 1) (sets v (n * 8) (rayValuesRow y)) (sets m (n * 10) (rayTagsRow y)) (omega (arith, e)) (length-sets v (n * 8) (rayValuesRow y) ∙ a) (length-sets m (n * 10) (rayTagsRow y) ∙ b)))

@@ -12,24 +12,24 @@ use Rattle.host_tracing.specs.declared.slices.GivenRay.{GivenRay}
 use Rattle.given_rays.specs.Given.{rayDoubles, rayWholes, rayRoom}
 
 -- origin, direction, wavelength, power
-unfoldable pub valuesRow : GivenRay → List Float
-valuesRow r =
+unfoldable pub rayValuesRow : GivenRay → List Float
+rayValuesRow r =
     r .origin .x ∷ r .origin .y ∷ r .origin .z ∷ r .direction .x ∷ r .direction .y ∷ r .direction .z
     ∷ r .«wavelength_nm» ∷ r .energy ∷ []
 
 -- bounce, number of media, eight media
-unfoldable pub tagsRow : GivenRay → List ℕ
-tagsRow r =
+unfoldable pub rayTagsRow : GivenRay → List ℕ
+rayTagsRow r =
     let m : ℕ → ℕ = λ i. solidIn (r .media) i .0 in
     r .«bounce_count» ∷ r .«media_count» ∷ m 0 ∷ m 1 ∷ m 2 ∷ m 3 ∷ m 4 ∷ m 5 ∷ m 6 ∷ m 7 ∷ []
 
 unfoldable pub flatValues : List GivenRay → List Float
 flatValues [] = []
-flatValues (r ∷ rs) = valuesRow r ++ flatValues rs
+flatValues (r ∷ rs) = rayValuesRow r ++ flatValues rs
 
 unfoldable pub flatTags : List GivenRay → List ℕ
 flatTags [] = []
-flatTags (r ∷ rs) = tagsRow r ++ flatTags rs
+flatTags (r ∷ rs) = rayTagsRow r ++ flatTags rs
 
 -- ---- as the code lays them out, in two lists with room for one ray more than the limit, so that 3 comes in its order
 
@@ -50,8 +50,8 @@ hasRoomOf n nv nt = ltb n rayRoom && (leb (rayRoom * rayDoubles) nv && leb (rayR
 unfoldable pub putRayOf : GivenRay → Laid → Laid
 putRayOf r s =
     cond (hasRoomOf (s .count) (length (s .rayValues)) (length (s .rayTags)))
-    (laid (s .count + 1) (sets (s .rayValues) (s .count * rayDoubles) (valuesRow r))
-    (sets (s .rayTags) (s .count * rayWholes) (tagsRow r)))
+    (laid (s .count + 1) (sets (s .rayValues) (s .count * rayDoubles) (rayValuesRow r))
+    (sets (s .rayTags) (s .count * rayWholes) (rayTagsRow r)))
     s
 
 unfoldable pub flattenOf : List GivenRay → Laid → Laid

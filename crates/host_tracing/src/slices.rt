@@ -17,7 +17,7 @@ ghost use lib.ListN.{length};
 ghost use lib.Seq.{sets};
 ghost use Rattle.memory.specs.Memory.{lentMemory};
 ghost use Rattle.host_tracing.specs.Tracing.{left, hostTraceRaysOf};
-ghost use Rattle.host_tracing.specs.Flat.{valuesRow, tagsRow, hasRoomOf, laid, putRayOf, flattenOf, flatValues, flatTags};
+ghost use Rattle.host_tracing.specs.Flat.{rayValuesRow, rayTagsRow, hasRoomOf, laid, putRayOf, flattenOf, flatValues, flatTags};
 ghost use Rattle.given_rays.specs.Given.{rayDoubles, rayWholes};
 ghost use Rattle.fields.specs.Split.{frontOf};
 
@@ -47,7 +47,7 @@ fn has_room(n: u32, ray_values: usize, ray_tags: usize) -> bool
 
 fn put_ray_values(ray: GivenRay, at: usize, ray_values: &mut [f64])
     requires { ⌜ at + rayDoubles ≤ length (now «ray_values») ⌝ }
-    ensures { λ _. ⌜ now («ray_values» .exit) ≡ sets (now («ray_values» .entry)) at (valuesRow ray) ⌝ }
+    ensures { λ _. ⌜ now («ray_values» .exit) ≡ sets (now («ray_values» .entry)) at (rayValuesRow ray) ⌝ }
 {
     let origin = ray.origin;
     let direction = ray.direction;
@@ -63,7 +63,7 @@ fn put_ray_values(ray: GivenRay, at: usize, ray_values: &mut [f64])
 
 fn put_ray_tags(ray: GivenRay, at: usize, ray_tags: &mut [u32])
     requires { ⌜ at + rayWholes ≤ length (now «ray_tags») ⌝ }
-    ensures { λ _. ⌜ now («ray_tags» .exit) ≡ sets (now («ray_tags» .entry)) at (tagsRow ray) ⌝ }
+    ensures { λ _. ⌜ now («ray_tags» .exit) ≡ sets (now («ray_tags» .entry)) at (rayTagsRow ray) ⌝ }
 {
     let media = ray.media;
     ray_tags[at] = ray.bounce_count;

@@ -9,7 +9,7 @@ use Rattle.error.specs.Refusals.{numberOf, asChecked}
 use Rattle.printing.specs.Printing.{Out, putAll}
 use Rattle.answer_text.specs.Answer.{refusalText}
 use Rattle.scene_text.specs.Scene.{Slices, Answer, answer, readSceneOf}
-use Rattle.map_text.specs.Tables.{tables, tablesText}
+use Rattle.map_text.specs.Tables.{tables, mapText}
 use Rattle.map_text.specs.StrayMap.{room, readText, answerTo, strayMapText}
 
 module _ (s : List ℕ) (c : Check) (i j k : ℕ) (m : Slices) (q : answer (asChecked c) i j k m ≡ readSceneOf s room) (b : List ℕ) (p : ℕ) (w : Out) where
@@ -21,5 +21,5 @@ module _ (s : List ℕ) (c : Check) (i j k : ℕ) (m : Slices) (q : answer (asCh
   text-refused e place n x y z =
       z ∙ ap (λ r. putAll b p (refusalText r place)) y ∙ ap (λ r. putAll b p (readText (asChecked r) (answer (asChecked c) i j k m))) (sym x) ∙ told
 
-  pub text-mapped : c ≡ Passed → w ≡ putAll b p (tablesText (tables (m .runValues) (m .runTags) (m .solidValues) (m .solidTags) i (m .detectorValues) (m .detectorTags) j (m .rayValues) (m .rayTags) k)) → w ≡ putAll b p (strayMapText s)
+  pub text-mapped : c ≡ Passed → w ≡ putAll b p (mapText (tables (m .runValues) (m .runTags) (m .solidValues) (m .solidTags) i (m .detectorValues) (m .detectorTags) j (m .rayValues) (m .rayTags) k)) → w ≡ putAll b p (strayMapText s)
   text-mapped x z = z ∙ ap (λ r. putAll b p (readText (asChecked r) (answer (asChecked c) i j k m))) (sym x) ∙ told

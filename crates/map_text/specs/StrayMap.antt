@@ -5,7 +5,7 @@ use lib.ListN.{replicate}
 use Rattle.error.specs.Refusals.{Checked, passed, refusedAt}
 use Rattle.answer_text.specs.Answer.{refusalText}
 use Rattle.scene_text.specs.Scene.{Slices, slices, Answer, readSceneOf}
-use Rattle.map_text.specs.Tables.{tables, tablesText, runDoubles, runWholes, detectorDoubles, detectorWholes}
+use Rattle.map_text.specs.Tables.{tables, mapText, runDoubles, runWholes, detectorDoubles, detectorWholes}
 use Rattle.map_text.specs.Tables.{solidRoom}
 use Rattle.scene.specs.Solids.{solidDoubles, solidWholes}
 use Rattle.given_rays.specs.Given.{rayDoubles, rayWholes, rayRoom}
@@ -24,7 +24,7 @@ room =
 abbrev pub readText : Checked Unit → Answer → List ℕ
 readText (passed u) a =
     let m = a .left in
-    tablesText (tables (m .runValues) (m .runTags) (m .solidValues) (m .solidTags) (a .solids) (m .detectorValues)
+    mapText (tables (m .runValues) (m .runTags) (m .solidValues) (m .solidTags) (a .solids) (m .detectorValues)
     (m .detectorTags) (a .detectors) (m .rayValues) (m .rayTags) (a .rays))
 readText (refusedAt n place) a = refusalText n place
 

@@ -143,10 +143,10 @@ abbrev pub outcomeText : RayPathFilter → NonSeqTraceReport → Outcome Memory 
 outcomeText f r (done m) = answerText r f (held (m .detectors) (m .flux) (m .hitValues) (m .hitTags) (m .used))
 outcomeText f r (refused n place m) = refusalText n place
 
-unfoldable pub traceText : RayPathFilter → Trace Memory → List ℕ
-traceText f t = outcomeText f (t .report) (t .outcome)
+unfoldable pub tracedText : RayPathFilter → Trace Memory → List ℕ
+tracedText f t = outcomeText f (t .report) (t .outcome)
 
-unfoldable pub tablesText : Tables → List ℕ
-tablesText t =
-    traceText (meantOf (wholeOf (t .runTags) 1))
+unfoldable pub mapText : Tables → List ℕ
+mapText t =
+    tracedText (meantOf (wholeOf (t .runTags) 1))
     (traceRaysOf (batchIn t) (memoryIn (detectorsOf (t .detectorValues) (t .detectorTags) (t .detectors))))

@@ -12,9 +12,9 @@ const SOLID_ROOM_DOUBLES: usize = crate::parts::SOLID_ROOM as usize * scene::SOL
 
 const SOLID_ROOM_WHOLES: usize = crate::parts::SOLID_ROOM as usize * scene::SOLID_WHOLES;
 
-const DETECTORS_DOUBLES: usize = detectors::DETECTOR_PLACES * crate::parts::DETECTOR_DOUBLES;
+const DETECTORS_DOUBLES: usize = detectors::MAX_DETECTORS * crate::parts::DETECTOR_DOUBLES;
 
-const DETECTORS_WHOLES: usize = detectors::DETECTOR_PLACES * crate::parts::DETECTOR_WHOLES;
+const DETECTORS_WHOLES: usize = detectors::MAX_DETECTORS * crate::parts::DETECTOR_WHOLES;
 
 // The answer to a text, or its refusal, written from place `at` on; what has no place is dropped.
 pub fn put_stray_map(buf: &mut [u8], at: usize, text: &[u8]) -> usize

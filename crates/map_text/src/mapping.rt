@@ -14,7 +14,7 @@ ghost use mathlib.Core.Path.{_≡_};
 ghost use Rattle.memory.specs.Memory.{lentMemory};
 ghost use Rattle.trace.specs.Trace.{lentBatch, traceRaysOf};
 ghost use Rattle.printing.specs.Printing.{out, putAll};
-ghost use Rattle.map_text.specs.Tables.{tables, traceText, tablesText};
+ghost use Rattle.map_text.specs.Tables.{tables, tracedText, mapText};
 ghost use Rattle.fields.specs.Split.{frontOf};
 
 const HIT_ROOM_DOUBLES: usize = memory::TEXT_HITS * memory::HIT_DOUBLES;
@@ -59,7 +59,7 @@ fn put_traced(
     hit_tags: &mut [u32],
 ) -> usize
     ensures { λ r. ⌜ out (now (buf .exit)) r ≡ putAll (now (buf .entry)) at
-        (traceText filter (traceRaysOf (lentBatch config (now («solid_values» .entry)) (now («solid_tags» .entry)) solids (now («ray_values» .entry)) (now («ray_tags» .entry)) given)
+        (tracedText filter (traceRaysOf (lentBatch config (now («solid_values» .entry)) (now («solid_tags» .entry)) solids (now («ray_values» .entry)) (now («ray_tags» .entry)) given)
         (lentMemory ds (now (flux .entry)) (now (hits .entry)) (now («hit_values» .entry)) (now («hit_tags» .entry)) 0))) ⌝ }
 {
     let r = trace::trace_rays(
@@ -118,7 +118,7 @@ pub fn put_map(
     given: u32,
 ) -> usize
     ensures { λ r. ⌜ out (now (buf .exit)) r ≡ putAll (now (buf .entry)) at
-        (tablesText (tables (now («run_values» .entry)) (now («run_tags» .entry)) (now («solid_values» .entry)) (now («solid_tags» .entry)) solids (now («detector_values» .entry)) (now («detector_tags» .entry)) detectors (now («ray_values» .entry)) (now («ray_tags» .entry)) given)) ⌝ }
+        (mapText (tables (now («run_values» .entry)) (now («run_tags» .entry)) (now («solid_values» .entry)) (now («solid_tags» .entry)) solids (now («detector_values» .entry)) (now («detector_tags» .entry)) detectors (now («ray_values» .entry)) (now («ray_tags» .entry)) given)) ⌝ }
 {
     let ds = parts::detectors(detector_values, detector_tags, detectors);
     let n = parts::at_most(parts::SOLID_ROOM, solids);

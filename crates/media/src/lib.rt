@@ -6,11 +6,11 @@ ghost use Prim.Native.Nat.{_-_, _≤_, _<_};
 ghost use Rattle.media.specs.Media.{newestOf, enteredOf, lastPlaceOf, moveDownOf, leftOf, asMedium, asPlace, maxMedia};
 
 // Places for the media of a ray.
-pub const MEDIA_PLACES: usize = 24;
+pub const MAX_MEDIA: usize = 24;
 
 // The first `depth` of the places are used.
 pub struct Media {
-    pub list: [SolidNo; MEDIA_PLACES],
+    pub list: [SolidNo; MAX_MEDIA],
     pub depth: u32,
 }
 
@@ -25,7 +25,7 @@ pub enum Place {
 }
 
 // The last of the first `depth` places that holds a solid.
-fn last_place(list: [SolidNo; MEDIA_PLACES], depth: usize, solid: SolidNo) -> Place
+fn last_place(list: [SolidNo; MAX_MEDIA], depth: usize, solid: SolidNo) -> Place
     requires { ⌜ depth ≤ maxMedia ⌝ }
     ensures { λ r. ⌜ asPlace r ≡ lastPlaceOf list depth solid ⌝ }
 {
@@ -42,7 +42,7 @@ fn last_place(list: [SolidNo; MEDIA_PLACES], depth: usize, solid: SolidNo) -> Pl
 }
 
 // The places from `at` to `end`, each with what stood in the next.
-fn move_down(list: [SolidNo; MEDIA_PLACES], at: usize, end: usize) -> [SolidNo; MEDIA_PLACES]
+fn move_down(list: [SolidNo; MAX_MEDIA], at: usize, end: usize) -> [SolidNo; MAX_MEDIA]
     requires { ⌜ end < maxMedia ⌝ }
     ensures { λ r. ⌜ r ≡ moveDownOf (end - at) at list ⌝ }
 {
@@ -58,7 +58,7 @@ fn move_down(list: [SolidNo; MEDIA_PLACES], at: usize, end: usize) -> [SolidNo; 
 
 impl Media {
     // The most places.
-    pub const MAX: u32 = MEDIA_PLACES as u32;
+    pub const MAX: u32 = MAX_MEDIA as u32;
 
     pub fn newest(self) -> Newest
         ensures { λ r. ⌜ asMedium r ≡ newestOf self ⌝ }

@@ -6,9 +6,9 @@ use crate::hits::put_hit_values;
 use detector::Detector2D;
 use detector::DetectorHit;
 use detector::MAX_COUNT;
-use detectors::DETECTOR_PLACES;
 use detectors::Detectors;
 use detectors::Found;
+use detectors::MAX_DETECTORS;
 use detectors::Placed;
 use detectors::Spot;
 use error::Check;
@@ -60,7 +60,7 @@ fn in_maps(p: usize, flux: usize, hits: usize, hit_values: usize, hit_tags: usiz
 }
 
 // The records with a flux more caught by detector d.
-fn raise(list: [Detector2D; DETECTOR_PLACES], d: usize, flux: f64) -> [Detector2D; DETECTOR_PLACES]
+fn raise(list: [Detector2D; MAX_DETECTORS], d: usize, flux: f64) -> [Detector2D; MAX_DETECTORS]
     requires { ⌜ (d < maxDetectors) × (detectorAt list d .«total_rays_hit» < maxCount) ⌝ }
     ensures { λ r. ⌜ r ≡ raiseOf list d flux ⌝ }
 {

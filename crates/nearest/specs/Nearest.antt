@@ -42,8 +42,7 @@ NoneCounts A d f n = (j : ℕ) (g : A) → j < n → f j ≡ some g → isCounte
 -- of the first n offers, every one that counts is as far as h or farther, and every one before place i is farther
 abbrev pub NoneNearer : (A : Type 0) → (A → Float) → (ℕ → Option A) → ℕ → ℕ → A → Type 0
 NoneNearer A d f n i h =
-    (j :
-    ℕ) (g : A) → j < n → f j ≡ some g → isCounted (d g) ≡ true → (le (d h) (d g) ≡ true) ×
+    (j : ℕ) (g : A) → j < n → f j ≡ some g → isCounted (d g) ≡ true → (le (d h) (d g) ≡ true) ×
     (j < i → lt (d h) (d g) ≡ true)
 
 -- what the nearest of the first n offers is: none, and none counts; or the offer of a place i that counts, and none is

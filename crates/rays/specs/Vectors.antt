@@ -45,3 +45,6 @@ normalizeOf a = divideOf a (normOf a)
 
 unfoldable pub isFiniteVecOf : Vec3 → Bool
 isFiniteVecOf a = isFiniteOf (a .x) && isFiniteOf (a .y) && isFiniteOf (a .z)
+
+abbrev pub isFiniteWithOf : Vec3 → Float → Float → Bool
+isFiniteWithOf v a b = isFiniteVecOf v && isFiniteOf a && isFiniteOf b

@@ -1,8 +1,7 @@
 // Vectors of three doubles.
 ghost use mathlib.Core.Path.{_≡_};
 ghost use mathlib.Core.Bool.{_&&_};
-ghost use Rattle.doubles.specs.Doubles.{isFiniteOf};
-ghost use Rattle.rays.specs.Vectors.{dotOf, crossOf, plusOf, minusOf, scaleOf, divideOf, negateOf, normOf, normalizeOf, isFiniteVecOf};
+ghost use Rattle.rays.specs.Vectors.{dotOf, crossOf, plusOf, minusOf, scaleOf, divideOf, negateOf, normOf, normalizeOf, isFiniteVecOf, isFiniteWithOf};
 
 #[repr(C)]
 pub struct Vec3 {
@@ -103,7 +102,7 @@ impl Vec3 {
 
     // Whether all three parts and two numbers are finite, by one test.
     pub fn is_finite_with(self, a: f64, b: f64) -> bool
-        ensures { λ r. ⌜ r ≡ isFiniteVecOf self && isFiniteOf a && isFiniteOf b ⌝ }
+        ensures { λ r. ⌜ r ≡ isFiniteWithOf self a b ⌝ }
     {
         (self.x - self.x) + (self.y - self.y) + (self.z - self.z) + ((a - a) + (b - b)) == 0.0
     }

@@ -9,7 +9,7 @@ use Rattle.error.specs.declared.Check.{Check}
 use Rattle.error.specs.declared.Check.the-variants.{Passed, Refused}
 use Rattle.error.specs.Refusals.{Checked, passed, refusedAt}
 use Rattle.detector.specs.declared.DetectorHit.{DetectorHit}
-use Rattle.memory.specs.Memory.{Memory, lentMemory, Outcome, done, refused, unless, asOutcome}
+use Rattle.memory.specs.Memory.{Memory, lentMemory, Outcome, done, refused, unless, asOutcome, recordOf}
 use Rattle.step.specs.declared.ActiveRay.{ActiveRay}
 use Rattle.step.specs.Rays.{Scene, Step, End, dim, spent, gone, caught, stopped, parted, refusing}
 use Rattle.step.specs.Steps.{takeStepOf}
@@ -96,6 +96,10 @@ module _ {M : Type 0} (put : M → DetectorHit → Outcome M) where
     drive (suc k) m p =
         cond (isLeft p) (andThen (drive k) (stepOn m p .outcome) (stepOn m p .progress))
         (record { outcome = done m; progress = p })
+
+-- into the lent memory
+abbrev pub advanceOf : Scene → (ℕ → ActiveRay) → ℕ → Memory → Progress → Run Memory
+advanceOf S given k m p = drive recordOf S given k m p
 
 -- ---- what the code's answers say
 

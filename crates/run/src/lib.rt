@@ -13,10 +13,10 @@ pub use stack::Stack;
 pub use stack::Taken;
 use step::NonSeqTraceConfig;
 ghost use mathlib.Core.Path.{_≡_};
-ghost use Rattle.memory.specs.Memory.{lentMemory, recordOf};
+ghost use Rattle.memory.specs.Memory.{lentMemory};
 ghost use Rattle.step.specs.Rays.{listedScene};
 ghost use Rattle.given_rays.specs.Given.{givenAtOf};
-ghost use Rattle.run.specs.Run.{asAdvanced, drive};
+ghost use Rattle.run.specs.Run.{asAdvanced, advanceOf};
 
 // Where a run stands: the work stack, how many given rays are left, what it has added up.
 pub struct Progress {
@@ -53,7 +53,7 @@ pub fn advance(
     used: usize,
 ) -> Advanced
     ensures { λ r. ⌜ asAdvanced r (now (flux .exit)) (now (hits .exit)) (now («hit_values» .exit)) (now («hit_tags» .exit))
-        ≡ drive recordOf (listedScene (now («solid_values» .entry)) (now («solid_tags» .entry)) count faces config)
+        ≡ advanceOf (listedScene (now («solid_values» .entry)) (now («solid_tags» .entry)) count faces config)
         (givenAtOf (now («ray_values» .entry)) (now («ray_tags» .entry))) steps
         (lentMemory detectors (now (flux .entry)) (now (hits .entry)) (now («hit_values» .entry)) (now («hit_tags» .entry)) used) progress ⌝ }
 {

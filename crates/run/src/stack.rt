@@ -5,7 +5,7 @@ ghost use Prim.Native.Nat.{_-_, _<_};
 ghost use Rattle.given_rays.specs.Given.{givenAtOf};
 ghost use Rattle.run.specs.Stack.{emptyStackOf, loadOf, topAtOf, takeOf, slotOf, raysComingOf, heightOf, maxStack, pairRoom};
 
-// The most rays on the stack; a place below the second has room for two.
+// The most rays on the stack. A place below PAIR_ROOM has room for two more.
 const MAX_STACK: usize = 17;
 
 const PAIR_ROOM: usize = MAX_STACK - 1;

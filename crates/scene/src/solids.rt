@@ -26,9 +26,9 @@ ghost use Rattle.scene.specs.Closest.{approachAtOf};
 ghost use Rattle.scene.specs.Solids.{rowAtOf, matAtOf, readObjectOf, asObject, objectAtOf, finishAtOf, mediumAtOf, tagsFitOf, checkTagsOf, checkSolidsOf, solidDoubles, solidWholes};
 
 // Where the matrix and the inverse start among a solid's doubles.
-const MATRIX: usize = 10;
+const MATRIX_AT: usize = 10;
 
-const INVERSE: usize = 26;
+const INVERSE_AT: usize = 26;
 
 pub enum Listed {
     Object(NonSeqObject),
@@ -66,8 +66,8 @@ fn read_object(solid_values: &[f64], solid_tags: &[u32], i: u32) -> NonSeqObject
 {
     let a = i as usize * SOLID_DOUBLES;
     let b = i as usize * SOLID_WHOLES;
-    let matrix = mat_at(solid_values, a + MATRIX);
-    let inverse = mat_at(solid_values, a + INVERSE);
+    let matrix = mat_at(solid_values, a + MATRIX_AT);
+    let inverse = mat_at(solid_values, a + INVERSE_AT);
     let geometry = PrimitiveGeometry::numbered(
         solid_tags[b],
         solid_values[a],
@@ -105,7 +105,7 @@ fn approach_in(solid_values: &[f64], solid_tags: &[u32], i: u32, ray: Ray) -> Ap
     let a = i as usize * SOLID_DOUBLES;
     let b = i as usize * SOLID_WHOLES;
     if solid_tags[b + 1] == 1 {
-        let inverse = mat_at(solid_values, a + INVERSE);
+        let inverse = mat_at(solid_values, a + INVERSE_AT);
         let geometry = PrimitiveGeometry::numbered(
             solid_tags[b],
             solid_values[a],
@@ -115,7 +115,7 @@ fn approach_in(solid_values: &[f64], solid_tags: &[u32], i: u32, ray: Ray) -> Ap
         return match geometry.meet(inverse, ray) {
             LocalMeeting::At(m) => {
                 let hit = m.hit;
-                object::reached(mat_at(solid_values, a + MATRIX), ray, m.point, hit)
+                object::reached(mat_at(solid_values, a + MATRIX_AT), ray, m.point, hit)
             }
             LocalMeeting::Miss => Approached::Miss,
         };

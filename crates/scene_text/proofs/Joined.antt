@@ -12,7 +12,7 @@ use Rattle.fields.specs.Number.{Read, number, malformed, readWholeOf, asWhole}
 use Rattle.fields.specs.declared.number.ReadWhole.{ReadWhole}
 use Rattle.fields.specs.declared.number.ReadWhole.the-variants as ReadWhole'
 use Rattle.fields.proofs.Parts.{parts-past, parts-in, later-after, end-part}
-use Rattle.scene_text.specs.Cells.{mediaParts, oneMoreOf, isNumber, countMediaOf, numberOrZeroOf, mediaFrom, mediaCell, readMediaOf}
+use Rattle.scene_text.specs.Cells.{mediaParts, oneMoreOf, isNumber, countMediaOf, numberOrZeroOf, mediaRow, mediaCell, readMediaOf}
 use Rattle.scene_text.specs.Tables.{Filled, filled, putAll}
 use Rattle.scene_text.specs.Steps.{table, put}
 use Rattle.scene_text.proofs.Filling.{put-again}
@@ -58,35 +58,35 @@ module _ (f : List ℕ) (at e : ℕ) (q : e ≡ endAtOf f at 44) (h : at ≤ len
       let p2 : readWholeOf (before 44 (drop at f)) ≡ malformed = rw (← text f at 44 e q h) (sym p ∙ ap asWhole r) in
       simp p2 at (rw (here f at 44 e q h) at m)
 
-  pub medium-here : (x n : ℕ) → x ≡ numberOrZeroOf (readWholeOf (take (e - at) (drop at f))) → _≡_ {A = List ℕ} (x ∷ mediaFrom n (partsAt 44 f (e + 1))) (mediaFrom (suc n) (partsAt 44 f at))
-  unfolding mediaFrom
+  pub medium-here : (x n : ℕ) → x ≡ numberOrZeroOf (readWholeOf (take (e - at) (drop at f))) → _≡_ {A = List ℕ} (x ∷ mediaRow n (partsAt 44 f (e + 1))) (mediaRow (suc n) (partsAt 44 f at))
+  unfolding mediaRow
   medium-here x n p = rw (here f at 44 e q h, next f at 44 e q h, p, text f at 44 e q h)
 
 pub count-done : (f : List ℕ) (at n : ℕ) (z : Read) → length f < at → countMediaOf (partsAt 44 f at) n ≡ z → number n ≡ z
 unfolding countMediaOf
 count-done f at n z h m = rw (parts-past 44 f at h) at m
 
-pub medium-past : (f : List ℕ) (at n : ℕ) → length f < at → _≡_ {A = List ℕ} (0 ∷ mediaFrom n (partsAt 44 f at)) (mediaFrom (suc n) (partsAt 44 f at))
-unfolding mediaFrom
+pub medium-past : (f : List ℕ) (at n : ℕ) → length f < at → _≡_ {A = List ℕ} (0 ∷ mediaRow n (partsAt 44 f at)) (mediaRow (suc n) (partsAt 44 f at))
+unfolding mediaRow
 medium-past f at n h = rw (parts-past 44 f at h)
 
-pub media-again : (f : List ℕ) (at at2 x j : ℕ) (w w2 : List ℕ) (p p2 : ℕ) (z : Filled ℕ) → j < 8 → ((n : ℕ) → _≡_ {A = List ℕ} (x ∷ mediaFrom n (partsAt 44 f at2)) (mediaFrom (suc n) (partsAt 44 f at))) → filled w2 p2 ≡ putAll w p (x ∷ []) → putAll w p (mediaFrom (8 - j) (partsAt 44 f at)) ≡ z → putAll w2 p2 (mediaFrom (8 - (j + 1)) (partsAt 44 f at2)) ≡ z
+pub media-again : (f : List ℕ) (at at2 x j : ℕ) (w w2 : List ℕ) (p p2 : ℕ) (z : Filled ℕ) → j < 8 → ((n : ℕ) → _≡_ {A = List ℕ} (x ∷ mediaRow n (partsAt 44 f at2)) (mediaRow (suc n) (partsAt 44 f at))) → filled w2 p2 ≡ putAll w p (x ∷ []) → putAll w p (mediaRow (8 - j) (partsAt 44 f at)) ≡ z → putAll w2 p2 (mediaRow (8 - (j + 1)) (partsAt 44 f at2)) ≡ z
 media-again f at at2 x j w w2 p p2 z h m a e =
     let o : 8 - j ≡ suc (8 - (j + 1)) = omega arith in
     let e2 = rw o at e in
-    put-again w w2 p p2 x (mediaFrom (8 - (j + 1)) (partsAt 44 f at2)) z a (ap (putAll w p) (m (8 - (j + 1))) ∙ e2)
+    put-again w w2 p p2 x (mediaRow (8 - (j + 1)) (partsAt 44 f at2)) z a (ap (putAll w p) (m (8 - (j + 1))) ∙ e2)
 
-pub media-end : (f : List ℕ) (at j : ℕ) (w : List ℕ) (p : ℕ) (z : Filled ℕ) → 8 ≤ j → putAll w p (mediaFrom (8 - j) (partsAt 44 f at)) ≡ z → filled w p ≡ z
-unfolding mediaFrom putAll
+pub media-end : (f : List ℕ) (at j : ℕ) (w : List ℕ) (p : ℕ) (z : Filled ℕ) → 8 ≤ j → putAll w p (mediaRow (8 - j) (partsAt 44 f at)) ≡ z → filled w p ≡ z
+unfolding mediaRow putAll
 media-end f at j w p z h e = let o : 8 - j ≡ 0 = omega arith in rw o at e
 
 module _ (f : List ℕ) (d : List Float) (nd : ℕ) (w : List ℕ) (nw : ℕ) (from : ℕ) (v : ReadWhole) (s : partsAt 44 f from ≡ mediaParts f) (m : asWhole v ≡ countMediaOf (partsAt 44 f from) 0) where
-  pub media-some : (n : ℕ) (w1 w2 : List ℕ) (p q : ℕ) → v ≡ ReadWhole'.Whole n → filled w1 p ≡ putAll w nw (n ∷ []) → filled w2 q ≡ putAll w1 p (mediaFrom 8 (partsAt 44 f from)) → table true d nd w2 q ≡ put (readMediaOf f) (table true d nd w nw)
+  pub media-some : (n : ℕ) (w1 w2 : List ℕ) (p q : ℕ) → v ≡ ReadWhole'.Whole n → filled w1 p ≡ putAll w nw (n ∷ []) → filled w2 q ≡ putAll w1 p (mediaRow 8 (partsAt 44 f from)) → table true d nd w2 q ≡ put (readMediaOf f) (table true d nd w nw)
   unfolding readMediaOf mediaCell put putAll
   media-some n w1 w2 p q k a b =
       let c : countMediaOf (mediaParts f) 0 ≡ number n = rw (← s) (sym m ∙ ap asWhole k) in
-      let b2 : filled w2 q ≡ putAll w1 p (mediaFrom 8 (mediaParts f)) = rw (← s) b in
-      let g = b2 ∙ ap (λ (o : Filled ℕ). putAll (o .list) (o .next) (mediaFrom 8 (mediaParts f))) a in
+      let b2 : filled w2 q ≡ putAll w1 p (mediaRow 8 (mediaParts f)) = rw (← s) b in
+      let g = b2 ∙ ap (λ (o : Filled ℕ). putAll (o .list) (o .next) (mediaRow 8 (mediaParts f))) a in
       rw c (ap (λ (o : Filled ℕ). table true d nd (o .list) (o .next)) g)
 
   pub media-no : v ≡ ReadWhole'.Malformed → table false d nd w nw ≡ put (readMediaOf f) (table true d nd w nw)

@@ -61,13 +61,13 @@ readNumberOf k f =
 unfoldable pub mediaParts : List ℕ → List (List ℕ)
 mediaParts f = cond (isByteOf f 45) [] (split 44 f)
 
--- places for the media of a ray
-abbrev pub mediaPlaces : ℕ
-mediaPlaces = 8
+-- cells for the media of a ray
+abbrev pub mediaCells : ℕ
+mediaCells = 8
 
--- one more, but no more than one past the places
+-- one more, but no more than one past the cells
 unfoldable pub oneMoreOf : ℕ → ℕ
-oneMoreOf n = cond (ltb n (mediaPlaces + 1)) (n + 1) n
+oneMoreOf n = cond (ltb n (mediaCells + 1)) (n + 1) n
 
 unfoldable pub isNumber : Read → Bool
 isNumber (number n) = true
@@ -83,14 +83,14 @@ numberOrZeroOf (number n) = n
 numberOrZeroOf malformed = 0
 
 -- the first n media of a list, and 0 where there are no more
-unfoldable pub mediaFrom : ℕ → List (List ℕ) → List ℕ
-mediaFrom zero fs = []
-mediaFrom (suc n) [] = 0 ∷ mediaFrom n []
-mediaFrom (suc n) (f ∷ fs) = numberOrZeroOf (readWholeOf f) ∷ mediaFrom n fs
+unfoldable pub mediaRow : ℕ → List (List ℕ) → List ℕ
+mediaRow zero fs = []
+mediaRow (suc n) [] = 0 ∷ mediaRow n []
+mediaRow (suc n) (f ∷ fs) = numberOrZeroOf (readWholeOf f) ∷ mediaRow n fs
 
 -- how many media there are, and then eight places for them
 unfoldable pub mediaCell : Read → List (List ℕ) → Values
-mediaCell (number n) fs = values true [] (n ∷ mediaFrom mediaPlaces fs)
+mediaCell (number n) fs = values true [] (n ∷ mediaRow mediaCells fs)
 mediaCell malformed fs = badValues
 
 unfoldable pub readMediaOf : List ℕ → Values

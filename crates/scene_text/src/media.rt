@@ -9,16 +9,16 @@ ghost use Prim.Native.Nat.{ℕ, suc, _+_, _≤_};
 ghost use lib.ListN.{length};
 ghost use Rattle.fields.specs.Split.{partsAt};
 ghost use Rattle.fields.specs.Number.{readWholeOf, asWhole};
-ghost use Rattle.scene_text.specs.Cells.{oneMoreOf, mediaParts, countMediaOf, numberOrZeroOf, mediaFrom, readMediaOf, mediaPlaces};
+ghost use Rattle.scene_text.specs.Cells.{oneMoreOf, mediaParts, countMediaOf, numberOrZeroOf, mediaRow, readMediaOf, mediaCells};
 ghost use Rattle.scene_text.specs.Tables.{filled, putAll};
 ghost use Rattle.scene_text.specs.Steps.{table, put};
 
-// Places for the media of a ray, and the number that stands for more.
-const MEDIA: usize = 8;
+// Cells for the media of a ray, and the number that stands for more.
+const MEDIA_CELLS: usize = 8;
 
-const MORE_MEDIA: u32 = MEDIA as u32 + 1;
+const MORE_MEDIA: u32 = MEDIA_CELLS as u32 + 1;
 
-// One more, but no more than one past the places.
+// One more, but no more than one past the cells.
 fn one_more(n: u32) -> u32
     ensures { λ r. ⌜ r ≡ oneMoreOf n ⌝ }
 {
@@ -80,7 +80,7 @@ pub struct Medium {
 
 fn next_medium(f: &[u8], at: usize) -> Medium
     requires { ⌜ at ≤ length (now f) + 1 ⌝ }
-    ensures { λ r. ⌜ ((n : ℕ) → _≡_ {A = List ℕ} (r .value ∷ mediaFrom n (partsAt 44 (now (f .entry)) (r .at))) (mediaFrom (suc n) (partsAt 44 (now (f .entry)) at))) ⌝ }
+    ensures { λ r. ⌜ ((n : ℕ) → _≡_ {A = List ℕ} (r .value ∷ mediaRow n (partsAt 44 (now (f .entry)) (r .at))) (mediaRow (suc n) (partsAt 44 (now (f .entry)) at))) ⌝ }
     ensures { λ r. ⌜ r .at ≤ length (now (f .entry)) + 1 ⌝ }
 {
     if f.len() < at {
@@ -97,12 +97,12 @@ fn next_medium(f: &[u8], at: usize) -> Medium
 // Eight media from a place on, and 0 where there are no more.
 fn put_media(f: &[u8], from: usize, w: &mut [u32], nw: usize) -> usize
     requires { ⌜ from ≤ length (now f) + 1 ⌝ }
-    ensures { λ r. ⌜ filled (now (w .exit)) r ≡ putAll (now (w .entry)) nw (mediaFrom mediaPlaces (partsAt 44 (now (f .entry)) from)) ⌝ }
+    ensures { λ r. ⌜ filled (now (w .exit)) r ≡ putAll (now (w .entry)) nw (mediaRow mediaCells (partsAt 44 (now (f .entry)) from)) ⌝ }
 {
     let mut at = from;
     let mut p = nw;
     let mut j: usize = 0;
-    while j < MEDIA {
+    while j < MEDIA_CELLS {
         let m = next_medium(f, at);
         p = put_u32(w, p, m.value);
         at = m.at;

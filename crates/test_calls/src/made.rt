@@ -256,9 +256,9 @@ fn ray(u: &[f64], w: &mut [u32], d: &mut [f64], i: usize)
         seldom_zero(u, 6, 24, 400.0, 700.0),
         seldom_zero(u, 7, 20, 0.1, 2.0),
     ];
-    let marks = [bounces(u), depth(u, solids), within(u, solids)];
+    let ray_tags = [bounces(u), depth(u, solids), within(u, solids)];
     lists::put_doubles(d, 209 + 8 * i, &values);
-    lists::put_wholes(w, 32 + 10 * i, &marks);
+    lists::put_wholes(w, 32 + 10 * i, &ray_tags);
 }
 
 fn four_solids(u: &[f64], w: &mut [u32], d: &mut [f64]) {

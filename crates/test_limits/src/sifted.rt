@@ -1,5 +1,5 @@
 // A filter asked and told in a line: the refusal or none, count, total, the part that is handed back, and
-// how many places of the stored map, the work map, values and tags changed.
+// how many places of the stored map, the work map, hit values and hit tags changed.
 use crate::kept;
 use crate::made;
 use crate::report;

@@ -1,5 +1,5 @@
 // One recording, tried and told in a line: the refusal or none, the hits used, how many places of flux,
-// hits, values, tags and records changed; for a hit that was recorded also its pixel and its detector's
+// hits, hit values, hit tags and records changed; for a hit that was recorded also its pixel and its detector's
 // total and count.
 use crate::kept;
 use crate::made;

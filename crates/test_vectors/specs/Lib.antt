@@ -2,5 +2,5 @@
 pub mod Lines
 pub mod Count
 pub mod Parts
-pub mod SceneLines
+pub mod SolidLines
 pub mod DetectorLines

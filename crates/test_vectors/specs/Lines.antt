@@ -24,7 +24,7 @@ use Rattle.rays.specs.Matrices.{transformPointOf, transformDirectionOf, transfo
 use Rattle.rays.specs.Rays.{atOf}
 use Rattle.test_vectors.specs.Parts.{partIn, hasShapeOf, isNumber, bitsAtOf, areBitsOf, doubleAtOf, isDoubleOf}
 use Rattle.test_vectors.specs.Parts.{isGivenOf, vecAtOf, isVecOf, matAtOf}
-use Rattle.test_vectors.specs.SceneLines.{shapeLineOf, solidLineOf}
+use Rattle.test_vectors.specs.SolidLines.{shapeLineOf, solidLineOf}
 use Rattle.test_vectors.specs.DetectorLines.{crossingLineOf, recordingLineOf}
 
 -- x = the root of x

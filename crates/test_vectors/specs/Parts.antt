@@ -10,7 +10,7 @@ use Rattle.rays.specs.declared.matrix.Row.{Row}
 use Rattle.rays.specs.declared.matrix.Mat4.{Mat4}
 use Rattle.rays.specs.Vectors.{vec3}
 use Rattle.fields.specs.Split.{split, isByteOf}
-use Rattle.fields.specs.Number.{Read, number, malformed, readBitsOf}
+use Rattle.fields.specs.Number.{Read, number, malformed, readBitsOf, readWholeOf}
 
 abbrev pub partIn : List ℕ → ℕ → List ℕ
 partIn l k = getD (split 32 l) k []
@@ -33,6 +33,13 @@ numberOr0 malformed = 0
 
 unfoldable pub bitsAtOf : List ℕ → ℕ → ℕ
 bitsAtOf l k = numberOr0 (readBitsOf (partIn l k))
+
+-- part k is written as the bits, or as the whole number n
+abbrev pub isBitsOf : List ℕ → ℕ → ℕ → Bool
+isBitsOf l k n = isNumber (readBitsOf (partIn l k)) n
+
+abbrev pub isWholeOf : List ℕ → ℕ → ℕ → Bool
+isWholeOf l k n = isNumber (readWholeOf (partIn l k)) n
 
 unfoldable pub isDoubleOf : List ℕ → Float → Bool
 isDoubleOf t x = isNumber (readBitsOf t) (toBits binary64 x)

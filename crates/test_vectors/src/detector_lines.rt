@@ -1,5 +1,4 @@
-// Whether a stored line of crossings or recordings is what a detector answers. For the program
-// `vectors`.
+// Whether a stored line of crossings or recordings is what a detector answers.
 use crate::parts::are_bits;
 use crate::parts::both;
 use crate::parts::double_at;

@@ -1,4 +1,4 @@
-// The parts of a stored line of vectors, read as numbers and compared. For the program `vectors`.
+// The parts of a stored line of vectors, read as numbers and compared.
 use fields::ReadBits;
 use fields::ReadWhole;
 use rays::Mat4;
@@ -6,8 +6,8 @@ use rays::Row;
 use rays::Vec3;
 ghost use mathlib.Core.Path.{_≡_};
 ghost use mathlib.Core.Bool.{_&&_, cond};
-ghost use Rattle.fields.specs.Number.{readBitsOf, readWholeOf};
-ghost use Rattle.test_vectors.specs.Parts.{nextOf, partIn, hasShapeOf, isRead, areBitsOf, isNumber, bitsAtOf, doubleAtOf, isDoubleOf, isGivenOf, vecAtOf, isVecOf, rowAtOf, matAtOf, isDashOf};
+ghost use Rattle.fields.specs.Number.{readBitsOf};
+ghost use Rattle.test_vectors.specs.Parts.{nextOf, partIn, hasShapeOf, isRead, areBitsOf, bitsAtOf, doubleAtOf, isDoubleOf, isGivenOf, vecAtOf, isVecOf, rowAtOf, matAtOf, isDashOf, isBitsOf, isWholeOf};
 
 pub fn both(a: bool, b: bool) -> bool
     ensures { λ r. ⌜ r ≡ (a && b) ⌝ }
@@ -46,7 +46,7 @@ pub fn bits_at(line: &[u8], k: usize) -> u64
 
 // Whether part k of a line is written as the bits v.
 pub fn is_bits(line: &[u8], k: usize, v: u64) -> bool
-    ensures { λ r. ⌜ r ≡ isNumber (readBitsOf (partIn (now (line .entry)) k)) v ⌝ }
+    ensures { λ r. ⌜ r ≡ isBitsOf (now (line .entry)) k v ⌝ }
 {
     match fields::read_bits(fields::part(line, b' ', k)) {
         ReadBits::Bits(a) => a == v,
@@ -63,7 +63,7 @@ pub fn is_double(line: &[u8], k: usize, x: f64) -> bool
 
 // Whether part k of a line is the decimal n.
 pub fn is_whole(line: &[u8], k: usize, n: u32) -> bool
-    ensures { λ r. ⌜ r ≡ isNumber (readWholeOf (partIn (now (line .entry)) k)) n ⌝ }
+    ensures { λ r. ⌜ r ≡ isWholeOf (now (line .entry)) k n ⌝ }
 {
     match fields::read_whole(fields::part(line, b' ', k)) {
         ReadWhole::Whole(a) => a == n,

@@ -1,4 +1,4 @@
-// Whether a stored line of shapes or solids is what the functions answer. For the program `vectors`.
+// Whether a stored line of shapes or solids is what the functions answer.
 use crate::parts::are_bits;
 use crate::parts::both;
 use crate::parts::double_at;
@@ -22,7 +22,7 @@ use scene::SolidNo;
 ghost use mathlib.Core.Path.{_≡_};
 ghost use Rattle.geometry.specs.Hits.{asLocalHit};
 ghost use Rattle.scene.specs.Objects.{asHit};
-ghost use Rattle.test_vectors.specs.SceneLines.{shapeInOf, isLocalHitOf, shapeLineOf, objectInOf, rayInOf, isHitAtOf, isHitOf, solidLineOf};
+ghost use Rattle.test_vectors.specs.SolidLines.{shapeInOf, isLocalHitOf, shapeLineOf, objectInOf, rayInOf, isHitAtOf, isHitOf, solidLineOf};
 
 // The shape of a number with the three sizes from part k on.
 fn shape_in(number: u32, line: &[u8], k: usize) -> PrimitiveGeometry

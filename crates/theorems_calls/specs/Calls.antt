@@ -143,8 +143,7 @@ pub record Told (s m : Memory) (b : List DetectorHit) : Type 0 where
   pub list : listed m ≡ b
   -- each detector's maps, total and count are what zeros become when its listed hits are added in list order
   pub views :
-      (d :
-      ℕ) → d < maxDetectors → viewIn m d ≡ plusAll d (detectorAt (s .detectors .list) d)
+      (d : ℕ) → d < maxDetectors → viewIn m d ≡ plusAll d (detectorAt (s .detectors .list) d)
       (zeroView (length (viewIn s d .flux)) (length (viewIn s d .hits))) b
   -- and nothing else has changed
   pub memory : m ≡ added s b

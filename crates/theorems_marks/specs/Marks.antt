@@ -144,8 +144,8 @@ M10 =
 -- Mirror 0.5, power 1, threshold 0.5: absorbed 0.5, no child, weak unchanged
 abbrev pub M11 : Type 0
 M11 =
-    (a :
-    ActiveRay) (h : NonSeqHit) (r : NonSeqTraceReport) → a .ray .energy ≡ #1 → r .ledger .«absorbed_flux_watts» ≡ #0
+    (a : ActiveRay) (h : NonSeqHit) (r : NonSeqTraceReport) → a .ray .energy ≡ #1
+    → r .ledger .«absorbed_flux_watts» ≡ #0
     → (mirrorOf #½ a h #½ .end ≡ stopped #½) × (mirrorOf #½ a h #½ .«first» ≡ false) ×
     (mirrorOf #½ a h #½ .second ≡ false)
     × (reportAfterOf r #1 (mirrorOf #½ a h #½) .ledger .«absorbed_flux_watts» ≡ #½)

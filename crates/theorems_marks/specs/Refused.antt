@@ -215,8 +215,7 @@ BadRay S a =
 -- if a tracing answers n, then one of its rays has property C, with the memory that is left
 abbrev pub Only : Batch → Memory → ℕ → (Memory → Scene → ActiveRay → Type 0) → Type 0
 Only B s n C =
-    (place :
-    ℕ) (t : Memory) → traceRaysOf B s .outcome ≡ refused n place t → Reached B s place t
+    (place : ℕ) (t : Memory) → traceRaysOf B s .outcome ≡ refused n place t → Reached B s place t
     (C t (sceneIn B (s .detectors)))
 
 -- none of 12 to 16 is given unless its condition holds

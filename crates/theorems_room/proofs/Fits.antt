@@ -13,7 +13,7 @@ use Rattle.theorems_calls.proofs.Split.{trace-reaches}
 use Rattle.printing.specs.Printing.{out, putAll}
 use Rattle.printing.proofs.Writing.{written}
 use Rattle.answer_text.proofs.Lengths.{refusal-short}
-use Rattle.map_text.specs.Tables.{Tables, tables, detectorsOf, batchIn, memoryIn, meantOf, wholeOf, tablesText}
+use Rattle.map_text.specs.Tables.{Tables, tables, detectorsOf, batchIn, memoryIn, meantOf, wholeOf, mapText}
 use Rattle.map_text.proofs.Lengths.{trace-short, memory-short}
 use Rattle.scene_text.specs.Scene.{Answer, readSceneOf}
 use Rattle.map_text.specs.StrayMap.{room, readText, answerTo, strayMapText}
@@ -39,8 +39,8 @@ module _ (B : Batch) (s : Memory) where
 
 -- ---- the answer
 
-map-short : (t : Tables) → length (tablesText t) ≤ 119994
-unfolding tablesText
+map-short : (t : Tables) → length (mapText t) ≤ 119994
+unfolding mapText
 map-short t =
     let m = memoryIn (detectorsOf (t .detectorValues) (t .detectorTags) (t .detectors)) in
     trace-short (meantOf (wholeOf (t .runTags) 1)) (traceRaysOf (batchIn t) m) (rw (left-flux (batchIn t) m) (memory-short (detectorsOf (t .detectorValues) (t .detectorTags) (t .detectors))))

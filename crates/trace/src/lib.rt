@@ -55,9 +55,9 @@ fn answer(r: Advanced) -> Traced
     }
 }
 
-// Traces `given` rays through `count` solids to the detectors, rays last to first. `values` and `tags` are
-// the solids, `rays` and `marks` the given rays; `flux`, `hits`, `places` and `kinds` the memory. What is
-// refused before the run changes nothing (17, 1, 2, 3, 5 to 8, 9, 10, 11); what is refused in it (12 to 16)
+// Traces `given` rays through `count` solids to the detectors, rays last to first. `solid_values` and
+// `solid_tags` are the solids, `ray_values` and `ray_tags` the given rays; `flux`, `hits`, `hit_values` and
+// `hit_tags` the memory. What is refused before the run changes nothing (17, 1, 2, 3, 5 to 8, 9, 10, 11); what is refused in it (12 to 16)
 // keeps the hits of the steps before.
 pub fn trace_rays(
     config: NonSeqTraceConfig,

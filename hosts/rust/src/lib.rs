@@ -18,6 +18,18 @@ pub use memory::{Filtered, Memory, Refused};
 pub use scene::{Config, Finish, Medium, Scene, Shape, Solid};
 pub use text::{read_scene, stray_map, write_answer, write_refusal, SceneText, MAX_ANSWER};
 
+/// Doubles and whole numbers of one of each in its two slices.
+pub const RUN_DOUBLES: usize = 7;
+pub const RUN_WHOLES: usize = 3;
+pub const SOLID_DOUBLES: usize = 42;
+pub const SOLID_WHOLES: usize = 4;
+pub const DETECTOR_DOUBLES: usize = 11;
+pub const DETECTOR_WHOLES: usize = 2;
+pub const RAY_DOUBLES: usize = 8;
+pub const RAY_WHOLES: usize = 10;
+pub const HIT_DOUBLES: usize = 4;
+pub const HIT_WHOLES: usize = 4;
+
 /// The most solids of a scene.
 pub const MAX_SOLIDS: usize = 32;
 /// The most detectors of a memory.

@@ -79,7 +79,7 @@ impl Memory {
 
     /// The hits in the order in which they came.
     pub fn hits(&self) -> impl Iterator<Item = Hit> + '_ {
-        self.hit_values.chunks_exact(4).zip(self.hit_tags.chunks_exact(4)).take(self.used).map(|(p, k)| Hit {
+        self.hit_values.chunks_exact(crate::HIT_DOUBLES).zip(self.hit_tags.chunks_exact(crate::HIT_WHOLES)).take(self.used).map(|(p, k)| Hit {
             local_x: p[0],
             local_y: p[1],
             flux_watts: p[2],

@@ -1,4 +1,5 @@
 //! Scene texts and answers.
+use crate::{DETECTOR_DOUBLES, DETECTOR_WHOLES, RAY_DOUBLES, RAY_WHOLES, RUN_DOUBLES, RUN_WHOLES, SOLID_DOUBLES, SOLID_WHOLES};
 use crate::{ffi, Error, Filter, Memory, Report};
 
 /// As many bytes hold the answer to any scene text.
@@ -27,8 +28,8 @@ pub struct SceneText {
     pub solids: u32,
     /// How many detectors.
     pub detectors: u32,
-    /// How many rays were given.
-    pub given: u32,
+    /// How many rays there are.
+    pub rays: u32,
 }
 
 /// The answer to a scene text, or its refusal, as the program straymap prints it.
@@ -43,17 +44,17 @@ pub fn stray_map(text: &[u8]) -> Vec<u8> {
 pub fn read_scene(text: &[u8]) -> Result<SceneText, Error> {
     let lines = text.iter().filter(|&&b| b == b'\n').count();
     let mut s = SceneText {
-        run_values: vec![0.0; 7],
-        run_tags: vec![0; 3],
-        solid_values: vec![0.0; 42 * lines],
-        solid_tags: vec![0; 4 * lines],
-        detector_values: vec![0.0; 11 * lines],
-        detector_tags: vec![0; 2 * lines],
-        ray_values: vec![0.0; 8 * lines],
-        ray_tags: vec![0; 10 * lines],
+        run_values: vec![0.0; RUN_DOUBLES],
+        run_tags: vec![0; RUN_WHOLES],
+        solid_values: vec![0.0; SOLID_DOUBLES * lines],
+        solid_tags: vec![0; SOLID_WHOLES * lines],
+        detector_values: vec![0.0; DETECTOR_DOUBLES * lines],
+        detector_tags: vec![0; DETECTOR_WHOLES * lines],
+        ray_values: vec![0.0; RAY_DOUBLES * lines],
+        ray_tags: vec![0; RAY_WHOLES * lines],
         solids: 0,
         detectors: 0,
-        given: 0,
+        rays: 0,
     };
     let r = unsafe {
         ffi::nonseq_read_scene(
@@ -64,14 +65,14 @@ pub fn read_scene(text: &[u8]) -> Result<SceneText, Error> {
         )
     };
     Error::check(r.refusal, r.place)?;
-    (s.solids, s.detectors, s.given) = (r.solids, r.detectors, r.rays);
+    (s.solids, s.detectors, s.rays) = (r.solids, r.detectors, r.rays);
     let (solids, detectors, rays) = (r.solids as usize, r.detectors as usize, r.rays as usize);
-    s.solid_values.truncate(42 * solids);
-    s.solid_tags.truncate(4 * solids);
-    s.detector_values.truncate(11 * detectors);
-    s.detector_tags.truncate(2 * detectors);
-    s.ray_values.truncate(8 * rays);
-    s.ray_tags.truncate(10 * rays);
+    s.solid_values.truncate(SOLID_DOUBLES * solids);
+    s.solid_tags.truncate(SOLID_WHOLES * solids);
+    s.detector_values.truncate(DETECTOR_DOUBLES * detectors);
+    s.detector_tags.truncate(DETECTOR_WHOLES * detectors);
+    s.ray_values.truncate(RAY_DOUBLES * rays);
+    s.ray_tags.truncate(RAY_WHOLES * rays);
     Ok(s)
 }
 

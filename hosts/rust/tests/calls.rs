@@ -229,7 +229,7 @@ fn texts() {
     assert_eq!(stray_map(&SCENE[..SCENE.len() - 1]), b"refusal place\n17 7\n");
     assert_eq!(stray_map(&vec![b'0'; 65_537]), b"refusal place\n17 0\n");
     let s = read_scene(SCENE).unwrap();
-    assert_eq!((s.solids, s.detectors, s.given), (0, 1, 1));
+    assert_eq!((s.solids, s.detectors, s.rays), (0, 1, 1));
     assert_eq!((s.run_values[0], &s.run_tags[..]), (0.0, &[4, 5, 0][..]));
     assert_eq!((s.detector_values.len(), &s.detector_tags[..]), (11, &[2, 2][..]));
     assert_eq!((&s.ray_values[..], s.ray_tags[0], s.ray_tags[1]), (&[1.0, 1.0, 0.0, 0.0, 0.0, 1.0, 550.0, 1.0][..], 0, 0));
@@ -255,7 +255,7 @@ fn a_text_read_and_traced() {
     let mut m = Memory::new(&[d], 1024).unwrap();
     let rules = Config { min_power_threshold: s.run_values[0], max_bounces: s.run_tags[0], ambient: Medium::Air };
     let scene = Scene::from_numbers(s.solid_values, s.solid_tags, s.solids);
-    let report = m.trace_flat(&rules, &scene, &s.ray_values, &s.ray_tags, s.given).unwrap();
+    let report = m.trace_flat(&rules, &scene, &s.ray_values, &s.ray_tags, s.rays).unwrap();
     assert_eq!(write_answer(&m, &report, Filter::All), answer);
     assert_eq!(stray_map(text), answer);
 }

@@ -4,7 +4,7 @@ use mathlib.Core.Path.{_≡_, refl, _∙_}
 use lib.ListN.{length}
 use borrow.Author.Needs.{needs}
 use Rattle.printing.specs.Printing.{putAll}
-use Rattle.answer_text.specs.Answer.{held, mapText, eachFrom, detectorCountOf}
+use Rattle.answer_text.specs.Answer.{held, detectorMapText, eachFrom, detectorCountOf}
 use Rattle.answer_text.proofs.Texts.{each-start, each-again, each-end}
 use Rattle.answer_text.proofs.detectors_text.put_maps.Statement.{statement}
 use Rattle.answer_text.proofs.detectors_text.put_maps.Tie as tie
@@ -12,8 +12,8 @@ use Rattle.answer_text.proofs.detectors_text.put_maps.Tie as tie
 abbrev Inv-loop : tie.InvT-loop
 Inv-loop buf₀ at detectors filter flux hitValues hitTags used n p₀ d₀ buf p d =
     (d ≤ n) × (length buf ≡ length buf₀)
-    × (putAll buf p (eachFrom (mapText (held detectors flux hitValues hitTags used) filter) (n - d) d)
-    ≡ putAll buf₀ at (eachFrom (mapText (held detectors flux hitValues hitTags used) filter) (detectorCountOf (detectors .count)) 0))
+    × (putAll buf p (eachFrom (detectorMapText (held detectors flux hitValues hitTags used) filter) (n - d) d)
+    ≡ putAll buf₀ at (eachFrom (detectorMapText (held detectors flux hitValues hitTags used) filter) (detectorCountOf (detectors .count)) 0))
 
 abbrev μ-loop : tie.MeasureT-loop
 μ-loop buf₀ at detectors filter flux hitValues hitTags used n p₀ d₀ buf p d = n - d
@@ -24,8 +24,8 @@ detector-count-requires c κs = search needs
 loop-holds : tie.Need-loop-holds Inv-loop μ-loop
 loop-holds c = (search needs, refl, each-start _ _ _ _ _ (c .detector-count .ensures))
 
-put-map-requires : tie.Need-put-map-requires Inv-loop μ-loop
-put-map-requires c κs = search needs
+put-detector-map-requires : tie.Need-put-detector-map-requires Inv-loop μ-loop
+put-detector-map-requires c κs = search needs
 
 add-d : tie.Need-add-d Inv-loop μ-loop
 add-d c = search needs
@@ -38,8 +38,8 @@ loop-again c =
     let loop-test = c .before .before .before .before .loop-test in
     let loop = c .before .before .before .before .before .loop in (
       search needs,
-      c .before .before .put-map .kept .0 ∙ loop .inv .1,
-      each-again _ _ _ _ _ _ _ (loop .d) (loop-test .taken) (c .before .before .put-map .ensures) (loop .inv .2),
+      c .before .before .put-detector-map .kept .0 ∙ loop .inv .1,
+      each-again _ _ _ _ _ _ _ (loop .d) (loop-test .taken) (c .before .before .put-detector-map .ensures) (loop .inv .2),
     )
 
 same-length : tie.Need-same-length Inv-loop μ-loop
@@ -56,7 +56,7 @@ put-maps-spec =
     μ-loop
     detector-count-requires
     loop-holds
-    put-map-requires
+    put-detector-map-requires
     add-d
     loop-less
     loop-again

@@ -5,14 +5,14 @@ use lib.ListN.{length, drop}
 use borrow.Author.Needs.{needs}
 use Rattle.printing.specs.Printing.{putAll}
 use Rattle.answer_text.proofs.Texts.{pixels-again, pixels-end}
-use Rattle.answer_text.specs.Answer.{pixelsFrom}
+use Rattle.answer_text.specs.Answer.{pixelsText}
 use Rattle.answer_text.proofs.pixels.put_pixels.Statement.{statement}
 use Rattle.answer_text.proofs.pixels.put_pixels.Tie as tie
 
 abbrev Inv-loop : tie.InvT-loop
 Inv-loop buf₀ at detector width map p₀ i₀ buf p i =
     (i ≤ length map) × (length buf ≡ length buf₀)
-    × (putAll buf p (pixelsFrom detector width i (drop i map)) ≡ putAll buf₀ at (pixelsFrom detector width 0 map))
+    × (putAll buf p (pixelsText detector width i (drop i map)) ≡ putAll buf₀ at (pixelsText detector width 0 map))
 
 abbrev μ-loop : tie.MeasureT-loop
 μ-loop buf₀ at detector width map p₀ i₀ buf p i = length map - i

@@ -3,7 +3,7 @@ use native.Mathlib.Omega.{arith}
 use lib.ListN.{length-set}
 use native.Mathlib.Numerals.{add-one, add-two, add-three, add-four, add-five, add-six, add-seven, add-eight}
 use Rattle.host_tracing.proofs.Laying.{add-nine}
-use Rattle.host_tracing.specs.Flat.{tagsRow}
+use Rattle.host_tracing.specs.Flat.{rayTagsRow}
 use borrow.Author.Needs.{needs}
 use Rattle.host_tracing.proofs.slices.put_ray_tags.Statement.{statement}
 use Rattle.host_tracing.proofs.slices.put_ray_tags.Tie as tie
@@ -123,7 +123,7 @@ same-length : tie.Need-same-length
 same-length c = simp length-set
 
 returns : tie.Need-returns
-unfolding tagsRow
+unfolding rayTagsRow
 returns c = simp (add-one, add-two, add-three, add-four, add-five, add-six, add-seven, add-eight, add-nine)
 
 pub put-ray-tags-spec : {M : Type 1} → statement M

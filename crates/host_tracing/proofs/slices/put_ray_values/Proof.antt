@@ -2,7 +2,7 @@
 use native.Mathlib.Omega.{arith}
 use lib.ListN.{length-set}
 use native.Mathlib.Numerals.{add-one, add-two, add-three, add-four, add-five, add-six, add-seven}
-use Rattle.host_tracing.specs.Flat.{valuesRow}
+use Rattle.host_tracing.specs.Flat.{rayValuesRow}
 use borrow.Author.Needs.{needs}
 use Rattle.host_tracing.proofs.slices.put_ray_values.Statement.{statement}
 use Rattle.host_tracing.proofs.slices.put_ray_values.Tie as tie
@@ -80,7 +80,7 @@ same-length : tie.Need-same-length
 same-length c = search needs
 
 returns : tie.Need-returns
-unfolding valuesRow
+unfolding rayValuesRow
 returns c = simp (add-one, add-two, add-three, add-four, add-five, add-six, add-seven)
 
 pub put-ray-values-spec : {M : Type 1} → statement M

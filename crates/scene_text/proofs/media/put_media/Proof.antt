@@ -7,13 +7,13 @@ use lib.ListN.{length}
 use Rattle.fields.specs.Split.{partsAt}
 use Rattle.scene_text.specs.Tables.{putAll}
 use Rattle.scene_text.proofs.Joined.{media-again, media-end}
-use Rattle.scene_text.specs.Cells.{mediaFrom}
+use Rattle.scene_text.specs.Cells.{mediaRow}
 use Rattle.scene_text.proofs.media.put_media.Statement.{statement}
 use Rattle.scene_text.proofs.media.put_media.Tie as tie
 
 abbrev Inv-loop : tie.InvT-loop
 Inv-loop f from w₀ nw at₀ p₀ j₀ w at p j =
-    (at ≤ length f + 1) × (length w ≡ length w₀) × (putAll w p (mediaFrom (8 - j) (partsAt 44 f at)) ≡ putAll w₀ nw (mediaFrom 8 (partsAt 44 f from)))
+    (at ≤ length f + 1) × (length w ≡ length w₀) × (putAll w p (mediaRow (8 - j) (partsAt 44 f at)) ≡ putAll w₀ nw (mediaRow 8 (partsAt 44 f from)))
 
 abbrev μ-loop : tie.MeasureT-loop
 μ-loop f from w₀ nw at₀ p₀ j₀ w at p j = 8 - j

@@ -1,5 +1,5 @@
 -- `test_vectors::solid_lines::is_hit` meets its contract. Assumes nothing.
-use Rattle.test_vectors.specs.SceneLines.{isHitOf}
+use Rattle.test_vectors.specs.SolidLines.{isHitOf}
 use borrow.Author.Needs.{needs}
 use Rattle.test_vectors.proofs.solid_lines.is_hit.Statement.{statement}
 use Rattle.test_vectors.proofs.solid_lines.is_hit.Tie as tie

@@ -1,5 +1,5 @@
 -- `test_vectors::solid_lines::is_hit_at` meets its contract. Assumes nothing.
-use Rattle.test_vectors.specs.SceneLines.{isHitAtOf}
+use Rattle.test_vectors.specs.SolidLines.{isHitAtOf}
 use borrow.Author.Needs.{needs}
 use Rattle.test_vectors.proofs.solid_lines.is_hit_at.Statement.{statement}
 use Rattle.test_vectors.proofs.solid_lines.is_hit_at.Tie as tie

@@ -1,5 +1,5 @@
 -- `test_vectors::solid_lines::is_local_hit` meets its contract. Assumes nothing.
-use Rattle.test_vectors.specs.SceneLines.{isLocalHitOf}
+use Rattle.test_vectors.specs.SolidLines.{isLocalHitOf}
 use borrow.Author.Needs.{needs}
 use Rattle.test_vectors.proofs.solid_lines.is_local_hit.Statement.{statement}
 use Rattle.test_vectors.proofs.solid_lines.is_local_hit.Tie as tie

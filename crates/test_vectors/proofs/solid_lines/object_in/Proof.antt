@@ -1,5 +1,5 @@
 -- `test_vectors::solid_lines::object_in` meets its contract. Assumes nothing.
-use Rattle.test_vectors.specs.SceneLines.{objectInOf}
+use Rattle.test_vectors.specs.SolidLines.{objectInOf}
 use borrow.Author.Needs.{needs}
 use Rattle.test_vectors.proofs.solid_lines.object_in.Statement.{statement}
 use Rattle.test_vectors.proofs.solid_lines.object_in.Tie as tie

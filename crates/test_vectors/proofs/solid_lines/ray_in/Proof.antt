@@ -1,5 +1,5 @@
 -- `test_vectors::solid_lines::ray_in` meets its contract. Assumes nothing.
-use Rattle.test_vectors.specs.SceneLines.{rayInOf}
+use Rattle.test_vectors.specs.SolidLines.{rayInOf}
 use borrow.Author.Needs.{needs}
 use Rattle.test_vectors.proofs.solid_lines.ray_in.Statement.{statement}
 use Rattle.test_vectors.proofs.solid_lines.ray_in.Tie as tie

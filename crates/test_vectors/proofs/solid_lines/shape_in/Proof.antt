@@ -1,5 +1,5 @@
 -- `test_vectors::solid_lines::shape_in` meets its contract. Assumes nothing.
-use Rattle.test_vectors.specs.SceneLines.{shapeInOf}
+use Rattle.test_vectors.specs.SolidLines.{shapeInOf}
 use borrow.Author.Needs.{needs}
 use Rattle.test_vectors.proofs.solid_lines.shape_in.Statement.{statement}
 use Rattle.test_vectors.proofs.solid_lines.shape_in.Tie as tie

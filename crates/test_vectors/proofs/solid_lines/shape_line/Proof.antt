@@ -1,6 +1,6 @@
 -- `test_vectors::solid_lines::shape_line` meets its contract. Assumes nothing.
 use borrow.Author.Tests.{lt-ltb, le-ltb}
-use Rattle.test_vectors.specs.SceneLines.{shapeLineOf, shapeNumbered}
+use Rattle.test_vectors.specs.SolidLines.{shapeLineOf, shapeNumbered}
 use borrow.Author.Needs.{needs}
 use Rattle.test_vectors.proofs.solid_lines.shape_line.Statement.{statement}
 use Rattle.test_vectors.proofs.solid_lines.shape_line.Tie as tie

@@ -1,6 +1,6 @@
 -- `test_vectors::solid_lines::solid_line` meets its contract. Assumes nothing.
 use borrow.Author.Tests.{lt-ltb, le-ltb}
-use Rattle.test_vectors.specs.SceneLines.{solidLineOf, solidNumbered}
+use Rattle.test_vectors.specs.SolidLines.{solidLineOf, solidNumbered}
 use borrow.Author.Needs.{needs}
 use Rattle.test_vectors.proofs.solid_lines.solid_line.Statement.{statement}
 use Rattle.test_vectors.proofs.solid_lines.solid_line.Tie as tie

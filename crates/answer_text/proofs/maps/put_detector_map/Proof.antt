@@ -1,11 +1,11 @@
--- `answer_text::maps::put_map` meets its contract. Assumes nothing.
+-- `answer_text::maps::put_detector_map` meets its contract. Assumes nothing.
 use mathlib.Core.Path.{sym}
 use native.Mathlib.Omega.{arith}
 use lib.Seq.{length-take-le}
 use Rattle.answer_text.proofs.Shown.{map-none, map-some}
 use borrow.Author.Needs.{needs}
-use Rattle.answer_text.proofs.maps.put_map.Statement.{statement}
-use Rattle.answer_text.proofs.maps.put_map.Tie as tie
+use Rattle.answer_text.proofs.maps.put_detector_map.Statement.{statement}
+use Rattle.answer_text.proofs.maps.put_detector_map.Tie as tie
 
 grid-at-requires : tie.Need-grid-at-requires
 grid-at-requires c κs = search needs
@@ -39,8 +39,8 @@ returns-2 c =
     let grid-at = at-filtered-pixel-flux .before .before .before .before .before .before .grid-at in
     map-some _ _ _ _ (grid-at .ensures .0) _ _ _ _ (if1 .left) (filtered-pixel-flux .ensures .0) (put-pixels .ensures)
 
-pub put-map-spec : {M : Type 1} → statement M
-put-map-spec =
+pub put-detector-map-spec : {M : Type 1} → statement M
+put-detector-map-spec =
     tie.close
     (tie.spec
     grid-at-requires
