@@ -18,16 +18,25 @@ pub use memory::{Filtered, Memory, Refused};
 pub use scene::{Config, Finish, Medium, Scene, Shape, Solid};
 pub use text::{read_scene, stray_map, write_answer, write_refusal, SceneText, MAX_ANSWER};
 
-/// Doubles and whole numbers of one of each in its two slices.
+/// Doubles of the run in its slice.
 pub const RUN_DOUBLES: usize = 7;
+/// Whole numbers of the run in its slice.
 pub const RUN_WHOLES: usize = 3;
+/// Doubles of a solid in its slice.
 pub const SOLID_DOUBLES: usize = 42;
+/// Whole numbers of a solid in its slice.
 pub const SOLID_WHOLES: usize = 4;
+/// Doubles of a detector in its slice.
 pub const DETECTOR_DOUBLES: usize = 11;
+/// Whole numbers of a detector in its slice.
 pub const DETECTOR_WHOLES: usize = 2;
+/// Doubles of a ray in its slice.
 pub const RAY_DOUBLES: usize = 8;
+/// Whole numbers of a ray in its slice.
 pub const RAY_WHOLES: usize = 10;
+/// Doubles of a hit in its slice.
 pub const HIT_DOUBLES: usize = 4;
+/// Whole numbers of a hit in its slice.
 pub const HIT_WHOLES: usize = 4;
 
 /// The most solids of a scene.
