@@ -22,13 +22,14 @@ use Rattle.doubles.specs.Doubles.{#0}
 
 unfoldable pub checkPlaced : Detectors → ℕ → ℕ → ℕ → ℕ → ℕ → Checked Placed → Checked Placed
 checkPlaced ds stored work hitValues hitTags used (passed p) =
-    cond (eqb stored (allPixelsOf ds) && (eqb work (pixelsOf (p .detector)) && isHitListOf hitValues hitTags used)) (passed p)
-    (refusedAt 9 0)
+    cond (eqb stored (allPixelsOf ds) && (eqb work (pixelsOf (p .detector)) && isHitListOf hitValues hitTags used))
+    (passed p) (refusedAt 9 0)
 checkPlaced ds stored work hitValues hitTags used (refusedAt n place) = refusedAt n place
 
 -- the asked detector, if slices of these lengths are its stored map, work map and hit list
 unfoldable pub checkFilterOf : Detectors → DetectorNo → ℕ → ℕ → ℕ → ℕ → ℕ → Checked Placed
-checkFilterOf ds asked stored work hitValues hitTags used = checkPlaced ds stored work hitValues hitTags used (findOf ds asked)
+checkFilterOf ds asked stored work hitValues hitTags used =
+    checkPlaced ds stored work hitValues hitTags used (findOf ds asked)
 
 -- ---- what is handed back: the check's word, a map or a part of one, its total and its count
 
@@ -71,7 +72,8 @@ partPlaced f stored work (refusedAt n place) = []
 unfoldable pub filteredPartOf :
     Detectors → DetectorNo → RayPathFilter → List Float → List Float → List Float → List ℕ → ℕ → List Float
 filteredPartOf ds asked f stored work hitValues hitTags used =
-    partPlaced f stored work (checkFilterOf ds asked (length stored) (length work) (length hitValues) (length hitTags) used)
+    partPlaced f stored work
+    (checkFilterOf ds asked (length stored) (length work) (length hitValues) (length hitTags) used)
 
 -- ---- both in one call
 

@@ -57,7 +57,8 @@ filteredFrom h = filteredWith (h .check) (h .map) (h .total) (h .count)
 -- a number over 4 is no filter (17)
 unfoldable pub hostRefilterOf : Detectors → ℕ → ℕ → List Float → List Float → List Float → List ℕ → ℕ → Handed
 hostRefilterOf ds asked f stored work hitValues hitTags used =
-    cond (leb f lastFilter) (refilterOf ds (record { 0 = asked }) (numberedFilterOf f) stored work hitValues hitTags used)
+    cond (leb f lastFilter)
+    (refilterOf ds (record { 0 = asked }) (numberedFilterOf f) stored work hitValues hitTags used)
     (handed (refusedAt 17 0) work #0 0)
 
 -- ---- where a detector's pixels stand
