@@ -12,9 +12,6 @@ slice-aggregate-read-full c = search needs
 read-full-requires : tie.Need-read-full-requires
 read-full-requires c κs = search needs
 
-drain-requires : tie.Need-drain-requires
-drain-requires c κs = search needs
-
 slice-aggregate-put-stray-map : tie.Need-slice-aggregate-put-stray-map
 slice-aggregate-put-stray-map c = search needs
 
@@ -31,7 +28,7 @@ array-share-prefix-answer : tie.Need-array-share-prefix-answer
 array-share-prefix-answer c = search needs
 
 slice-aggregate-write-all : tie.Need-slice-aggregate-write-all
-slice-aggregate-write-all c = sym (length-take-le _ _ (omega (arith, c .before .before .before .put-stray-map .kept .0, c .before .if2 .taken)))
+slice-aggregate-write-all c = sym (length-take-le _ _ (omega (arith, c .before .before .before .put-stray-map .kept .0, c .before .if1 .taken)))
 
 write-all-requires : tie.Need-write-all-requires
 write-all-requires c κs = search needs
@@ -48,7 +45,6 @@ main-spec =
     (tie.spec
     slice-aggregate-read-full
     read-full-requires
-    drain-requires
     slice-aggregate-put-stray-map
     array-share-prefix-text
     slice-aggregate-put-stray-map-2
