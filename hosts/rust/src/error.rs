@@ -1,4 +1,5 @@
-//! Refusals: document 01's numbers and what they are given for.
+//! Refusals: document 01's numbers and what they are given for; and what has no number, that there is no memory.
+use std::collections::TryReserveError;
 use std::fmt;
 
 /// A call that was refused: why, and where.
@@ -56,3 +57,42 @@ impl fmt::Display for Error {
 }
 
 impl std::error::Error for Error {}
+
+/// Why a memory, or a map that is made of one, does not come back: their sizes are the caller's.
+#[derive(Clone, Copy, Debug, PartialEq, Eq)]
+pub enum MemoryError {
+    /// A call was refused.
+    Refused(Error),
+    /// The machine has no memory for a buffer of the size asked for. Nothing is changed.
+    NoMemory,
+}
+
+impl fmt::Display for MemoryError {
+    fn fmt(&self, f: &mut fmt::Formatter<'_>) -> fmt::Result {
+        match self {
+            MemoryError::Refused(error) => error.fmt(f),
+            MemoryError::NoMemory => f.write_str("no memory for a buffer of the size asked for"),
+        }
+    }
+}
+
+impl std::error::Error for MemoryError {
+    fn source(&self) -> Option<&(dyn std::error::Error + 'static)> {
+        match self {
+            MemoryError::Refused(error) => Some(error),
+            MemoryError::NoMemory => None,
+        }
+    }
+}
+
+impl From<Error> for MemoryError {
+    fn from(error: Error) -> MemoryError {
+        MemoryError::Refused(error)
+    }
+}
+
+impl From<TryReserveError> for MemoryError {
+    fn from(_: TryReserveError) -> MemoryError {
+        MemoryError::NoMemory
+    }
+}

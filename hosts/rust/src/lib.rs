@@ -3,8 +3,10 @@
 //! The library behind it takes lent memory only; here the buffers are owned. A [`Scene`] is a list of solids, a
 //! [`Memory`] holds detectors, their maps and the list of hits; [`Memory::trace`] traces rays through a scene into
 //! it, [`Memory::filtered`] is a detector's map under a filter. [`stray_map`] goes from a scene text to its answer.
-//! Nothing panics, whatever is handed over, unless the machine has no memory for a buffer; what is not allowed comes back
-//! as an [`Error`] with document 01's number.
+//!
+//! No call panics or aborts for what it is given. What is not allowed comes back as an [`Error`] with document 01's
+//! number; a buffer whose size the caller chose, and which the machine has no memory for, as [`MemoryError::NoMemory`].
+//! Buffers of fixed sizes or of a scene text's lists, each below 256 KiB, and clones are allocated as elsewhere in Rust.
 #![deny(missing_docs)]
 
 mod error;
@@ -13,7 +15,7 @@ mod memory;
 mod scene;
 mod text;
 
-pub use error::{Error, TEXTS};
+pub use error::{Error, MemoryError, TEXTS};
 pub use memory::{Filtered, Memory, Refused};
 pub use scene::{Config, Finish, Medium, Scene, Shape, Solid};
 pub use text::{read_scene, stray_map, write_answer, write_refusal, SceneText, MAX_ANSWER};

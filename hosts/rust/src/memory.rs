@@ -1,6 +1,7 @@
 //! Detectors with their maps and the list of hits.
 use crate::ffi::{self, Detectors};
-use crate::{Config, Detector, Error, Filter, GivenRay, Hit, Report, Scene, MAX_DETECTORS};
+use crate::{Config, Detector, Error, Filter, GivenRay, Hit, MemoryError, Report, Scene, HIT_DOUBLES, HIT_WHOLES, MAX_DETECTORS};
+use std::alloc::{alloc_zeroed, Layout};
 
 /// Up to 8 detectors, the maps of their pixels, and room for a number of hits. What the library is lent, owned.
 #[derive(Clone, Debug, PartialEq)]
@@ -46,9 +47,33 @@ pub struct Filtered {
     pub hit_count: usize,
 }
 
+/// Numbers whose zero is all bits zero.
+trait Plain: Copy {}
+impl Plain for f64 {}
+impl Plain for u32 {}
+
+/// So many zeros for each of so many, or no memory for them, where `vec!` would end the program. The system hands out
+/// what is touched, as it does for `vec!`.
+fn zeros<T: Plain>(many: usize, each: usize) -> Result<Vec<T>, MemoryError> {
+    let n = many.checked_mul(each).ok_or(MemoryError::NoMemory)?;
+    let layout = Layout::array::<T>(n).map_err(|_| MemoryError::NoMemory)?;
+    if layout.size() == 0 {
+        return Ok(Vec::new());
+    }
+    // SAFETY: the layout has a size; the block is the global allocator's, of n Ts' layout, and all its bits are zero.
+    unsafe {
+        let at = alloc_zeroed(layout).cast::<T>();
+        if at.is_null() {
+            return Err(MemoryError::NoMemory);
+        }
+        Ok(Vec::from_raw_parts(at, n, n))
+    }
+}
+
 impl Memory {
-    /// An empty memory with room for so many hits. Refused by 3 and 5 to 8; what the detectors had caught is dropped.
-    pub fn new(detectors: &[Detector], capacity: usize) -> Result<Memory, Error> {
+    /// An empty memory with room for so many hits, of 48 bytes each, besides 12 bytes for each pixel. Refused by 3 and 5
+    /// to 8; what the detectors had caught is dropped.
+    pub fn new(detectors: &[Detector], capacity: usize) -> Result<Memory, MemoryError> {
         let mut list = [Detector::default(); MAX_DETECTORS];
         for (place, d) in list.iter_mut().zip(detectors) {
             *place = Detector { total_flux_watts: 0.0, total_rays_hit: 0, ..*d };
@@ -58,8 +83,14 @@ impl Memory {
         let r = unsafe { ffi::nonseq_check_detectors(detectors) };
         Error::check(r.refusal, r.place)?;
         let pixels: usize = list[..count as usize].iter().map(|d| d.res_x as usize * d.res_y as usize).sum();
-        let numbers = capacity.saturating_mul(4);
-        Ok(Memory { detectors, flux: vec![0.0; pixels], hits: vec![0; pixels], hit_values: vec![0.0; numbers], hit_tags: vec![0; numbers], used: 0 })
+        Ok(Memory {
+            detectors,
+            flux: zeros(pixels, 1)?,
+            hits: zeros(pixels, 1)?,
+            hit_values: zeros(capacity, HIT_DOUBLES)?,
+            hit_tags: zeros(capacity, HIT_WHOLES)?,
+            used: 0,
+        })
     }
 
     /// The detectors, and what they have caught.
@@ -79,7 +110,7 @@ impl Memory {
 
     /// The hits in the order in which they came.
     pub fn hits(&self) -> impl Iterator<Item = Hit> + '_ {
-        self.hit_values.chunks_exact(crate::HIT_DOUBLES).zip(self.hit_tags.chunks_exact(crate::HIT_WHOLES)).take(self.used).map(|(p, k)| Hit {
+        self.hit_values.chunks_exact(HIT_DOUBLES).zip(self.hit_tags.chunks_exact(HIT_WHOLES)).take(self.used).map(|(p, k)| Hit {
             local_x: p[0],
             local_y: p[1],
             flux_watts: p[2],
@@ -147,8 +178,11 @@ impl Memory {
     }
 
     /// A detector's map under a filter, made anew from the list of hits; for [`Filter::All`] a copy of the stored one.
-    pub fn filtered(&self, detector: u32, filter: Filter) -> Result<Filtered, Error> {
-        let mut work = self.map(detector)?.to_vec();
+    pub fn filtered(&self, detector: u32, filter: Filter) -> Result<Filtered, MemoryError> {
+        let stored = self.map(detector)?;
+        let mut work = Vec::new();
+        work.try_reserve_exact(stored.len())?;
+        work.extend_from_slice(stored);
         let r = unsafe {
             ffi::nonseq_refilter(
                 self.detectors, detector, filter.number(), self.flux.as_ptr(), self.flux.len(), work.as_mut_ptr(), work.len(),

@@ -1,5 +1,6 @@
 //! Solids and the rules of a tracing, as the numbers that the library takes.
 use crate::ffi::HostConfig;
+use crate::MAX_SOLIDS;
 
 /// A shape in its own coordinates, sizes in millimetres.
 #[derive(Clone, Copy, Debug, PartialEq)]
@@ -126,7 +127,10 @@ pub struct Solid {
 pub struct Scene {
     pub(crate) solid_values: Vec<f64>,
     pub(crate) solid_tags: Vec<u32>,
+    /// Of the lists above, which go to the library.
     pub(crate) count: u32,
+    /// Pushed past the limit, and not kept.
+    more: usize,
 }
 
 impl Scene {
@@ -138,11 +142,16 @@ impl Scene {
     /// A scene from the library's own numbers, 42 doubles and 4 whole numbers a solid. A wrong length or number is
     /// refused when it is traced (17).
     pub fn from_numbers(solid_values: Vec<f64>, solid_tags: Vec<u32>, count: u32) -> Scene {
-        Scene { solid_values, solid_tags, count }
+        Scene { solid_values, solid_tags, count, more: 0 }
     }
 
-    /// One solid more, at the end. More than 32 are refused when they are traced (3).
+    /// One solid more, at the end. More than 32 are refused when they are traced (3); one past the limit says so, and
+    /// those after it are only counted.
     pub fn push(&mut self, solid: &Solid) {
+        if self.len() > MAX_SOLIDS {
+            self.more = self.more.saturating_add(1);
+            return;
+        }
         let (shape, sizes) = solid.shape.numbers();
         let (finish, rho) = solid.finish.numbers();
         let (medium, coefficients) = solid.medium.numbers();
@@ -152,17 +161,17 @@ impl Scene {
         self.solid_values.extend_from_slice(&solid.matrix);
         self.solid_values.extend_from_slice(&solid.inverse);
         self.solid_tags.extend_from_slice(&[shape, solid.active as u32, finish, medium]);
-        self.count = self.count.saturating_add(1);
+        self.count += 1;
     }
 
     /// How many solids.
     pub fn len(&self) -> usize {
-        self.count as usize
+        (self.count as usize).saturating_add(self.more)
     }
 
     /// Whether there are none.
     pub fn is_empty(&self) -> bool {
-        self.count == 0
+        self.len() == 0
     }
 }
 

@@ -6,7 +6,7 @@ use crate::{ffi, Error, Filter, Memory, Report};
 pub const MAX_ANSWER: usize = 131_072;
 
 /// The numbers of a scene text, each block's in the text's order.
-#[derive(Clone, Debug, PartialEq)]
+#[derive(Clone, Debug, Default, PartialEq)]
 pub struct SceneText {
     /// Threshold and the ambient medium's coefficients.
     pub run_values: Vec<f64>,
@@ -41,21 +41,25 @@ pub fn stray_map(text: &[u8]) -> Vec<u8> {
 }
 
 /// A scene text read into numbers. Refused by 17; the place is the first bad line's number, 0 for a text too long.
+/// A refused text has nothing allocated for it, another what its lists take.
 pub fn read_scene(text: &[u8]) -> Result<SceneText, Error> {
-    let lines = text.iter().filter(|&&b| b == b'\n').count();
-    let mut s = SceneText {
-        run_values: vec![0.0; RUN_DOUBLES],
-        run_tags: vec![0; RUN_WHOLES],
-        solid_values: vec![0.0; SOLID_DOUBLES * lines],
-        solid_tags: vec![0; SOLID_WHOLES * lines],
-        detector_values: vec![0.0; DETECTOR_DOUBLES * lines],
-        detector_tags: vec![0; DETECTOR_WHOLES * lines],
-        ray_values: vec![0.0; RAY_DOUBLES * lines],
-        ray_tags: vec![0; RAY_WHOLES * lines],
-        solids: 0,
-        detectors: 0,
-        rays: 0,
-    };
+    let mut s = SceneText::default();
+    read_into(text, &mut s)?;
+    let (solids, detectors, rays) = (s.solids as usize, s.detectors as usize, s.rays as usize);
+    s.run_values = vec![0.0; RUN_DOUBLES];
+    s.run_tags = vec![0; RUN_WHOLES];
+    s.solid_values = vec![0.0; SOLID_DOUBLES * solids];
+    s.solid_tags = vec![0; SOLID_WHOLES * solids];
+    s.detector_values = vec![0.0; DETECTOR_DOUBLES * detectors];
+    s.detector_tags = vec![0; DETECTOR_WHOLES * detectors];
+    s.ray_values = vec![0.0; RAY_DOUBLES * rays];
+    s.ray_tags = vec![0; RAY_WHOLES * rays];
+    read_into(text, &mut s)?;
+    Ok(s)
+}
+
+/// Reads into what the lists have room for, and counts all.
+fn read_into(text: &[u8], s: &mut SceneText) -> Result<(), Error> {
     let r = unsafe {
         ffi::nonseq_read_scene(
             text.as_ptr(), text.len(), s.run_values.as_mut_ptr(), s.run_values.len(), s.run_tags.as_mut_ptr(), s.run_tags.len(),
@@ -66,14 +70,7 @@ pub fn read_scene(text: &[u8]) -> Result<SceneText, Error> {
     };
     Error::check(r.refusal, r.place)?;
     (s.solids, s.detectors, s.rays) = (r.solids, r.detectors, r.rays);
-    let (solids, detectors, rays) = (r.solids as usize, r.detectors as usize, r.rays as usize);
-    s.solid_values.truncate(SOLID_DOUBLES * solids);
-    s.solid_tags.truncate(SOLID_WHOLES * solids);
-    s.detector_values.truncate(DETECTOR_DOUBLES * detectors);
-    s.detector_tags.truncate(DETECTOR_WHOLES * detectors);
-    s.ray_values.truncate(RAY_DOUBLES * rays);
-    s.ray_tags.truncate(RAY_WHOLES * rays);
-    Ok(s)
+    Ok(())
 }
 
 /// The answer of a tracing as text; for a memory of more than 4,096 pixels the text of refusal 9.

@@ -28,9 +28,11 @@ fn block(z: f64, medium: Medium, finish: Finish) -> Solid {
     Solid { shape: Shape::Box { half_x: 3.0, half_y: 3.0, half_z: 1.0 }, active: true, finish, medium, matrix, inverse }
 }
 
-fn number<T: std::fmt::Debug>(r: Result<T, Error>) -> (u32, u32) {
-    let e = r.unwrap_err();
-    (e.number, e.place)
+fn number<T: std::fmt::Debug, E: Into<MemoryError> + std::fmt::Debug>(r: Result<T, E>) -> (u32, u32) {
+    match r.unwrap_err().into() {
+        MemoryError::Refused(e) => (e.number, e.place),
+        MemoryError::NoMemory => panic!("no memory"),
+    }
 }
 
 fn refusal<T: std::fmt::Debug>(r: Result<T, Refused>) -> (u32, u32) {
