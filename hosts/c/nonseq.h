@@ -6,7 +6,17 @@
  *
  * A slice is a pointer and a length. The pointer must point to that many elements, must be aligned, and must not be
  * NULL even where the length is 0; slices that a call writes must not overlap any other slice of that call. The
- * calls can't check this, and nothing else is asked of a caller.
+ * calls can't check this.
+ *
+ * A call has its buffers on the stack of the thread that makes it, which must have, whatever the call is given,
+ *   768 KiB  nonseq_stray_map
+ *   512 KiB  nonseq_trace_given_rays
+ *   256 KiB  nonseq_put_answer
+ *    64 KiB  every other call
+ * of which at least 16 KiB are left to the thread itself; with less the program ends at the stack's guard page. The
+ * floating-point environment must be C's default: rounding to nearest, subnormal numbers kept (no flush-to-zero, no
+ * denormals-are-zero, which linking by -ffast-math can set), no traps. The calls can't check these either, and nothing
+ * else is asked of a caller.
  *
  * A solid is 42 doubles (sizes p, q, r, reflectance, six coefficients of its medium, its matrix row by row, the
  * inverse of it) and 4 whole numbers (shape, active, finish, medium). A flat ray is 8 doubles (origin, direction,

@@ -7,6 +7,12 @@
 //! No call panics or aborts for what it is given. What is not allowed comes back as an [`Error`] with document 01's
 //! number; a buffer whose size the caller chose, and which the machine has no memory for, as [`MemoryError::NoMemory`].
 //! Buffers of fixed sizes or of a scene text's lists, each below 256 KiB, and clones are allocated as elsewhere in Rust.
+//!
+//! The library has its buffers on the stack of the thread that calls. [`stray_map`] needs a thread with 768 KiB,
+//! [`Memory::trace`] 512 KiB, [`write_answer`] 256 KiB, every other call 64 KiB, whatever they are given; at least 16 KiB
+//! of that are left to the thread itself. Rust's own threads have 2 MiB unless told otherwise; with less than is needed
+//! the program ends. The floating-point environment must be the default: rounding to nearest, subnormal numbers kept (no
+//! flush-to-zero, no denormals-are-zero), no traps.
 #![deny(missing_docs)]
 
 mod error;
