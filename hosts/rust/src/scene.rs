@@ -1,6 +1,6 @@
 //! Solids and the rules of a tracing, as the numbers that the library takes.
 use crate::ffi::HostConfig;
-use crate::MAX_SOLIDS;
+use crate::{MAX_SOLIDS, SOLID_DOUBLES, SOLID_WHOLES};
 
 /// A shape in its own coordinates, sizes in millimetres.
 #[derive(Clone, Copy, Debug, PartialEq)]
@@ -129,7 +129,7 @@ pub struct Scene {
     pub(crate) solid_tags: Vec<u32>,
     /// Of the lists above, which go to the library.
     pub(crate) count: u32,
-    /// Pushed past the limit, and not kept.
+    /// Pushed on, and not kept.
     more: usize,
 }
 
@@ -145,10 +145,16 @@ impl Scene {
         Scene { solid_values, solid_tags, count, more: 0 }
     }
 
-    /// One solid more, at the end. More than 32 are refused when they are traced (3); one past the limit says so, and
-    /// those after it are only counted.
+    /// Whether one solid more is kept. Lists past the limit, or that do not fit their number, are refused as they are.
+    fn keeps(&self) -> bool {
+        let n = self.count as usize;
+        n <= MAX_SOLIDS && self.solid_values.len() == SOLID_DOUBLES * n && self.solid_tags.len() == SOLID_WHOLES * n
+    }
+
+    /// One solid more, at the end. More than 32 are refused when they are traced (3); from the 34th on, and where the
+    /// numbers before it are refused by 17, it is only counted.
     pub fn push(&mut self, solid: &Solid) {
-        if self.len() > MAX_SOLIDS {
+        if !self.keeps() {
             self.more = self.more.saturating_add(1);
             return;
         }

@@ -150,6 +150,12 @@ fn scenes_of_any_number_of_solids() {
     let mut scene = Scene::from_numbers(Vec::new(), Vec::new(), u32::MAX);
     scene.push(&ball());
     assert_eq!((scene.len(), scene.is_empty(), traced(&scene)), (4_294_967_296, false, Some((17, 0))));
+    let mut scene = Scene::from_numbers(vec![0.0; 1_000_000], Vec::new(), 0);
+    let ((), bytes) = asked(|| scene.push(&ball()));
+    assert_eq!((bytes, scene.len(), traced(&scene)), (0, 1, Some((17, 0))));
+    let mut scene = Scene::from_numbers(vec![0.0; SOLID_DOUBLES], vec![0; SOLID_WHOLES], 1);
+    scene.push(&ball());
+    assert_eq!((scene.len(), traced(&scene)), (2, None));
     let mut scene = Scene::from_numbers(vec![0.0; 33 * SOLID_DOUBLES], vec![0; 33 * SOLID_WHOLES], 33);
     scene.push(&ball());
     assert_eq!((scene.len(), traced(&scene)), (34, Some((3, 0))));
