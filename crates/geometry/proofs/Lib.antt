@@ -7,3 +7,4 @@ pub mod Unit
 pub mod Squares
 pub mod Receding
 pub mod Spans
+pub mod Numbers

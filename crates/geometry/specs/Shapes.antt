@@ -3,23 +3,30 @@ use Prim.Native.Nat.{ℕ}
 use lib.Dec.{eqb}
 use lib.Ieee.{Float}
 use mathlib.Core.Bool.{cond}
-use mathlib.Core.Option.{Option}
+use mathlib.Core.Option.{Option, none, some}
 use Rattle.rays.specs.declared.Ray.{Ray}
 use Rattle.geometry.specs.declared.LocalHit.{LocalHit}
 use Rattle.geometry.specs.declared.PrimitiveGeometry.{PrimitiveGeometry}
 use Rattle.geometry.specs.declared.PrimitiveGeometry.the-variants.{Plane, Disk, Sphere, Cylinder, Box}
+use Rattle.geometry.specs.declared.NumberedGeometry.{NumberedGeometry}
+use Rattle.geometry.specs.declared.NumberedGeometry.the-variants.{Shape, Nothing}
 use Rattle.geometry.specs.Flat.{intersectPlaneOf, intersectDiskOf}
 use Rattle.geometry.specs.Round.{intersectSphereOf, intersectCylinderOf}
 use Rattle.geometry.specs.Slabs.{intersectBoxOf}
 
--- shapes 0 to 4 in document 01's order, sizes in the Rust's field order
+-- shapes 0 to 4 in document 01's order, and none beyond; sizes in the Rust's field order
 abbrev pub lastShape : ℕ
 lastShape = 4
 
-unfoldable pub numberedGeometryOf : ℕ → Float → Float → Float → PrimitiveGeometry
+unfoldable pub numberedGeometryOf : ℕ → Float → Float → Float → Option PrimitiveGeometry
 numberedGeometryOf k p q r =
-    cond (eqb k 0) (Plane p q) (cond (eqb k 1) (Disk p q)
-    (cond (eqb k 2) (Sphere p) (cond (eqb k 3) (Cylinder p q) (Box p q r))))
+    cond (eqb k 0) (some (Plane p q)) (cond (eqb k 1) (some (Disk p q))
+    (cond (eqb k 2) (some (Sphere p)) (cond (eqb k 3) (some (Cylinder p q)) (cond (eqb k 4) (some (Box p q r)) none))))
+
+-- what the code's answer says
+abbrev pub asShape : NumberedGeometry → Option PrimitiveGeometry
+asShape (Shape g) = some g
+asShape Nothing = none
 
 -- where a ray meets a shape: the distance and the outward normal, or none
 unfoldable pub intersectLocalOf : PrimitiveGeometry → Ray → Option LocalHit

@@ -15,7 +15,7 @@ pub use transform::Transform3D;
 pub use transform::UnitVector;
 ghost use mathlib.Core.Path.{_≡_};
 ghost use Rattle.geometry.specs.Hits.{asLocalHit};
-ghost use Rattle.geometry.specs.Shapes.{numberedGeometryOf, intersectLocalOf};
+ghost use Rattle.geometry.specs.Shapes.{numberedGeometryOf, asShape, intersectLocalOf};
 
 // A shape, with its sizes in millimetres.
 pub enum PrimitiveGeometry {
@@ -46,6 +46,12 @@ pub enum PrimitiveGeometry {
     },
 }
 
+// What a number means.
+pub enum NumberedGeometry {
+    Shape(PrimitiveGeometry),
+    Nothing,
+}
+
 // Where a ray meets a shape: the distance and the outward normal.
 pub struct LocalHit {
     pub t: f64,
@@ -61,37 +67,39 @@ impl PrimitiveGeometry {
     // The largest number of a shape.
     pub const LAST: u32 = 4;
 
-    // The shape of document 01's number, with as many of the sizes as it takes; the last for a larger
-    // one.
-    pub fn numbered(number: u32, p: f64, q: f64, r: f64) -> PrimitiveGeometry
-        ensures { λ g. ⌜ g ≡ numberedGeometryOf number p q r ⌝ }
+    // The shape of document 01's number, if there is one, with as many of the sizes as it takes.
+    pub fn numbered(number: u32, p: f64, q: f64, r: f64) -> NumberedGeometry
+        ensures { λ g. ⌜ asShape g ≡ numberedGeometryOf number p q r ⌝ }
     {
         if number == 0 {
-            return PrimitiveGeometry::Plane {
+            return NumberedGeometry::Shape(PrimitiveGeometry::Plane {
                 half_width: p,
                 half_height: q,
-            };
+            });
         }
         if number == 1 {
-            return PrimitiveGeometry::Disk {
+            return NumberedGeometry::Shape(PrimitiveGeometry::Disk {
                 outer_radius: p,
                 inner_radius: q,
-            };
+            });
         }
         if number == 2 {
-            return PrimitiveGeometry::Sphere { radius: p };
+            return NumberedGeometry::Shape(PrimitiveGeometry::Sphere { radius: p });
         }
         if number == 3 {
-            return PrimitiveGeometry::Cylinder {
+            return NumberedGeometry::Shape(PrimitiveGeometry::Cylinder {
                 radius: p,
                 half_length: q,
-            };
+            });
         }
-        PrimitiveGeometry::Box {
-            half_x: p,
-            half_y: q,
-            half_z: r,
+        if number == 4 {
+            return NumberedGeometry::Shape(PrimitiveGeometry::Box {
+                half_x: p,
+                half_y: q,
+                half_z: r,
+            });
         }
+        NumberedGeometry::Nothing
     }
 
     // Where a ray in the shape's coordinates first meets it.

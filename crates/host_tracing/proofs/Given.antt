@@ -2,6 +2,7 @@
 use mathlib.Core.Path.{_≡_, refl, sym, ap, _∙_, subst}
 use mathlib.Core.Bool.{Bool, true, false, _&&_}
 use mathlib.Core.List.{List, [], _∷_}
+use mathlib.Core.Option.{Option, none, some}
 use Prim.Native.Nat.{ℕ, _*_, _≤_, _<_}
 use native.Mathlib.Omega.{arith}
 use lib.Dec.{leb}
@@ -10,6 +11,7 @@ use lib.ListN.{length, take, length-append, length-take}
 use lib.Seq.{take-all, length-take-le}
 use borrow.Author.Tests.{le-leb, lt-leb, eq-eqb, leb-true, leb-false}
 use Rattle.error.specs.Refusals.{Checked, passed, refusedAt, after}
+use Rattle.material.specs.declared.OpticalMedium.{OpticalMedium}
 use Rattle.scene.specs.Solids.{checkSolidsOf}
 use Rattle.memory.specs.Memory.{Memory, recordOf}
 use Rattle.step.specs.declared.NonSeqTraceConfig.{NonSeqTraceConfig}
@@ -18,7 +20,7 @@ use Rattle.run.specs.Run.{Run}
 use Rattle.trace.specs.Trace.{Batch, lentBatch, checkFlatOf, checkConfigOf, checkCountsOf, checkRulesOf, checkTraceOf, checkBatch, runOn, traceAfter, traceRaysOf}
 use Rattle.host_tracing.specs.declared.answers.HostConfig.{HostConfig}
 use Rattle.host_tracing.specs.declared.slices.GivenRay.{GivenRay}
-use Rattle.host_tracing.specs.Tracing.{Left, hostTraceRaysOf}
+use Rattle.host_tracing.specs.Tracing.{traceConfigOf, Left, leftBy, tracedIn, hostTraceRaysOf}
 use Rattle.host_tracing.specs.Flat.{rayValuesRow, rayTagsRow, flatValues, flatTags, laid, flattenOf}
 use Rattle.host_tracing.proofs.Laying.{zeros, nones, long-f, long-h, LaidOut, out}
 use Rattle.fields.specs.Split.{frontOf}
@@ -84,9 +86,15 @@ module _ (g : HostConfig) (x : List Float) (k : List ℕ) (c : ℕ) (s : Memory)
   abbrev hosted : List GivenRay → Left
   hosted ys = hostTraceRaysOf g x k c (flatValues ys) (flatTags ys) (length ys) s
 
+  same-in : (o : Option OpticalMedium) (ys zs : List GivenRay) → 4096 < length ys → 4096 < length zs
+      → tracedIn o (λ medium. traceRaysOf (batch (traceConfigOf g medium) x k c s ys) s) s ≡ tracedIn o (λ medium. traceRaysOf (batch (traceConfigOf g medium) x k c s zs) s) s
+  unfolding tracedIn
+  same-in (some medium) ys zs h i = ap leftBy (same-refusal (traceConfigOf g medium) x k c s ys zs h i)
+  same-in none ys zs h i = refl
+
   same-many : (ys zs : List GivenRay) → 4096 < length ys → 4096 < length zs → hosted ys ≡ hosted zs
   unfolding hostTraceRaysOf
-  same-many ys zs h i = rw (same-refusal _ x k c s ys zs h i) refl
+  same-many ys zs h i = same-in _ ys zs h i
 
   cut-by : (ys : List GivenRay) (b : Bool) → leb (length ys) 4097 ≡ b → hosted (take 4097 ys) ≡ hosted ys
   cut-by ys true e = ap hosted (take-all 4097 ys (leb-true _ _ e))

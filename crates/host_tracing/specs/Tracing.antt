@@ -1,11 +1,11 @@
 -- A tracing as a host asks for it: what it answers, and what it leaves in the four lent slices.
 use Prim.Native.Nat.{ℕ}
-use mathlib.Core.Bool.{cond}
 use mathlib.Core.List.{List}
-use lib.Dec.{leb}
+use mathlib.Core.Option.{Option, none, some}
 use lib.Ieee.{Float}
 use Rattle.error.specs.Refusals.{asChecked}
-use Rattle.material.specs.Media.{numberedMediumOf, lastMedium}
+use Rattle.material.specs.declared.OpticalMedium.{OpticalMedium}
+use Rattle.material.specs.Media.{numberedMediumOf}
 use Rattle.detectors.specs.declared.Detectors.{Detectors}
 use Rattle.memory.specs.Memory.{Memory, Outcome, done, refused, memoryLeft}
 use Rattle.step.specs.declared.NonSeqTraceConfig.{NonSeqTraceConfig}
@@ -17,13 +17,13 @@ use Rattle.host_tracing.specs.declared.answers.HostConfig.{HostConfig}
 use Rattle.host_tracing.specs.declared.answers.HostTraced.{HostTraced}
 use Rattle.doubles.specs.Doubles.{#0}
 
--- the rules that a host's numbers mean
-unfoldable pub traceConfigOf : HostConfig → NonSeqTraceConfig
-traceConfigOf g =
+-- the rules that a host's numbers mean, in an ambient medium
+unfoldable pub traceConfigOf : HostConfig → OpticalMedium → NonSeqTraceConfig
+traceConfigOf g medium =
     record {
       «max_bounces» = g .«max_bounces»;
       «min_power_threshold» = g .«min_power_threshold»;
-      «ambient_medium» = numberedMediumOf (g .ambient) (g .a) (g .b) (g .c) (g .d) (g .e) (g .f);
+      «ambient_medium» = medium;
     }
 
 -- the refusal's number and place, 0 and 0 for none
@@ -59,12 +59,16 @@ leftBy t =
     }) (m .flux) (m .hits) (m .hitValues)
     (m .hitTags)
 
--- 17 for an ambient medium that is none, first of all
+-- a tracing in the ambient medium; 17 where that is none
+unfoldable pub tracedIn : Option OpticalMedium → (OpticalMedium → Trace Memory) → Memory → Left
+tracedIn (some medium) traced s = leftBy (traced medium)
+tracedIn none traced s = leftBy (record { outcome = refused 17 0 s; report = startReportOf 0 #0 })
+
+-- the ambient medium's number first of all
 unfoldable pub hostTraceRaysOf : HostConfig → List Float → List ℕ → ℕ → List Float → List ℕ → ℕ → Memory → Left
 hostTraceRaysOf g x k n v t m s =
-    cond (leb (g .ambient) lastMedium)
-    (leftBy (traceRaysOf (lentBatch (traceConfigOf g) x k n v t m) s))
-    (leftBy (record { outcome = refused 17 0 s; report = startReportOf 0 #0 }))
+    tracedIn (numberedMediumOf (g .ambient) (g .a) (g .b) (g .c) (g .d) (g .e) (g .f))
+    (λ medium. traceRaysOf (lentBatch (traceConfigOf g medium) x k n v t m) s) s
 
 -- of the code's answers
 unfoldable pub toldOf : Traced → HostTraced

@@ -31,10 +31,9 @@ pub struct HostTraced {
     pub detectors: Detectors,
 }
 
-pub fn trace_config(g: HostConfig) -> NonSeqTraceConfig
-    ensures { λ r. ⌜ r ≡ traceConfigOf g ⌝ }
+pub fn trace_config(g: HostConfig, medium: OpticalMedium) -> NonSeqTraceConfig
+    ensures { λ r. ⌜ r ≡ traceConfigOf g medium ⌝ }
 {
-    let medium = OpticalMedium::numbered(g.ambient, g.a, g.b, g.c, g.d, g.e, g.f);
     NonSeqTraceConfig {
         max_bounces: g.max_bounces,
         min_power_threshold: g.min_power_threshold,

@@ -5,12 +5,13 @@ use crate::answers::no_medium;
 use crate::answers::told;
 use crate::answers::trace_config;
 use detectors::Detectors;
+use material::NumberedMedium;
 use material::OpticalMedium;
 ghost use mathlib.Core.Path.{_≡_};
 ghost use Rattle.memory.specs.Memory.{lentMemory};
 ghost use Rattle.host_tracing.specs.Tracing.{left, hostTraceRaysOf};
 
-// `trace::trace_rays`, once the ambient medium's number is one (else 17).
+// `trace::trace_rays`, if there is an ambient medium of the number given (else 17).
 #[no_mangle]
 pub extern "C" fn nonseq_trace_rays(
     config: HostConfig,
@@ -31,24 +32,33 @@ pub extern "C" fn nonseq_trace_rays(
         ≡ hostTraceRaysOf config (now («solid_values» .entry)) (now («solid_tags» .entry)) count (now («ray_values» .entry)) (now («ray_tags» .entry)) given
         (lentMemory detectors (now (flux .entry)) (now (hits .entry)) (now («hit_values» .entry)) (now («hit_tags» .entry)) used) ⌝ }
 {
-    if config.ambient <= OpticalMedium::LAST {
-        let g = trace_config(config);
-        let r = trace::trace_rays(
-            g,
-            solid_values,
-            solid_tags,
-            count,
-            ray_values,
-            ray_tags,
-            given,
-            detectors,
-            flux,
-            hits,
-            hit_values,
-            hit_tags,
-            used,
-        );
-        return told(r);
+    match OpticalMedium::numbered(
+        config.ambient,
+        config.a,
+        config.b,
+        config.c,
+        config.d,
+        config.e,
+        config.f,
+    ) {
+        NumberedMedium::Medium(medium) => {
+            let r = trace::trace_rays(
+                trace_config(config, medium),
+                solid_values,
+                solid_tags,
+                count,
+                ray_values,
+                ray_tags,
+                given,
+                detectors,
+                flux,
+                hits,
+                hit_values,
+                hit_tags,
+                used,
+            );
+            told(r)
+        }
+        NumberedMedium::Nothing => no_medium(detectors, used),
     }
-    no_medium(detectors, used)
 }

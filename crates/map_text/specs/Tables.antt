@@ -6,7 +6,7 @@ use lib.Dec.{leb, ltb, eqb}
 use lib.Ieee.{Float, nan}
 use lib.ListN.{length, getD, take, replicate}
 use Rattle.rays.specs.Vectors.{vec3}
-use Rattle.material.specs.Media.{numberedMediumOf}
+use Rattle.material.specs.Media.{numberedMediumOf, orAirOf}
 use Rattle.detector.specs.declared.Detector2D.{Detector2D}
 use Rattle.detectors.specs.declared.Detectors.{Detectors}
 use Rattle.detectors.specs.Detectors.{allPixelsOf}
@@ -81,13 +81,15 @@ wholeOf l i = cond (ltb i (length l)) (getD l i 0) 0
 
 -- ---- the run
 
+-- an ambient medium that is none reads as air
 unfoldable pub configOf : List Float → List ℕ → NonSeqTraceConfig
 configOf v w =
     record {
       «max_bounces» = wholeOf w 0;
       «min_power_threshold» = valueOf v 0;
-      «ambient_medium» = numberedMediumOf (wholeOf w 2) (valueOf v 1) (valueOf v 2) (valueOf v 3) (valueOf v 4)
-          (valueOf v 5) (valueOf v 6);
+      «ambient_medium» = orAirOf
+          (numberedMediumOf (wholeOf w 2) (valueOf v 1) (valueOf v 2) (valueOf v 3) (valueOf v 4)
+          (valueOf v 5) (valueOf v 6));
     }
 
 -- `-` means All

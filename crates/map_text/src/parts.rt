@@ -44,6 +44,7 @@ pub(crate) fn whole(l: &[u32], i: usize) -> u32
     0
 }
 
+// The rules of the run; an ambient medium that is none, which no text brings, reads as air.
 pub(crate) fn config(run_values: &[f64], run_tags: &[u32]) -> NonSeqTraceConfig
     ensures { λ r. ⌜ r ≡ configOf (now («run_values» .entry)) (now («run_tags» .entry)) ⌝ }
 {
@@ -55,7 +56,7 @@ pub(crate) fn config(run_values: &[f64], run_tags: &[u32]) -> NonSeqTraceConfig
         value(run_values, 4),
         value(run_values, 5),
         value(run_values, 6),
-    );
+    ).or_air();
     NonSeqTraceConfig {
         max_bounces: whole(run_tags, 0),
         min_power_threshold: value(run_values, 0),

@@ -4,6 +4,7 @@ use Prim.Native.Nat.{ℕ}
 use lib.Dec.{eqb}
 use lib.Ieee.{Float, binary64, add, sub, mul, div, lt, le, ofBits}
 use mathlib.Core.Bool.{cond}
+use mathlib.Core.Option.{Option, none, some}
 use Rattle.doubles.specs.Doubles.{isFiniteOf, #0, #1}
 use Rattle.doubles.specs.Root.{sqrtOf}
 use Rattle.error.specs.Refusals.{numberOf, Answer, value, refusal}
@@ -11,23 +12,44 @@ use Rattle.material.specs.declared.OpticalMedium.{OpticalMedium}
 use Rattle.material.specs.declared.OpticalMedium.the-variants.{Air, Constant, Sellmeier1, Schott}
 use Rattle.material.specs.declared.SurfaceFinish.{SurfaceFinish}
 use Rattle.material.specs.declared.SurfaceFinish.the-variants.{Specular, Mirror, Absorber}
+use Rattle.material.specs.declared.NumberedMedium as media
+use Rattle.material.specs.declared.NumberedFinish as finishes
 use Rattle.material.specs.declared.RefractiveIndex.{RefractiveIndex}
 use Rattle.material.specs.declared.RefractiveIndex.the-variants.{Index, Refused}
 
--- finishes 0 to 2 in document 01's order; rho is the mirror's reflectance
+-- finishes 0 to 2 in document 01's order, and none beyond; rho is the mirror's reflectance
 abbrev pub lastFinish : ℕ
 lastFinish = 2
 
-unfoldable pub numberedFinishOf : ℕ → Float → SurfaceFinish
-numberedFinishOf k rho = cond (eqb k 0) Specular (cond (eqb k 1) (Mirror rho) Absorber)
+unfoldable pub numberedFinishOf : ℕ → Float → Option SurfaceFinish
+numberedFinishOf k rho =
+    cond (eqb k 0) (some Specular) (cond (eqb k 1) (some (Mirror rho)) (cond (eqb k 2) (some Absorber) none))
 
--- media 0 to 3 in document 01's order, with their coefficients from a on
+unfoldable pub orClearOf : Option SurfaceFinish → SurfaceFinish
+orClearOf (some f) = f
+orClearOf none = Specular
+
+-- media 0 to 3 in document 01's order, and none beyond, with their coefficients from a on
 abbrev pub lastMedium : ℕ
 lastMedium = 3
 
-unfoldable pub numberedMediumOf : ℕ → Float → Float → Float → Float → Float → Float → OpticalMedium
+unfoldable pub numberedMediumOf : ℕ → Float → Float → Float → Float → Float → Float → Option OpticalMedium
 numberedMediumOf k a b c d e f =
-    cond (eqb k 0) Air (cond (eqb k 1) (Constant a) (cond (eqb k 2) (Sellmeier1 a b c d e f) (Schott a b c d e f)))
+    cond (eqb k 0) (some Air) (cond (eqb k 1) (some (Constant a)) (cond (eqb k 2) (some (Sellmeier1 a b c d e f))
+    (cond (eqb k 3) (some (Schott a b c d e f)) none)))
+
+unfoldable pub orAirOf : Option OpticalMedium → OpticalMedium
+orAirOf (some m) = m
+orAirOf none = Air
+
+-- what the code's answers say
+abbrev pub asFinish : finishes.NumberedFinish → Option SurfaceFinish
+asFinish (finishes.the-variants.Finish f) = some f
+asFinish finishes.the-variants.Nothing = none
+
+abbrev pub asMedium : media.NumberedMedium → Option OpticalMedium
+asMedium (media.the-variants.Medium m) = some m
+asMedium media.the-variants.Nothing = none
 
 -- (λ * 1e-3) squared
 unfoldable pub squareUmOf : Float → Float

@@ -1,7 +1,7 @@
 // Media and finishes (document 01, module 4), after material.rs.
 use error::NonSeqError;
 ghost use mathlib.Core.Path.{_≡_};
-ghost use Rattle.material.specs.Media.{numberedFinishOf, numberedMediumOf, squareUmOf, sellmeierTermOf, sellmeierOf, schottOf, constantOf, rootOfSquareOf, indexAtOf, refractiveIndexOf, asIndex};
+ghost use Rattle.material.specs.Media.{numberedFinishOf, asFinish, orClearOf, numberedMediumOf, asMedium, orAirOf, squareUmOf, sellmeierTermOf, sellmeierOf, schottOf, constantOf, rootOfSquareOf, indexAtOf, refractiveIndexOf, asIndex};
 
 // A medium's rule for its refractive index.
 pub enum OpticalMedium {
@@ -32,6 +32,17 @@ pub enum SurfaceFinish {
     Specular,
     Mirror { reflectance: f64 },
     Absorber,
+}
+
+// What a number means.
+pub enum NumberedMedium {
+    Medium(OpticalMedium),
+    Nothing,
+}
+
+pub enum NumberedFinish {
+    Finish(SurfaceFinish),
+    Nothing,
 }
 
 pub enum RefractiveIndex {
@@ -105,17 +116,44 @@ impl SurfaceFinish {
     // The largest number of a finish.
     pub const LAST: u32 = 2;
 
-    // The finish of document 01's number; the last for a larger one.
-    pub fn numbered(number: u32, rho: f64) -> SurfaceFinish
-        ensures { λ r. ⌜ r ≡ numberedFinishOf number rho ⌝ }
+    // The finish of document 01's number, if there is one.
+    pub fn numbered(number: u32, rho: f64) -> NumberedFinish
+        ensures { λ r. ⌜ asFinish r ≡ numberedFinishOf number rho ⌝ }
     {
         if number == 0 {
-            return SurfaceFinish::Specular;
+            return NumberedFinish::Finish(SurfaceFinish::Specular);
         }
         if number == 1 {
-            return SurfaceFinish::Mirror { reflectance: rho };
+            return NumberedFinish::Finish(SurfaceFinish::Mirror { reflectance: rho });
         }
-        SurfaceFinish::Absorber
+        if number == 2 {
+            return NumberedFinish::Finish(SurfaceFinish::Absorber);
+        }
+        NumberedFinish::Nothing
+    }
+}
+
+impl NumberedFinish {
+    // Clear where there is none.
+    pub fn or_clear(self) -> SurfaceFinish
+        ensures { λ r. ⌜ r ≡ orClearOf (asFinish self) ⌝ }
+    {
+        match self {
+            NumberedFinish::Finish(finish) => finish,
+            NumberedFinish::Nothing => SurfaceFinish::Specular,
+        }
+    }
+}
+
+impl NumberedMedium {
+    // Air where there is none.
+    pub fn or_air(self) -> OpticalMedium
+        ensures { λ r. ⌜ r ≡ orAirOf (asMedium self) ⌝ }
+    {
+        match self {
+            NumberedMedium::Medium(medium) => medium,
+            NumberedMedium::Nothing => OpticalMedium::Air,
+        }
     }
 }
 
@@ -123,35 +161,37 @@ impl OpticalMedium {
     // The largest number of a medium.
     pub const LAST: u32 = 3;
 
-    // The medium of document 01's number, with as many of the coefficients as it takes; the last for a
-    // larger one.
-    pub fn numbered(number: u32, a: f64, b: f64, c: f64, d: f64, e: f64, f: f64) -> OpticalMedium
-        ensures { λ r. ⌜ r ≡ numberedMediumOf number a b c d e f ⌝ }
+    // The medium of document 01's number, if there is one, with as many of the coefficients as it takes.
+    pub fn numbered(number: u32, a: f64, b: f64, c: f64, d: f64, e: f64, f: f64) -> NumberedMedium
+        ensures { λ r. ⌜ asMedium r ≡ numberedMediumOf number a b c d e f ⌝ }
     {
         if number == 0 {
-            return OpticalMedium::Air;
+            return NumberedMedium::Medium(OpticalMedium::Air);
         }
         if number == 1 {
-            return OpticalMedium::Constant { n: a };
+            return NumberedMedium::Medium(OpticalMedium::Constant { n: a });
         }
         if number == 2 {
-            return OpticalMedium::Sellmeier1 {
+            return NumberedMedium::Medium(OpticalMedium::Sellmeier1 {
                 b1: a,
                 c1: b,
                 b2: c,
                 c2: d,
                 b3: e,
                 c3: f,
-            };
+            });
         }
-        OpticalMedium::Schott {
-            a0: a,
-            a1: b,
-            a2: c,
-            a3: d,
-            a4: e,
-            a5: f,
+        if number == 3 {
+            return NumberedMedium::Medium(OpticalMedium::Schott {
+                a0: a,
+                a1: b,
+                a2: c,
+                a3: d,
+                a4: e,
+                a5: f,
+            });
         }
+        NumberedMedium::Nothing
     }
 
     // The refractive index at a wavelength in nanometres. A wavelength at most 0 or not finite is

@@ -1,14 +1,12 @@
 -- What the nearest solid is, however the solids are kept. Assumes nothing.
-use Prim.Native.Nat.{ℕ, _*_}
+use Prim.Native.Nat.{ℕ}
 use mathlib.Core.Path.{_≡_, sym, ap}
 use mathlib.Core.Logic.{_↔_}
-use mathlib.Core.Bool.{Bool, true, false, cond, _&&_}
+use mathlib.Core.Bool.{Bool, true, false, cond}
 use mathlib.Core.List.{List}
 use mathlib.Core.Option.{Option, none, some, Option·some-injective, Option·none-ne-some}
-use lib.Dec.{leb}
 use lib.Ieee.{Float}
-use lib.ListN.{getD}
-use Rattle.geometry.specs.Shapes.{lastShape}
+use Rattle.geometry.specs.declared.PrimitiveGeometry.{PrimitiveGeometry}
 use Rattle.rays.specs.declared.Ray.{Ray}
 use Rattle.rays.specs.declared.vector.Vec3.{Vec3}
 use Rattle.geometry.specs.Transforms.{worldNormalOf}
@@ -19,7 +17,7 @@ use Rattle.scene.specs.declared.NonSeqObject.{NonSeqObject}
 use Rattle.scene.specs.declared.NonSeqHit.{NonSeqHit}
 use Rattle.scene.specs.declared.object.Approach.{Approach}
 use Rattle.scene.specs.Objects.{approachOf, turnedOf, arriveWith, arriveOf, arriveFrom, intersectOf}
-use Rattle.scene.specs.Solids.{holds, objectAtOf, readObjectOf}
+use Rattle.scene.specs.Solids.{shapeInOf, solidWith, objectWith, readObjectOf, holds, objectAtOf}
 use Rattle.scene.specs.Closest.{hitDistance, offerBy, offersIn, closestObjectOf}
 
 -- below all others, first among equals
@@ -54,9 +52,10 @@ number-is o r h e = number-from o r (approachOf o r) h e
 
 -- of flat lists: the place
 pub place-is : (x : List Float) (k : List ℕ) (r : Ray) (i : ℕ) (h : NonSeqHit) → offersIn (objectAtOf x k) r i ≡ some h → h .«object_id» .0 ≡ i
-unfolding objectAtOf offerBy readObjectOf
-place-is x k r i h e = at-place (holds x k i && leb (getD k (i * 4) 0) lastShape) e
+unfolding objectAtOf readObjectOf objectWith solidWith offerBy
+place-is x k r i h e = at-place (holds x k i) (shapeInOf x k i) e
   where
-    at-place : (b : Bool) → offerBy (cond b (some (readObjectOf x k i)) none) r ≡ some h → h .«object_id» .0 ≡ i
-    at-place true p = ap (λ (s : SolidNo). s .0) (number-is (readObjectOf x k i) r h p)
-    at-place false p = absurd (Option·none-ne-some h p)
+    at-place : (b : Bool) (g : Option PrimitiveGeometry) → offerBy (cond b (objectWith x k i g) none) r ≡ some h → h .«object_id» .0 ≡ i
+    at-place true (some g) p = ap (λ (s : SolidNo). s .0) (number-is (solidWith x k i g) r h p)
+    at-place true none p = absurd (Option·none-ne-some h p)
+    at-place false g p = absurd (Option·none-ne-some h p)

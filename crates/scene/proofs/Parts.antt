@@ -1,7 +1,12 @@
 -- A solid's approach by its parts. Assumes nothing.
 use mathlib.Core.Path.{_≡_, refl, sym, ap, _∙_}
 use mathlib.Core.Bool.{Bool, true, false, cond}
+use mathlib.Core.List.{List}
 use mathlib.Core.Option.{Option, none, some}
+use Prim.Native.Nat.{ℕ, _+_, _*_}
+use lib.Dec.{eqb}
+use lib.Ieee.{Float}
+use lib.ListN.{getD}
 use Rattle.rays.specs.declared.matrix.Mat4.{Mat4}
 use Rattle.rays.specs.declared.Ray.{Ray}
 use Rattle.rays.specs.Matrices.{transformPointOf, transformDirectionOf}
@@ -16,6 +21,8 @@ use Rattle.geometry.proofs.Local.{from-is}
 use Rattle.scene.specs.declared.NonSeqObject.{NonSeqObject}
 use Rattle.scene.specs.declared.object.Approach.{Approach}
 use Rattle.scene.specs.Objects.{approachPoint, approachBy, approachAlong, approachFrom, approachOf, reachedOf, reachedBy, approachParts}
+use Rattle.scene.specs.Solids.{solidWith, objectWith}
+use Rattle.scene.specs.Closest.{approachAtOf}
 
 by-hit : (o : NonSeqObject) (r q : Ray) (h : Option LocalHit) → reachedBy (o .transform .matrix) r (meetBy q h) ≡ approachBy o r q h
 unfolding reachedBy meetBy approachBy reachedOf approachPoint
@@ -56,3 +63,10 @@ approach-missed o r g w k e p q t u = sym (meets o r g w none e p q (sym (ap asM
 pub approach-inactive : (o : NonSeqObject) (r : Ray) → o .«is_active» ≡ false → none ≡ approachOf o r
 unfolding approachOf
 approach-inactive o r e = sym (ap (λ (b : Bool). cond b (approachFrom o r (inverseTransformRayOf (o .transform) r)) none) e)
+
+-- ---- a solid of the lists, if it has a shape
+
+pub none-inactive : (x : List Float) (k : List ℕ) (i : ℕ) (g : Option PrimitiveGeometry) (r : Ray) → eqb (getD k (i * 4 + 1) 0) 1 ≡ false → none ≡ approachAtOf (objectWith x k i g) r
+unfolding approachAtOf objectWith solidWith
+none-inactive x k i (some g) r e = approach-inactive (solidWith x k i g) r e
+none-inactive x k i none r e = refl

@@ -11,10 +11,9 @@ use Rattle.error.specs.Refusals.{Checked, passed, refusedAt}
 use Rattle.rays.specs.declared.matrix.Row.{Row}
 use Rattle.rays.specs.declared.matrix.Mat4.{Mat4}
 use Rattle.material.specs.declared.OpticalMedium.{OpticalMedium}
-use Rattle.material.specs.declared.OpticalMedium.the-variants.{Air}
 use Rattle.material.specs.declared.SurfaceFinish.{SurfaceFinish}
-use Rattle.material.specs.declared.SurfaceFinish.the-variants.{Specular}
-use Rattle.material.specs.Media.{lastFinish, numberedFinishOf, lastMedium, numberedMediumOf}
+use Rattle.material.specs.Media.{lastFinish, numberedFinishOf, orClearOf, lastMedium, numberedMediumOf, orAirOf}
+use Rattle.geometry.specs.declared.PrimitiveGeometry.{PrimitiveGeometry}
 use Rattle.geometry.specs.Shapes.{lastShape, numberedGeometryOf}
 use Rattle.scene.specs.declared.SolidNo.{SolidNo}
 use Rattle.scene.specs.declared.NonSeqObject.{NonSeqObject}
@@ -51,12 +50,17 @@ rowAtOf x i = record { a = getD x i nan; b = getD x (i + 1) nan; c = getD x (i +
 unfoldable pub matAtOf : List Float → ℕ → Mat4
 matAtOf x i = record { r0 = rowAtOf x i; r1 = rowAtOf x (i + 4); r2 = rowAtOf x (i + 8); r3 = rowAtOf x (i + 12) }
 
-unfoldable pub readObjectOf : List Float → List ℕ → ℕ → NonSeqObject
-readObjectOf x k i =
+-- the shape of solid i, if there is one of its number
+unfoldable pub shapeInOf : List Float → List ℕ → ℕ → Option PrimitiveGeometry
+shapeInOf x k i =
+    numberedGeometryOf (getD k (i * solidWholes) 0) (getD x (i * solidDoubles) nan) (valueAt x i 1) (valueAt x i 2)
+
+-- solid i with the shape g
+unfoldable pub solidWith : List Float → List ℕ → ℕ → PrimitiveGeometry → NonSeqObject
+solidWith x k i g =
     record {
       id = record { 0 = i };
-      geometry = numberedGeometryOf (getD k (i * solidWholes) 0) (getD x (i * solidDoubles) nan) (valueAt x i 1)
-          (valueAt x i 2);
+      geometry = g;
       transform = record {
         matrix = matAtOf x (i * solidDoubles + matrixAt);
         inverse = matAtOf x (i * solidDoubles + inverseAt);
@@ -64,27 +68,37 @@ readObjectOf x k i =
       «is_active» = eqb (tagAt k i 1) 1;
     }
 
+unfoldable pub objectWith : List Float → List ℕ → ℕ → Option PrimitiveGeometry → Option NonSeqObject
+objectWith x k i (some g) = some (solidWith x k i g)
+objectWith x k i none = none
+
+unfoldable pub readObjectOf : List Float → List ℕ → ℕ → Option NonSeqObject
+readObjectOf x k i = objectWith x k i (shapeInOf x k i)
+
 -- whether both lists reach to the end of solid i
 unfoldable pub holds : List Float → List ℕ → ℕ → Bool
 holds x k i = leb (i * solidDoubles + solidDoubles) (length x) && leb (i * solidWholes + solidWholes) (length k)
 
--- solid i, where the lists hold it and its shape has a number that is one
+-- solid i, where the lists hold it and there is a shape of its number
 unfoldable pub objectAtOf : List Float → List ℕ → ℕ → Option NonSeqObject
-objectAtOf x k i = cond (holds x k i && leb (getD k (i * solidWholes) 0) lastShape) (some (readObjectOf x k i)) none
+objectAtOf x k i = cond (holds x k i) (readObjectOf x k i) none
 
 -- what the code's answer says
 abbrev pub asObject : Listed → Option NonSeqObject
 asObject (Object o) = some o
 asObject Nothing = none
 
+-- a finish that the lists do not hold, or that is none, reads as clear, a medium as air
 unfoldable pub finishAtOf : List Float → List ℕ → SolidNo → SurfaceFinish
-finishAtOf x k s = cond (holds x k (s .0)) (numberedFinishOf (tagAt k (s .0) 2) (valueAt x (s .0) 3)) Specular
+finishAtOf x k s =
+    let i = s .0 in
+    orClearOf (cond (holds x k i) (numberedFinishOf (tagAt k i 2) (valueAt x i 3)) none)
 
 unfoldable pub mediumAtOf : List Float → List ℕ → SolidNo → OpticalMedium
 mediumAtOf x k s =
     let i = s .0 in
-    cond (holds x k i) (numberedMediumOf (tagAt k i 3) (valueAt x i 4) (valueAt x i 5) (valueAt x i 6) (valueAt x i 7)
-    (valueAt x i 8) (valueAt x i 9)) Air
+    orAirOf (cond (holds x k i) (numberedMediumOf (tagAt k i 3) (valueAt x i 4) (valueAt x i 5) (valueAt x i 6)
+    (valueAt x i 7) (valueAt x i 8) (valueAt x i 9)) none)
 
 -- shape 0 to 4, active 0 or 1, finish 0 to 2, medium 0 to 3
 unfoldable pub tagsFitOf : ℕ → ℕ → ℕ → ℕ → Bool

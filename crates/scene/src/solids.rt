@@ -10,6 +10,7 @@ use crate::object::Approached;
 use error::Check;
 use error::NonSeqError;
 use geometry::LocalMeeting;
+use geometry::NumberedGeometry;
 use geometry::PrimitiveGeometry;
 use geometry::Transform3D;
 use material::OpticalMedium;
@@ -21,9 +22,10 @@ ghost use mathlib.Core.Path.{_≡_};
 ghost use Prim.Native.Nat.{_+_, _*_, _≤_};
 ghost use lib.ListN.{length};
 ghost use Rattle.error.specs.Refusals.{asChecked};
-ghost use Rattle.scene.specs.Objects.{asApproach, approachOf};
+ghost use Rattle.geometry.specs.Shapes.{asShape};
+ghost use Rattle.scene.specs.Objects.{asApproach};
 ghost use Rattle.scene.specs.Closest.{approachAtOf};
-ghost use Rattle.scene.specs.Solids.{rowAtOf, matAtOf, readObjectOf, asObject, objectAtOf, finishAtOf, mediumAtOf, tagsFitOf, checkTagsOf, checkSolidsOf, solidDoubles, solidWholes};
+ghost use Rattle.scene.specs.Solids.{rowAtOf, matAtOf, shapeInOf, readObjectOf, asObject, objectAtOf, finishAtOf, mediumAtOf, tagsFitOf, checkTagsOf, checkSolidsOf, solidDoubles, solidWholes};
 
 // Where the matrix and the inverse start among a solid's doubles.
 const MATRIX_AT: usize = 10;
@@ -59,39 +61,49 @@ fn mat_at(solid_values: &[f64], i: usize) -> Mat4
     }
 }
 
-// Solid i of lists that hold it.
-fn read_object(solid_values: &[f64], solid_tags: &[u32], i: u32) -> NonSeqObject
+// The shape of solid i of lists that hold it, if there is one of its number.
+fn shape_in(solid_values: &[f64], solid_tags: &[u32], i: u32) -> NumberedGeometry
     requires { ⌜ (i * solidDoubles + solidDoubles ≤ length (now «solid_values»)) × (i * solidWholes + solidWholes ≤ length (now «solid_tags»)) ⌝ }
-    ensures { λ r. ⌜ r ≡ readObjectOf (now («solid_values» .entry)) (now («solid_tags» .entry)) i ⌝ }
+    ensures { λ r. ⌜ asShape r ≡ shapeInOf (now («solid_values» .entry)) (now («solid_tags» .entry)) i ⌝ }
 {
     let a = i as usize * SOLID_DOUBLES;
-    let b = i as usize * SOLID_WHOLES;
-    let matrix = mat_at(solid_values, a + MATRIX_AT);
-    let inverse = mat_at(solid_values, a + INVERSE_AT);
-    let geometry = PrimitiveGeometry::numbered(
-        solid_tags[b],
+    PrimitiveGeometry::numbered(
+        solid_tags[i as usize * SOLID_WHOLES],
         solid_values[a],
         solid_values[a + 1],
         solid_values[a + 2],
-    );
-    NonSeqObject {
-        id: SolidNo(i),
-        geometry,
-        transform: Transform3D { matrix, inverse },
-        is_active: solid_tags[b + 1] == 1,
+    )
+}
+
+// Solid i of lists that hold it, if there is a shape of its number.
+fn read_object(solid_values: &[f64], solid_tags: &[u32], i: u32) -> Listed
+    requires { ⌜ (i * solidDoubles + solidDoubles ≤ length (now «solid_values»)) × (i * solidWholes + solidWholes ≤ length (now «solid_tags»)) ⌝ }
+    ensures { λ r. ⌜ asObject r ≡ readObjectOf (now («solid_values» .entry)) (now («solid_tags» .entry)) i ⌝ }
+{
+    let a = i as usize * SOLID_DOUBLES;
+    let b = i as usize * SOLID_WHOLES;
+    match shape_in(solid_values, solid_tags, i) {
+        NumberedGeometry::Shape(geometry) => {
+            let matrix = mat_at(solid_values, a + MATRIX_AT);
+            let inverse = mat_at(solid_values, a + INVERSE_AT);
+            Listed::Object(NonSeqObject {
+                id: SolidNo(i),
+                geometry,
+                transform: Transform3D { matrix, inverse },
+                is_active: solid_tags[b + 1] == 1,
+            })
+        }
+        NumberedGeometry::Nothing => Listed::Nothing,
     }
 }
 
-// Solid i, if the lists hold it and its shape has a number that is one.
+// Solid i, if the lists hold it and there is a shape of its number.
 pub fn object_at(solid_values: &[f64], solid_tags: &[u32], i: u32) -> Listed
     ensures { λ r. ⌜ asObject r ≡ objectAtOf (now («solid_values» .entry)) (now («solid_tags» .entry)) i ⌝ }
 {
-    let b = i as usize * SOLID_WHOLES;
     if i as usize * SOLID_DOUBLES + SOLID_DOUBLES <= solid_values.len() {
-        if b + SOLID_WHOLES <= solid_tags.len() {
-            if solid_tags[b] <= PrimitiveGeometry::LAST {
-                return Listed::Object(read_object(solid_values, solid_tags, i));
-            }
+        if i as usize * SOLID_WHOLES + SOLID_WHOLES <= solid_tags.len() {
+            return read_object(solid_values, solid_tags, i);
         }
     }
     Listed::Nothing
@@ -100,45 +112,39 @@ pub fn object_at(solid_values: &[f64], solid_tags: &[u32], i: u32) -> Listed
 // Where a ray meets solid i of lists that hold it. The solid's matrix is read only where its shape is met.
 fn approach_in(solid_values: &[f64], solid_tags: &[u32], i: u32, ray: Ray) -> Approached
     requires { ⌜ (i * solidDoubles + solidDoubles ≤ length (now «solid_values»)) × (i * solidWholes + solidWholes ≤ length (now «solid_tags»)) ⌝ }
-    ensures { λ r. ⌜ asApproach r ≡ approachOf (readObjectOf (now («solid_values» .entry)) (now («solid_tags» .entry)) i) ray ⌝ }
+    ensures { λ r. ⌜ asApproach r ≡ approachAtOf (readObjectOf (now («solid_values» .entry)) (now («solid_tags» .entry)) i) ray ⌝ }
 {
     let a = i as usize * SOLID_DOUBLES;
     let b = i as usize * SOLID_WHOLES;
     if solid_tags[b + 1] == 1 {
         let inverse = mat_at(solid_values, a + INVERSE_AT);
-        let geometry = PrimitiveGeometry::numbered(
-            solid_tags[b],
-            solid_values[a],
-            solid_values[a + 1],
-            solid_values[a + 2],
-        );
-        return match geometry.meet(inverse, ray) {
-            LocalMeeting::At(m) => {
-                let hit = m.hit;
-                object::reached(mat_at(solid_values, a + MATRIX_AT), ray, m.point, hit)
-            }
-            LocalMeeting::Miss => Approached::Miss,
+        return match shape_in(solid_values, solid_tags, i) {
+            NumberedGeometry::Shape(geometry) => match geometry.meet(inverse, ray) {
+                LocalMeeting::At(m) => {
+                    let hit = m.hit;
+                    object::reached(mat_at(solid_values, a + MATRIX_AT), ray, m.point, hit)
+                }
+                LocalMeeting::Miss => Approached::Miss,
+            },
+            NumberedGeometry::Nothing => Approached::Miss,
         };
     }
     Approached::Miss
 }
 
-// Where a ray meets solid i, if the lists hold it.
+// Where a ray meets solid i, if there is such a solid.
 pub(crate) fn approach_at(solid_values: &[f64], solid_tags: &[u32], i: u32, ray: Ray) -> Approached
     ensures { λ r. ⌜ asApproach r ≡ approachAtOf (objectAtOf (now («solid_values» .entry)) (now («solid_tags» .entry)) i) ray ⌝ }
 {
-    let shape = i as usize * SOLID_WHOLES;
     if i as usize * SOLID_DOUBLES + SOLID_DOUBLES <= solid_values.len() {
-        if shape + SOLID_WHOLES <= solid_tags.len() {
-            if solid_tags[shape] <= PrimitiveGeometry::LAST {
-                return approach_in(solid_values, solid_tags, i, ray);
-            }
+        if i as usize * SOLID_WHOLES + SOLID_WHOLES <= solid_tags.len() {
+            return approach_in(solid_values, solid_tags, i, ray);
         }
     }
     Approached::Miss
 }
 
-// The finish of a solid; clear for one that the lists do not hold.
+// The finish of a solid; clear where the lists hold none.
 pub fn finish_at(solid_values: &[f64], solid_tags: &[u32], solid: SolidNo) -> SurfaceFinish
     ensures { λ r. ⌜ r ≡ finishAtOf (now («solid_values» .entry)) (now («solid_tags» .entry)) solid ⌝ }
 {
@@ -147,13 +153,13 @@ pub fn finish_at(solid_values: &[f64], solid_tags: &[u32], solid: SolidNo) -> Su
     let b = i as usize * SOLID_WHOLES;
     if a + SOLID_DOUBLES <= solid_values.len() {
         if b + SOLID_WHOLES <= solid_tags.len() {
-            return SurfaceFinish::numbered(solid_tags[b + 2], solid_values[a + 3]);
+            return SurfaceFinish::numbered(solid_tags[b + 2], solid_values[a + 3]).or_clear();
         }
     }
     SurfaceFinish::Specular
 }
 
-// The medium of a solid; air for one that the lists do not hold.
+// The medium of a solid; air where the lists hold none.
 pub fn medium_at(solid_values: &[f64], solid_tags: &[u32], solid: SolidNo) -> OpticalMedium
     ensures { λ r. ⌜ r ≡ mediumAtOf (now («solid_values» .entry)) (now («solid_tags» .entry)) solid ⌝ }
 {
@@ -170,7 +176,7 @@ pub fn medium_at(solid_values: &[f64], solid_tags: &[u32], solid: SolidNo) -> Op
                 solid_values[a + 7],
                 solid_values[a + 8],
                 solid_values[a + 9],
-            );
+            ).or_air();
         }
     }
     OpticalMedium::Air

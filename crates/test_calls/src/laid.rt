@@ -43,7 +43,7 @@ pub(crate) fn config(w: &[u32], d: &[f64]) -> NonSeqTraceConfig {
         0.0,
         0.0,
         0.0,
-    );
+    ).or_air();
     NonSeqTraceConfig {
         max_bounces: lists::whole_at(w, 4),
         min_power_threshold: lists::double_at(d, 0),

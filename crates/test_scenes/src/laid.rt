@@ -73,7 +73,7 @@ pub(crate) fn config(w: &[u32], d: &[f64]) -> NonSeqTraceConfig {
         lists::double_at(d, 4),
         lists::double_at(d, 5),
         lists::double_at(d, 6),
-    );
+    ).or_air();
     NonSeqTraceConfig {
         max_bounces: lists::whole_at(w, 10),
         min_power_threshold: lists::double_at(d, 0),

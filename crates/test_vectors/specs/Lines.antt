@@ -3,6 +3,7 @@
 use Prim.Native.Nat.{ℕ, zero, suc, _+_}
 use mathlib.Core.Bool.{Bool, false, cond, _&&_}
 use mathlib.Core.List.{List}
+use mathlib.Core.Option.{Option, none, some}
 use lib.Dec.{eqb, ltb}
 use lib.ListN.{length, getD, drop}
 use lib.Ieee.{Float, binary64, ofBits, toUnsigned}
@@ -12,7 +13,7 @@ use Rattle.error.specs.Refusals.{Answer, value, refusal}
 use Rattle.source.specs.declared.Rng64.{Rng64}
 use Rattle.source.specs.Random.{newOf, nextU64Of, nextF64Of}
 use Rattle.material.specs.declared.OpticalMedium.{OpticalMedium}
-use Rattle.material.specs.Media.{lastMedium, numberedMediumOf, refractiveIndexOf}
+use Rattle.material.specs.Media.{numberedMediumOf, refractiveIndexOf}
 use Rattle.fields.specs.Number.{Read, number, malformed, readBitsOf, readWholeOf}
 use Rattle.test_vectors.specs.declared.lines.Kind.{Kind}
 use Rattle.test_vectors.specs.declared.lines.Kind.the-variants.{Root, Double, Draw, State, Vector, Matrix, Index}
@@ -92,7 +93,7 @@ matrixLineOf l =
     isGivenOf l 29 19 && (isVecOf l 20 (transformPointOf m v) &&
     (isVecOf l 23 (transformDirectionOf m v) && isVecOf l 26 (transformNormalOf m v)))
 
-unfoldable pub mediumOf : ℕ → List ℕ → OpticalMedium
+unfoldable pub mediumOf : ℕ → List ℕ → Option OpticalMedium
 mediumOf n l =
     numberedMediumOf n (doubleAtOf l 1) (doubleAtOf l 2) (doubleAtOf l 3) (doubleAtOf l 4) (doubleAtOf l 5)
     (doubleAtOf l 6)
@@ -106,11 +107,13 @@ unfoldable pub isAnswerOf : List ℕ → Answer Float → Bool
 isAnswerOf t (value n) = isDoubleOf t n
 isAnswerOf t (refusal n) = isRefusalOf t n
 
+unfoldable pub indexAgrees : List ℕ → Option OpticalMedium → Bool
+indexAgrees l (some m) =
+    (hasShapeOf l 10 8 && areBitsOf l 1 8) && isAnswerOf (partIn l 9) (refractiveIndexOf m (doubleAtOf l 7))
+indexAgrees l none = false
+
 unfoldable pub indexOfMedium : Read → List ℕ → Bool
-indexOfMedium (number n) l =
-    cond (ltb lastMedium n) false
-    ((hasShapeOf l 10 8 && areBitsOf l 1 8) && isAnswerOf (partIn l 9)
-    (refractiveIndexOf (mediumOf n l) (doubleAtOf l 7)))
+indexOfMedium (number n) l = indexAgrees l (mediumOf n l)
 indexOfMedium malformed l = false
 
 -- medium, its six coefficients, wavelength = index, or r with the number of the refusal

@@ -14,6 +14,7 @@ use crate::parts::one_if;
 use crate::parts::vec_at;
 use error::NonSeqError;
 use fields::ReadWhole;
+use material::NumberedMedium;
 use material::OpticalMedium;
 use material::RefractiveIndex;
 use rays::Ray;
@@ -21,7 +22,7 @@ use rays::Vec3;
 use source::Rng64;
 ghost use mathlib.Core.Path.{_≡_};
 ghost use Rattle.error.specs.Refusals.{numberOf};
-ghost use Rattle.material.specs.Media.{asIndex};
+ghost use Rattle.material.specs.Media.{asIndex, asMedium};
 ghost use Rattle.test_vectors.specs.Parts.{partIn};
 ghost use Rattle.test_vectors.specs.Lines.{rootLineOf, doubleLineOf, drawsAgreeOf, drawLineOf, stateLineOf, mediumOf, isRefusalOf, isAnswerOf, indexLineOf, pairAgreesOf, oneAgreesOf, vectorLineOf, matrixLineOf, lineAgreesOf};
 
@@ -169,8 +170,8 @@ fn matrix_line(line: &[u8]) -> bool
 }
 
 // The medium of an index line, by its number and coefficients.
-fn medium(number: u32, line: &[u8]) -> OpticalMedium
-    ensures { λ r. ⌜ r ≡ mediumOf number (now (line .entry)) ⌝ }
+fn medium(number: u32, line: &[u8]) -> NumberedMedium
+    ensures { λ r. ⌜ asMedium r ≡ mediumOf number (now (line .entry)) ⌝ }
 {
     OpticalMedium::numbered(
         number,
@@ -212,14 +213,13 @@ fn index_line(line: &[u8]) -> bool
     ensures { λ r. ⌜ r ≡ indexLineOf (now (line .entry)) ⌝ }
 {
     match fields::read_whole(fields::part(line, b' ', 0)) {
-        ReadWhole::Whole(number) => {
-            if OpticalMedium::LAST < number {
-                return false;
+        ReadWhole::Whole(number) => match medium(number, line) {
+            NumberedMedium::Medium(m) => {
+                let ok = both(has_shape(line, 10, 8), are_bits(line, 1, 8));
+                both(ok, is_answer(line, m.refractive_index(double_at(line, 7))))
             }
-            let ok = both(has_shape(line, 10, 8), are_bits(line, 1, 8));
-            let m = medium(number, line);
-            both(ok, is_answer(line, m.refractive_index(double_at(line, 7))))
-        }
+            NumberedMedium::Nothing => false,
+        },
         ReadWhole::Malformed => false,
     }
 }

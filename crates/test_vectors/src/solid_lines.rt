@@ -12,6 +12,7 @@ use crate::parts::one_if;
 use crate::parts::vec_at;
 use fields::ReadWhole;
 use geometry::LocalIntersection;
+use geometry::NumberedGeometry;
 use geometry::PrimitiveGeometry;
 use geometry::Transform3D;
 use rays::Ray;
@@ -21,12 +22,13 @@ use scene::NonSeqObject;
 use scene::SolidNo;
 ghost use mathlib.Core.Path.{_≡_};
 ghost use Rattle.geometry.specs.Hits.{asLocalHit};
+ghost use Rattle.geometry.specs.Shapes.{asShape};
 ghost use Rattle.scene.specs.Objects.{asHit};
 ghost use Rattle.test_vectors.specs.SolidLines.{shapeInOf, isLocalHitOf, shapeLineOf, objectInOf, rayInOf, isHitAtOf, isHitOf, solidLineOf};
 
 // The shape of a number with the three sizes from part k on.
-fn shape_in(number: u32, line: &[u8], k: usize) -> PrimitiveGeometry
-    ensures { λ r. ⌜ r ≡ shapeInOf number (now (line .entry)) k ⌝ }
+fn shape_in(number: u32, line: &[u8], k: usize) -> NumberedGeometry
+    ensures { λ r. ⌜ asShape r ≡ shapeInOf number (now (line .entry)) k ⌝ }
 {
     let sizes = vec_at(line, k);
     PrimitiveGeometry::numbered(number, sizes.x, sizes.y, sizes.z)
@@ -49,32 +51,32 @@ pub fn shape_line(line: &[u8]) -> bool
     ensures { λ r. ⌜ r ≡ shapeLineOf (now (line .entry)) ⌝ }
 {
     match fields::read_whole(fields::part(line, b' ', 0)) {
-        ReadWhole::Whole(number) => {
-            if PrimitiveGeometry::LAST < number {
-                return false;
+        ReadWhole::Whole(number) => match shape_in(number, line, 1) {
+            NumberedGeometry::Shape(geometry) => {
+                let ray = Ray {
+                    origin: vec_at(line, 4),
+                    direction: vec_at(line, 7),
+                    wavelength_nm: 0.0,
+                    energy: 0.0,
+                };
+                let h = geometry.intersect_local(ray);
+                both(are_bits(line, 1, 10), is_local_hit(line, h))
             }
-            let ray = Ray {
-                origin: vec_at(line, 4),
-                direction: vec_at(line, 7),
-                wavelength_nm: 0.0,
-                energy: 0.0,
-            };
-            let h = shape_in(number, line, 1).intersect_local(ray);
-            both(are_bits(line, 1, 10), is_local_hit(line, h))
-        }
+            NumberedGeometry::Nothing => false,
+        },
         ReadWhole::Malformed => false,
     }
 }
 
-// The solid of a line: shape, active, sizes, matrix, inverse.
-fn object_in(number: u32, line: &[u8]) -> NonSeqObject
-    ensures { λ r. ⌜ r ≡ objectInOf number (now (line .entry)) ⌝ }
+// The solid of a line with its shape: active, matrix, inverse.
+fn object_in(geometry: PrimitiveGeometry, line: &[u8]) -> NonSeqObject
+    ensures { λ r. ⌜ r ≡ objectInOf geometry (now (line .entry)) ⌝ }
 {
     let matrix = mat_at(line, 5);
     let inverse = mat_at(line, 21);
     NonSeqObject {
         id: SolidNo(0),
-        geometry: shape_in(number, line, 2),
+        geometry,
         transform: Transform3D { matrix, inverse },
         is_active: is_whole(line, 1, 1),
     }
@@ -116,15 +118,15 @@ pub fn solid_line(line: &[u8]) -> bool
     ensures { λ r. ⌜ r ≡ solidLineOf (now (line .entry)) ⌝ }
 {
     match fields::read_whole(fields::part(line, b' ', 0)) {
-        ReadWhole::Whole(number) => {
-            if PrimitiveGeometry::LAST < number {
-                return false;
+        ReadWhole::Whole(number) => match shape_in(number, line, 2) {
+            NumberedGeometry::Shape(geometry) => {
+                let object = object_in(geometry, line);
+                let flag = is_whole(line, 1, one_if(object.is_active));
+                let ok = both(flag, are_bits(line, 2, 45));
+                both(ok, is_hit(line, object.intersect(ray_in(line))))
             }
-            let object = object_in(number, line);
-            let flag = is_whole(line, 1, one_if(object.is_active));
-            let ok = both(flag, are_bits(line, 2, 45));
-            both(ok, is_hit(line, object.intersect(ray_in(line))))
-        }
+            NumberedGeometry::Nothing => false,
+        },
         ReadWhole::Malformed => false,
     }
 }

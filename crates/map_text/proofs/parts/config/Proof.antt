@@ -28,6 +28,9 @@ value-requires-6 c κs = search needs
 numbered-requires : tie.Need-numbered-requires
 numbered-requires c κs = search needs
 
+or-air-requires : tie.Need-or-air-requires
+or-air-requires c κs = search needs
+
 whole-requires-2 : tie.Need-whole-requires-2
 whole-requires-2 c κs = search needs
 
@@ -37,14 +40,15 @@ value-requires-7 c κs = search needs
 returns : tie.Need-returns
 unfolding configOf
 returns c =
-    let value6 = c .before .before .before .value6 in
-    let value5 = c .before .before .before .before .value5 in
-    let value4 = c .before .before .before .before .before .value4 in
-    let value3 = c .before .before .before .before .before .before .value3 in
-    let value2 = c .before .before .before .before .before .before .before .value2 in
-    let at-value = c .before .before .before .before .before .before .before .before in
-    let value = at-value .value in
-    let whole = at-value .before .whole in
+    let numbered = c .before .before .before .numbered in
+    let value6 = c .before .before .before .before .value6 in
+    let value5 = c .before .before .before .before .before .value5 in
+    let value4 = c .before .before .before .before .before .before .value4 in
+    let value3 = c .before .before .before .before .before .before .before .value3 in
+    let at-value2 = c .before .before .before .before .before .before .before .before in
+    let value2 = at-value2 .value2 in
+    let value = at-value2 .before .value in
+    let whole = at-value2 .before .before .whole in
     simp (
       ← whole .ensures,
       ← value .ensures,
@@ -53,7 +57,8 @@ returns c =
       ← value4 .ensures,
       ← value5 .ensures,
       ← value6 .ensures,
-      ← c .before .before .numbered .ensures,
+      ← numbered .ensures,
+      ← c .before .before .or-air .ensures,
       ← c .before .whole2 .ensures,
       ← c .value7 .ensures,
     )
@@ -70,6 +75,7 @@ config-spec =
     value-requires-5
     value-requires-6
     numbered-requires
+    or-air-requires
     whole-requires-2
     value-requires-7
     returns)

@@ -1,7 +1,9 @@
 -- `scene::solids::approach_in` meets its contract. Assumes nothing.
 use borrow.Author.Tests.{eq-eqb, ne-eqb}
-use Rattle.scene.proofs.Parts.{approach-met, approach-missed, approach-inactive}
-use Rattle.scene.specs.Solids.{readObjectOf}
+use Rattle.scene.specs.Closest.{approachAtOf}
+use Rattle.scene.specs.Solids.{objectWith, readObjectOf, solidWith}
+use Rattle.scene.proofs.Parts.{approach-met, approach-missed, none-inactive}
+use mathlib.Core.Path.{refl}
 use borrow.Author.Needs.{needs}
 use Rattle.scene.proofs.solids.approach_in.Statement.{statement}
 use Rattle.scene.proofs.solids.approach_in.Tie as tie
@@ -27,38 +29,11 @@ add-mat-at c = search needs
 mat-at-requires : tie.Need-mat-at-requires
 mat-at-requires c κs = search needs
 
-mul-numbered : tie.Need-mul-numbered
-mul-numbered c = search needs
+shape-in-requires : tie.Need-shape-in-requires
+shape-in-requires c κs = search needs
 
-shared-slice-read-numbered : tie.Need-shared-slice-read-numbered
-shared-slice-read-numbered c = search needs
-
-mul-numbered-2 : tie.Need-mul-numbered-2
-mul-numbered-2 c = search needs
-
-shared-slice-read-numbered-2 : tie.Need-shared-slice-read-numbered-2
-shared-slice-read-numbered-2 c = search needs
-
-add-numbered : tie.Need-add-numbered
-add-numbered c = search needs
-
-mul-numbered-3 : tie.Need-mul-numbered-3
-mul-numbered-3 c = search needs
-
-shared-slice-read-numbered-3 : tie.Need-shared-slice-read-numbered-3
-shared-slice-read-numbered-3 c = search needs
-
-add-numbered-2 : tie.Need-add-numbered-2
-add-numbered-2 c = search needs
-
-mul-numbered-4 : tie.Need-mul-numbered-4
-mul-numbered-4 c = search needs
-
-shared-slice-read-numbered-4 : tie.Need-shared-slice-read-numbered-4
-shared-slice-read-numbered-4 c = search needs
-
-numbered-requires : tie.Need-numbered-requires
-numbered-requires c κs = search needs
+enum-known-geometry : tie.Need-enum-known-geometry
+enum-known-geometry c = search needs
 
 meet-requires : tie.Need-meet-requires
 meet-requires c κs = search needs
@@ -78,31 +53,39 @@ reached-requires c κs = search needs
 enum-told : tie.Need-enum-told
 enum-told c = search needs
 
+enum-told-2 : tie.Need-enum-told-2
+enum-told-2 c = search needs
+
 returns : tie.Need-returns
-unfolding readObjectOf
+unfolding approachAtOf objectWith readObjectOf solidWith
 returns c =
     let m = c .before .before .before .before .m in
     let meet = c .before .before .before .before .before .before .meet in
-    let at-numbered = c .before .before .before .before .before .before .before in
-    let numbered = at-numbered .numbered in
-    let mat-at = at-numbered .before .before .before .before .before .mat-at in
-    let if1 = at-numbered .before .before .before .before .before .before .if1 in
-    approach-met _ _ _ _ _ _ _ _ (eq-eqb _ _ (if1 .taken)) (numbered .ensures) (mat-at .ensures) (c .before .mat-at2 .ensures) (meet .ensures)
-    (m .given .1) (c .reached .ensures)
+    let at-geometry = c .before .before .before .before .before .before .before .before in
+    let geometry = at-geometry .geometry in
+    let shape-in = at-geometry .before .before .shape-in in
+    let mat-at = at-geometry .before .before .before .mat-at in
+    let if1 = at-geometry .before .before .before .before .if1 in
+    rw (← shape-in .ensures, geometry .given .1)
+    (approach-met _ _ _ _ _ _ _ _ (eq-eqb _ _ (if1 .taken)) refl (mat-at .ensures) (c .before .mat-at2 .ensures) (meet .ensures) (m .given .1) (c .reached .ensures))
 
 returns-2 : tie.Need-returns-2
-unfolding readObjectOf
+unfolding approachAtOf objectWith readObjectOf solidWith
 returns-2 c =
-    let numbered = c .before .before .before .numbered in
-    let at-mat-at = c .before .before .before .before .before .before .before .before in
-    let mat-at = at-mat-at .mat-at in
-    let if1 = at-mat-at .before .if1 in
-    approach-missed _ _ _ _ _ (eq-eqb _ _ (if1 .taken)) (numbered .ensures) (mat-at .ensures) (c .before .before .meet .ensures)
-    (c .enum-told .given .1)
+    let geometry = c .before .before .before .before .geometry in
+    let shape-in = c .before .before .before .before .before .before .shape-in in
+    let mat-at = c .before .before .before .before .before .before .before .mat-at in
+    let if1 = c .before .before .before .before .before .before .before .before .if1 in
+    rw (← shape-in .ensures, geometry .given .1)
+    (approach-missed _ _ _ _ _ (eq-eqb _ _ (if1 .taken)) refl (mat-at .ensures) (c .before .before .meet .ensures) (c .enum-told .given .1))
 
 returns-3 : tie.Need-returns-3
+unfolding approachAtOf objectWith readObjectOf
+returns-3 c = simp (← c .before .before .shape-in .ensures, c .enum-told2 .given .1)
+
+returns-4 : tie.Need-returns-4
 unfolding readObjectOf
-returns-3 c = approach-inactive _ _ (ne-eqb _ _ (c .if1 .left))
+returns-4 c = none-inactive _ _ _ _ _ (ne-eqb _ _ (c .if1 .left))
 
 pub approach-in-spec : {M : Type 1} → statement M
 approach-in-spec =
@@ -115,23 +98,16 @@ approach-in-spec =
     shared-slice-read-if1
     add-mat-at
     mat-at-requires
-    mul-numbered
-    shared-slice-read-numbered
-    mul-numbered-2
-    shared-slice-read-numbered-2
-    add-numbered
-    mul-numbered-3
-    shared-slice-read-numbered-3
-    add-numbered-2
-    mul-numbered-4
-    shared-slice-read-numbered-4
-    numbered-requires
+    shape-in-requires
+    enum-known-geometry
     meet-requires
     enum-known-m
     add-mat-at-2
     mat-at-requires-2
     reached-requires
     enum-told
+    enum-told-2
     returns
     returns-2
-    returns-3)
+    returns-3
+    returns-4)

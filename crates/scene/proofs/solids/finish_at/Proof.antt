@@ -1,5 +1,6 @@
 -- `scene::solids::finish_at` meets its contract. Assumes nothing.
 use borrow.Author.Tests.{le-leb, lt-leb}
+use Rattle.material.specs.Media.{orClearOf}
 use Rattle.scene.specs.Solids.{finishAtOf, holds}
 use borrow.Author.Needs.{needs}
 use Rattle.scene.proofs.solids.finish_at.Statement.{statement}
@@ -44,16 +45,22 @@ shared-slice-read-numbered-2 c = search needs
 numbered-requires : tie.Need-numbered-requires
 numbered-requires c κs = search needs
 
+or-clear-requires : tie.Need-or-clear-requires
+or-clear-requires c κs = search needs
+
 returns : tie.Need-returns
 unfolding finishAtOf holds
-returns c = simp (le-leb _ _ (c .before .before .before .before .if1 .taken), le-leb _ _ (c .before .before .before .if2 .taken), ← c .numbered .ensures)
+returns c =
+    let if2 = c .before .before .before .before .if2 in
+    let if1 = c .before .before .before .before .before .if1 in
+    simp (le-leb _ _ (if1 .taken), le-leb _ _ (if2 .taken), ← c .before .numbered .ensures, ← c .or-clear .ensures)
 
 returns-2 : tie.Need-returns-2
-unfolding finishAtOf holds
+unfolding finishAtOf holds orClearOf
 returns-2 c = simp (le-leb _ _ (c .before .if1 .taken), lt-leb _ _ (c .if2 .left))
 
 returns-3 : tie.Need-returns-3
-unfolding finishAtOf holds
+unfolding finishAtOf holds orClearOf
 returns-3 c = simp (lt-leb _ _ (c .if1 .left))
 
 pub finish-at-spec : {M : Type 1} → statement M
@@ -73,6 +80,7 @@ finish-at-spec =
     mul-numbered-2
     shared-slice-read-numbered-2
     numbered-requires
+    or-clear-requires
     returns
     returns-2
     returns-3)

@@ -1,5 +1,6 @@
 -- `scene::solids::medium_at` meets its contract. Assumes nothing.
 use borrow.Author.Tests.{le-leb, lt-leb}
+use Rattle.material.specs.Media.{orAirOf}
 use Rattle.scene.specs.Solids.{holds, mediumAtOf}
 use borrow.Author.Needs.{needs}
 use Rattle.scene.proofs.solids.medium_at.Statement.{statement}
@@ -89,20 +90,23 @@ shared-slice-read-numbered-7 c = search needs
 numbered-requires : tie.Need-numbered-requires
 numbered-requires c κs = search needs
 
+or-air-requires : tie.Need-or-air-requires
+or-air-requires c κs = search needs
+
 returns : tie.Need-returns
 unfolding holds mediumAtOf
 returns c =
-    let at-if2 = c .before .before .before .before .before .before .before .before in
-    let if2 = at-if2 .if2 in
-    let if1 = at-if2 .before .if1 in
-    simp (le-leb _ _ (if1 .taken), le-leb _ _ (if2 .taken), ← c .numbered .ensures)
+    let after-if2 = c .before .before .before .before .before .before .before .before in
+    let if2 = after-if2 .before .if2 in
+    let if1 = after-if2 .before .before .if1 in
+    simp (le-leb _ _ (if1 .taken), le-leb _ _ (if2 .taken), ← c .before .numbered .ensures, ← c .or-air .ensures)
 
 returns-2 : tie.Need-returns-2
-unfolding holds mediumAtOf
+unfolding holds mediumAtOf orAirOf
 returns-2 c = simp (le-leb _ _ (c .before .if1 .taken), lt-leb _ _ (c .if2 .left))
 
 returns-3 : tie.Need-returns-3
-unfolding holds mediumAtOf
+unfolding holds mediumAtOf orAirOf
 returns-3 c = simp (lt-leb _ _ (c .if1 .left))
 
 pub medium-at-spec : {M : Type 1} → statement M
@@ -137,6 +141,7 @@ medium-at-spec =
     mul-numbered-7
     shared-slice-read-numbered-7
     numbered-requires
+    or-air-requires
     returns
     returns-2
     returns-3)

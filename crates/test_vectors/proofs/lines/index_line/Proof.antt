@@ -1,6 +1,5 @@
 -- `test_vectors::lines::index_line` meets its contract. Assumes nothing.
-use borrow.Author.Tests.{lt-ltb, le-ltb}
-use Rattle.test_vectors.specs.Lines.{indexLineOf, indexOfMedium}
+use Rattle.test_vectors.specs.Lines.{indexAgrees, indexLineOf, indexOfMedium}
 use borrow.Author.Needs.{needs}
 use Rattle.test_vectors.proofs.lines.index_line.Statement.{statement}
 use Rattle.test_vectors.proofs.lines.index_line.Tie as tie
@@ -14,12 +13,11 @@ read-whole-requires c κs = search needs
 enum-known-number : tie.Need-enum-known-number
 enum-known-number c = search needs
 
-returns : tie.Need-returns
-unfolding indexLineOf indexOfMedium
-returns c =
-    let read-whole = c .before .before .before .before .read-whole in
-    let part = c .before .before .before .before .before .part in
-    simp (← part .ensures, ← read-whole .ensures, c .before .before .number .given .1, lt-ltb _ _ (c .if1 .taken))
+medium-requires : tie.Need-medium-requires
+medium-requires c κs = search needs
+
+enum-known-m : tie.Need-enum-known-m
+enum-known-m c = search needs
 
 has-shape-requires : tie.Need-has-shape-requires
 has-shape-requires c κs = search needs
@@ -29,9 +27,6 @@ are-bits-requires c κs = search needs
 
 both-requires : tie.Need-both-requires
 both-requires c κs = search needs
-
-medium-requires : tie.Need-medium-requires
-medium-requires c κs = search needs
 
 double-at-requires : tie.Need-double-at-requires
 double-at-requires c κs = search needs
@@ -48,37 +43,48 @@ both-requires-2 c κs = search needs
 enum-told : tie.Need-enum-told
 enum-told c = search needs
 
-returns-2 : tie.Need-returns-2
-unfolding indexLineOf indexOfMedium
-returns-2 c =
+enum-told-2 : tie.Need-enum-told-2
+enum-told-2 c = search needs
+
+returns : tie.Need-returns
+unfolding indexAgrees indexLineOf indexOfMedium
+returns c =
     let double-at = c .before .before .before .double-at in
-    let medium = c .before .before .before .before .medium in
-    let both = c .before .before .before .before .before .both in
-    let are-bits = c .before .before .before .before .before .before .are-bits in
-    let has-shape = c .before .before .before .before .before .before .before .has-shape in
-    let at-if1 = c .before .before .before .before .before .before .before .before in
-    let if1 = at-if1 .if1 in
-    let number = at-if1 .before .before .number in
-    let read-whole = at-if1 .before .before .before .before .read-whole in
-    let part = at-if1 .before .before .before .before .before .part in
+    let both = c .before .before .before .before .both in
+    let are-bits = c .before .before .before .before .before .are-bits in
+    let has-shape = c .before .before .before .before .before .before .has-shape in
+    let at-m = c .before .before .before .before .before .before .before .before in
+    let m = at-m .m in
+    let medium = at-m .before .before .medium in
+    let number = at-m .before .before .before .before .number in
+    let read-whole = at-m .before .before .before .before .before .before .read-whole in
+    let part = at-m .before .before .before .before .before .before .before .part in
     simp (
       ← part .ensures,
       ← read-whole .ensures,
       number .given .1,
-      le-ltb _ _ (if1 .left),
+      ← medium .ensures,
+      m .given .1,
       ← has-shape .ensures,
       ← are-bits .ensures,
       ← both .ensures,
-      ← medium .ensures,
       ← double-at .ensures,
       ← c .before .before .refractive-index .ensures,
       ← c .before .is-answer .ensures,
       ← c .both2 .ensures,
     )
 
+returns-2 : tie.Need-returns-2
+unfolding indexAgrees indexLineOf indexOfMedium
+returns-2 c =
+    let number = c .before .before .before .before .number in
+    let read-whole = c .before .before .before .before .before .before .read-whole in
+    let part = c .before .before .before .before .before .before .before .part in
+    simp (← part .ensures, ← read-whole .ensures, number .given .1, ← c .before .before .medium .ensures, c .enum-told .given .1)
+
 returns-3 : tie.Need-returns-3
-unfolding indexLineOf indexOfMedium
-returns-3 c = simp (← c .before .before .before .part .ensures, ← c .before .before .read-whole .ensures, c .enum-told .given .1)
+unfolding indexAgrees indexLineOf indexOfMedium
+returns-3 c = simp (← c .before .before .before .part .ensures, ← c .before .before .read-whole .ensures, c .enum-told2 .given .1)
 
 pub index-line-spec : {M : Type 1} → statement M
 index-line-spec =
@@ -87,15 +93,17 @@ index-line-spec =
     part-requires
     read-whole-requires
     enum-known-number
-    returns
+    medium-requires
+    enum-known-m
     has-shape-requires
     are-bits-requires
     both-requires
-    medium-requires
     double-at-requires
     refractive-index-requires
     is-answer-requires
     both-requires-2
     enum-told
+    enum-told-2
+    returns
     returns-2
     returns-3)

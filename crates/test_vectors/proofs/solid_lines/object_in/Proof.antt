@@ -10,17 +10,12 @@ mat-at-requires c κs = search needs
 mat-at-requires-2 : tie.Need-mat-at-requires-2
 mat-at-requires-2 c κs = search needs
 
-shape-in-requires : tie.Need-shape-in-requires
-shape-in-requires c κs = search needs
-
 is-whole-requires : tie.Need-is-whole-requires
 is-whole-requires c κs = search needs
 
 returns : tie.Need-returns
 unfolding objectInOf
-returns c = simp (← c .before .before .before .mat-at .ensures, ← c .before .before .mat-at2 .ensures, ← c .before .shape-in .ensures, ← c .is-whole .ensures)
+returns c = simp (← c .before .before .mat-at .ensures, ← c .before .mat-at2 .ensures, ← c .is-whole .ensures)
 
 pub object-in-spec : {M : Type 1} → statement M
-object-in-spec =
-    tie.close
-    (tie.spec mat-at-requires mat-at-requires-2 shape-in-requires is-whole-requires returns)
+object-in-spec = tie.close (tie.spec mat-at-requires mat-at-requires-2 is-whole-requires returns)

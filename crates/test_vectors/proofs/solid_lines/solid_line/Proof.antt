@@ -1,6 +1,5 @@
 -- `test_vectors::solid_lines::solid_line` meets its contract. Assumes nothing.
-use borrow.Author.Tests.{lt-ltb, le-ltb}
-use Rattle.test_vectors.specs.SolidLines.{solidLineOf, solidNumbered}
+use Rattle.test_vectors.specs.SolidLines.{solidAgrees, solidLineOf, solidNumbered}
 use borrow.Author.Needs.{needs}
 use Rattle.test_vectors.proofs.solid_lines.solid_line.Statement.{statement}
 use Rattle.test_vectors.proofs.solid_lines.solid_line.Tie as tie
@@ -14,12 +13,11 @@ read-whole-requires c κs = search needs
 enum-known-number : tie.Need-enum-known-number
 enum-known-number c = search needs
 
-returns : tie.Need-returns
-unfolding solidLineOf solidNumbered
-returns c =
-    let read-whole = c .before .before .before .before .read-whole in
-    let part = c .before .before .before .before .before .part in
-    simp (← part .ensures, ← read-whole .ensures, c .before .before .number .given .1, lt-ltb _ _ (c .if1 .taken))
+shape-in-requires : tie.Need-shape-in-requires
+shape-in-requires c κs = search needs
+
+enum-known-geometry : tie.Need-enum-known-geometry
+enum-known-geometry c = search needs
 
 object-in-requires : tie.Need-object-in-requires
 object-in-requires c κs = search needs
@@ -51,9 +49,12 @@ both-requires-2 c κs = search needs
 enum-told : tie.Need-enum-told
 enum-told c = search needs
 
-returns-2 : tie.Need-returns-2
-unfolding solidLineOf solidNumbered
-returns-2 c =
+enum-told-2 : tie.Need-enum-told-2
+enum-told-2 c = search needs
+
+returns : tie.Need-returns
+unfolding solidAgrees solidLineOf solidNumbered
+returns c =
     let ray-in = c .before .before .before .ray-in in
     let both = c .before .before .before .before .both in
     let are-bits = c .before .before .before .before .before .are-bits in
@@ -61,15 +62,18 @@ returns-2 c =
     let one-if = c .before .before .before .before .before .before .before .one-if in
     let at-object-in = c .before .before .before .before .before .before .before .before in
     let object-in = at-object-in .object-in in
-    let if1 = at-object-in .before .if1 in
-    let number = at-object-in .before .before .before .number in
-    let read-whole = at-object-in .before .before .before .before .before .read-whole in
-    let part = at-object-in .before .before .before .before .before .before .part in
+    let geometry = at-object-in .before .before .geometry in
+    let shape-in = at-object-in .before .before .before .before .shape-in in
+    let number = at-object-in .before .before .before .before .before .before .number in
+    let at-read-whole = at-object-in .before .before .before .before .before .before .before .before in
+    let read-whole = at-read-whole .read-whole in
+    let part = at-read-whole .before .part in
     simp (
       ← part .ensures,
       ← read-whole .ensures,
       number .given .1,
-      le-ltb _ _ (if1 .left),
+      ← shape-in .ensures,
+      geometry .given .1,
       ← object-in .ensures,
       ← one-if .ensures,
       ← is-whole .ensures,
@@ -81,9 +85,17 @@ returns-2 c =
       ← c .both2 .ensures,
     )
 
+returns-2 : tie.Need-returns-2
+unfolding solidAgrees solidLineOf solidNumbered
+returns-2 c =
+    let number = c .before .before .before .before .number in
+    let read-whole = c .before .before .before .before .before .before .read-whole in
+    let part = c .before .before .before .before .before .before .before .part in
+    simp (← part .ensures, ← read-whole .ensures, number .given .1, ← c .before .before .shape-in .ensures, c .enum-told .given .1)
+
 returns-3 : tie.Need-returns-3
-unfolding solidLineOf solidNumbered
-returns-3 c = simp (← c .before .before .before .part .ensures, ← c .before .before .read-whole .ensures, c .enum-told .given .1)
+unfolding solidAgrees solidLineOf solidNumbered
+returns-3 c = simp (← c .before .before .before .part .ensures, ← c .before .before .read-whole .ensures, c .enum-told2 .given .1)
 
 pub solid-line-spec : {M : Type 1} → statement M
 solid-line-spec =
@@ -92,7 +104,8 @@ solid-line-spec =
     part-requires
     read-whole-requires
     enum-known-number
-    returns
+    shape-in-requires
+    enum-known-geometry
     object-in-requires
     one-if-requires
     is-whole-requires
@@ -103,5 +116,7 @@ solid-line-spec =
     is-hit-requires
     both-requires-2
     enum-told
+    enum-told-2
+    returns
     returns-2
     returns-3)
