@@ -10,7 +10,7 @@ use Rattle.doubles.specs.Root.{sqrtOf}
 use Rattle.error.specs.Refusals.{passed, refusedAt}
 use Rattle.rays.specs.declared.Ray.{Ray}
 use Rattle.rays.specs.declared.matrix.Mat4.{Mat4}
-use Rattle.rays.specs.Rays.{atOf, newRayOf, isFiniteRayOf}
+use Rattle.rays.specs.Rays.{atOf, newRayOf, isFiniteRayOf, isValidRayOf}
 use Rattle.rays.specs.Vectors.{vec3, dotOf, plusOf, minusOf, scaleOf, divideOf, negateOf, normOf, isFiniteVecOf}
 use Rattle.rays.specs.Matrices.{rowTimesOf, timesOf, transposeOf, transformPointOf, transformDirectionOf, transformNormalOf}
 use Rattle.geometry.specs.declared.PrimitiveGeometry.the-variants.{Sphere}
@@ -33,11 +33,6 @@ zeros a (suc n) = a ∷ zeros a n
 
 -- ---- refusals
 
--- no solids, no hit
-pub empty-scene : (r : Ray) → intersectClosestObjectOf [] [] 0 r ≡ passed none
-unfolding intersectClosestObjectOf checkSolidsOf checkTagsOf closestObjectOf nearestAmong nearestFrom
-empty-scene r = refl
-
 -- one solid announced and none given
 pub short-lists : (r : Ray) → intersectClosestObjectOf [] [] 1 r ≡ refusedAt 17 0
 unfolding intersectClosestObjectOf checkSolidsOf
@@ -48,10 +43,22 @@ pub shape-9 : (r : Ray) → intersectClosestObjectOf (zeros #0 84) (0 ∷ 0 ∷ 
 unfolding intersectClosestObjectOf checkSolidsOf checkTagsOf tagsFitOf
 shape-9 r = refl
 
--- 33 solids
+-- 33 solids, whatever the ray
 pub too-many : (r : Ray) → intersectClosestObjectOf (zeros #0 1386) (zeros 0 132) 33 r ≡ refusedAt 3 0
 unfolding intersectClosestObjectOf checkSolidsOf checkTagsOf tagsFitOf
 too-many r = refl
+
+-- no solids, and a ray along +z with a direction of length l
+abbrev along : Float → Ray
+along l = record { origin = vec3 #0 #0 #0; direction = vec3 #0 #0 l; «wavelength_nm» = #1; energy = #1 }
+
+pub no-hit : intersectClosestObjectOf [] [] 0 (along #1) ≡ passed none
+unfolding intersectClosestObjectOf checkSolidsOf checkTagsOf closestObjectOf nearestAmong nearestFrom isValidRayOf isFiniteRayOf isFiniteVecOf isFiniteOf absOf dotOf add sub mul lt le ofBits
+no-hit = refl
+
+pub long-direction : intersectClosestObjectOf [] [] 0 (along #2) ≡ refusedAt 10 0
+unfolding intersectClosestObjectOf checkSolidsOf checkTagsOf isValidRayOf isFiniteRayOf isFiniteVecOf isFiniteOf absOf dotOf add sub mul lt le ofBits
+long-direction = refl
 
 -- ---- a sphere of radius 1 at (0, 0, 10), twice as long along z, met from the origin along +z: 4 away in its own coordinates, 8 in the world
 
@@ -74,9 +81,6 @@ long-sphere =
       «is_active» = true;
     }
 
-abbrev ahead : Ray
-ahead = record { origin = vec3 #0 #0 #0; direction = vec3 #0 #0 #1; «wavelength_nm» = #1; energy = #1 }
-
-pub world-distance : intersectOf long-sphere ahead ≡ some (record { t = #8; point = vec3 #0 #0 #8; normal = vec3 #0 #0 (neg #1); «geometric_normal» = vec3 #0 #0 (neg #1); «object_id» = record { 0 = 3 }; entering = true })
+pub world-distance : intersectOf long-sphere (along #1) ≡ some (record { t = #8; point = vec3 #0 #0 #8; normal = vec3 #0 #0 (neg #1); «geometric_normal» = vec3 #0 #0 (neg #1); «object_id» = record { 0 = 3 }; entering = true })
 unfolding intersectOf arriveFrom arriveOf arriveWith turnedOf facingOf approachOf approachFrom approachAlong approachBy approachPoint inverseTransformRayOf rayAlong unitOf madeRay worldNormalOf intersectLocalOf intersectSphereOf sphereAmongOf sphereAtOf solveOf firstThere rowTimesOf timesOf transposeOf transformPointOf transformDirectionOf transformNormalOf atOf newRayOf isFiniteRayOf dotOf plusOf minusOf scaleOf divideOf negateOf normOf isFiniteVecOf sqrtOf absOf isFiniteOf add sub mul div neg lt le ofBits toBits
 world-distance = refl

@@ -7,6 +7,7 @@ use lib.Dec.{leb}
 use lib.Ieee.{Float}
 use Rattle.error.specs.Refusals.{numberOf, Checked, passed, refusedAt, after}
 use Rattle.rays.specs.declared.Ray.{Ray}
+use Rattle.rays.specs.Rays.{isValidRayOf}
 use Rattle.nearest.specs.Nearest.{nearestAmong}
 use Rattle.scene.specs.declared.NonSeqObject.{NonSeqObject}
 use Rattle.scene.specs.declared.NonSeqHit.{NonSeqHit}
@@ -32,10 +33,11 @@ offersIn f r i = offerBy (f i) r
 unfoldable pub closestObjectOf : (ℕ → Option NonSeqObject) → ℕ → Ray → Option NonSeqHit
 closestObjectOf f n r = nearestAmong NonSeqHit hitDistance (offersIn f r) n
 
--- 17, then 3 for more than 32 solids, then the search
+-- 17, then 3 for more than 32 solids, then 10, then the search
 unfoldable pub intersectClosestObjectOf : List Float → List ℕ → ℕ → Ray → Checked (Option NonSeqHit)
 intersectClosestObjectOf x k n r =
-    after (checkSolidsOf x k n) (cond (leb n maxSolids) (passed (closestObjectOf (objectAtOf x k) n r)) (refusedAt 3 0))
+    after (checkSolidsOf x k n) (cond (leb n maxSolids)
+    (cond (isValidRayOf r) (passed (closestObjectOf (objectAtOf x k) n r)) (refusedAt 10 0)) (refusedAt 3 0))
 
 -- what the code's answer says
 abbrev pub asClosest : Closest → Checked (Option NonSeqHit)

@@ -135,8 +135,8 @@ fn closest_strictly(solid_values: &[f64], solid_tags: &[u32], count: u32, ray: R
     }
 }
 
-// The nearest of the first `count` solids, passing over what is no solid of these lists: for callers
-// that have checked them. Only the nearest approach gets a normal; where that can't be made, the search is
+// The nearest of the first `count` solids along any ray, passing over what is no solid of these lists: for
+// callers that have checked them. Only the nearest approach gets a normal; where that can't be made, the search is
 // made again.
 pub fn closest_object(
     solid_values: &[f64],
@@ -158,7 +158,7 @@ pub fn closest_object(
     }
 }
 
-// The nearest solid. Lists that do not fit are refused (17), then more than 32 solids (3).
+// The nearest solid. Lists that do not fit are refused (17), then more than 32 solids (3), then the ray (10).
 pub fn intersect_closest_object(
     solid_values: &[f64],
     solid_tags: &[u32],
@@ -171,7 +171,13 @@ pub fn intersect_closest_object(
         Check::Refused { error, place } => Closest::Refused { error, place },
         Check::Passed => {
             if count <= MAX_SOLIDS {
-                return Closest::Found(closest_object(solid_values, solid_tags, count, ray));
+                if ray.is_valid() {
+                    return Closest::Found(closest_object(solid_values, solid_tags, count, ray));
+                }
+                return Closest::Refused {
+                    error: NonSeqError::InvalidRay,
+                    place: 0,
+                };
             }
             Closest::Refused {
                 error: NonSeqError::ListTooLong,
