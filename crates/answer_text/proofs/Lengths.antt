@@ -23,7 +23,7 @@ use Rattle.detector.specs.declared.DetectorHit.{DetectorHit}
 use Rattle.memory.specs.Memory.{hitsFrom, isHitListOf, textPixels}
 use Rattle.filter.specs.declared.RayPathFilter.{RayPathFilter}
 use Rattle.filter.specs.declared.RayPathFilter.the-variants.{SignalOnly, StrayLight}
-use Rattle.filter.specs.Filters.{Map, isAllOf, zeros, addAtOf, addHitOf, plusEach, passing, refillOf}
+use Rattle.filter.specs.Filters.{Map, isAllOf, zeros, addAtOf, addHitOf, plusEach, passesOf, passing, refillOf}
 use Rattle.filter.specs.Handed.{handed, fromMap, checkPlaced, checkFilterOf, refilterPlaced, storedPartOf, partPlaced, filteredPlaced, filteredPixelFluxOf}
 use Rattle.report.specs.declared.NonSeqTraceReport.{NonSeqTraceReport}
 use Rattle.report.specs.declared.tallies.Tallies.{Tallies}
@@ -78,9 +78,9 @@ unfolding plusEach addHitOf addAtOf
 each-length d m [] = refl
 each-length d m (h ∷ b) = each-length d (addHitOf d m h) b ∙ length-set (m .flux) _ _
 
-refilled-length : (f : RayPathFilter) (asked : DetectorNo) (d : Detector2D) (n : ℕ) (hits : List DetectorHit) → length (refillOf f asked d n hits .flux) ≡ n
+refilled-length : (wanted : DetectorHit → Bool) (d : Detector2D) (n : ℕ) (hits : List DetectorHit) → length (refillOf wanted d n hits .flux) ≡ n
 unfolding refillOf
-refilled-length f asked d n hits = each-length d (zeros n) (passing f asked hits) ∙ length-replicate n #0
+refilled-length wanted d n hits = each-length d (zeros n) (passing wanted hits) ∙ length-replicate n #0
 
 -- no more than the detector's pixels
 part-short : (f : RayPathFilter) (asked : DetectorNo) (stored work : List Float) (hits : List DetectorHit) (p : Placed) → length work ≡ pixelsOf (p .detector)
@@ -89,10 +89,10 @@ unfolding filteredPlaced refilterPlaced partPlaced storedPartOf
 part-short f asked stored work hits p e = go (isAllOf f)
   where
     go : (b : Bool)
-        → length (cond b (take (pixelsOf (p .detector)) (drop (p .first) stored)) (cond b (handed (passed tt) work (p .detector .«total_flux_watts») (p .detector .«total_rays_hit»)) (fromMap (refillOf f asked (p .detector) (length work) hits)) .map))
+        → length (cond b (take (pixelsOf (p .detector)) (drop (p .first) stored)) (cond b (handed (passed tt) work (p .detector .«total_flux_watts») (p .detector .«total_rays_hit»)) (fromMap (refillOf (passesOf f asked) (p .detector) (length work) hits)) .map))
         ≤ pixelsOf (p .detector)
     go true = rw (length-take (pixelsOf (p .detector)) (drop (p .first) stored)) (min-le-left (pixelsOf (p .detector)) (length (drop (p .first) stored)))
-    go false = omega (arith, refilled-length f asked (p .detector) (length work) hits, e)
+    go false = omega (arith, refilled-length (passesOf f asked) (p .detector) (length work) hits, e)
 
 part-none : (f : RayPathFilter) (asked : DetectorNo) (stored work : List Float) (hits : List DetectorHit) (n place : ℕ) → length (filteredPlaced f asked stored work hits (refusedAt n place) .map) ≡ 0
 unfolding filteredPlaced partPlaced

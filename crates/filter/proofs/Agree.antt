@@ -16,7 +16,6 @@ use Rattle.detectors.specs.Detectors.{detectorAt, firstPixelOf}
 use Rattle.memory.specs.Memory.{Memory, listed}
 use Rattle.memory.specs.Plain.{Empty, View, partIn, viewIn, plusHit, plusAll}
 use Rattle.memory.proofs.Booked.{Booked, booked-view, booked-pixels, booked-pixel}
-use Rattle.filter.specs.declared.RayPathFilter.{RayPathFilter}
 use Rattle.filter.specs.declared.RayPathFilter.the-variants.{All}
 use Rattle.filter.specs.Filters.{Map, zeros, addAtOf, addHitOf, plusEach, passesOf, passing, refillOf}
 use Rattle.doubles.specs.Doubles.{#0}
@@ -35,14 +34,14 @@ and-true true = refl
 and-true false = refl
 
 -- adding a detector's hits to its view is adding those that pass All
-views-flux : (e : Detector2D) (d : DetectorNo) (b : List DetectorHit) (v : View) → mapInView (plusAll (d .0) e v b) ≡ plusEach e (mapInView v) (passing All d b)
+views-flux : (e : Detector2D) (d : DetectorNo) (b : List DetectorHit) (v : View) → mapInView (plusAll (d .0) e v b) ≡ plusEach e (mapInView v) (passing (passesOf All d) b)
 unfolding plusAll plusEach passing passesOf
 views-flux e d [] v = refl
 views-flux e d (h ∷ b) v = rw (and-true (eqb (h .detector .0) (d .0))) (go (eqb (h .detector .0) (d .0)) (views-flux e d b v) (views-flux e d b (plusHit e v h)))
   where
-    go : (x : Bool) → mapInView (plusAll (d .0) e v b) ≡ plusEach e (mapInView v) (passing All d b) → mapInView (plusAll (d .0) e (plusHit e v h) b) ≡ plusEach e (mapInView (plusHit e v h)) (passing All d b)
-        → mapInView (plusAll (d .0) e (cond x (plusHit e v h) v) b) ≡ plusEach e (mapInView v) (cond x (h ∷ passing All d b) (passing All d b))
-    go true p q = q ∙ ap (λ m. plusEach e m (passing All d b)) (plus-flux e v h)
+    go : (x : Bool) → mapInView (plusAll (d .0) e v b) ≡ plusEach e (mapInView v) (passing (passesOf All d) b) → mapInView (plusAll (d .0) e (plusHit e v h) b) ≡ plusEach e (mapInView (plusHit e v h)) (passing (passesOf All d) b)
+        → mapInView (plusAll (d .0) e (cond x (plusHit e v h) v) b) ≡ plusEach e (mapInView v) (cond x (h ∷ passing (passesOf All d) b) (passing (passesOf All d) b))
+    go true p q = q ∙ ap (λ m. plusEach e m (passing (passesOf All d) b)) (plus-flux e v h)
     go false p q = p
 
 -- ---- an empty map's part
@@ -74,16 +73,16 @@ module _ (s : Memory) (eight : length (s .detectors .list) ≡ 8) (empty : Empty
   start = rw (empty .totals (d .0) there, empty .counts (d .0) there, zero-part #0 (firstPixelOf (s .detectors .list) (d .0)) (pixelsOf (detectorAt (s .detectors .list) (d .0))) (s .flux) within (empty .flux))
 
   -- the stored map, total and count are those that All would make anew
-  pub all-agrees : mapInView (viewIn m (d .0)) ≡ refillOf All d own (pixelsOf own) (listed m)
+  pub all-agrees : mapInView (viewIn m (d .0)) ≡ refillOf (passesOf All d) own (pixelsOf own) (listed m)
   unfolding refillOf
   all-agrees =
       ap mapInView (booked-view s eight empty m (d .0) booked)
       ∙ views-flux (detectorAt (s .detectors .list) (d .0)) d (listed m) (viewIn s (d .0))
-      ∙ ap (λ z. plusEach (detectorAt (s .detectors .list) (d .0)) z (passing All d (listed m))) start
-      ∙ sym (each-same (detectorAt (s .detectors .list) (d .0)) own (booked-pixel s eight empty m (d .0) booked) (passing All d (listed m)) _)
-      ∙ ap (λ n. plusEach own (zeros n) (passing All d (listed m))) (sym (booked-pixels s eight empty m (d .0) booked))
+      ∙ ap (λ z. plusEach (detectorAt (s .detectors .list) (d .0)) z (passing (passesOf All d) (listed m))) start
+      ∙ sym (each-same (detectorAt (s .detectors .list) (d .0)) own (booked-pixel s eight empty m (d .0) booked) (passing (passesOf All d) (listed m)) _)
+      ∙ ap (λ n. plusEach own (zeros n) (passing (passesOf All d) (listed m))) (sym (booked-pixels s eight empty m (d .0) booked))
 
-  -- so are those of any filter that lets all of the detector's hits through
-  pub full-agrees : (f : RayPathFilter) → passing f d (listed m) ≡ passing All d (listed m) → refillOf f d own (pixelsOf own) (listed m) ≡ mapInView (viewIn m (d .0))
+  -- so are those of any choice of hits that takes just the detector's
+  pub full-agrees : (wanted : DetectorHit → Bool) → passing wanted (listed m) ≡ passing (passesOf All d) (listed m) → refillOf wanted own (pixelsOf own) (listed m) ≡ mapInView (viewIn m (d .0))
   unfolding refillOf
-  full-agrees f e = ap (plusEach own (zeros (pixelsOf own))) e ∙ sym all-agrees
+  full-agrees wanted e = ap (plusEach own (zeros (pixelsOf own))) e ∙ sym all-agrees

@@ -23,7 +23,7 @@ use Rattle.detectors.specs.Detectors.{allPixelsOf, placedOf, findOf, asFound}
 use Rattle.memory.specs.Memory.{hitsFrom, isHitListOf}
 use Rattle.detectors.proofs.Passed.{asked-there, part-in}
 use Rattle.filter.specs.declared.RayPathFilter.{RayPathFilter}
-use Rattle.filter.specs.Filters.{Map, isAllOf, refillOf}
+use Rattle.filter.specs.Filters.{Map, isAllOf, passesOf, refillOf}
 use Rattle.filter.specs.Handed.{handed, fromMap, checkPlaced, checkFilterOf, refilterPlaced, refilterOf, storedPartOf, partPlaced, filteredPartOf, filteredPlaced, filteredPixelFluxOf, numbered, inNumbers}
 use Rattle.doubles.specs.Doubles.{#0}
 
@@ -62,7 +62,7 @@ module _ (ds : Detectors) (asked : DetectorNo) (f : RayPathFilter) (stored work 
     unfolding refilterOf refilterPlaced
     refilter-all t = rw (← said, k, ← told, t)
 
-    pub refilter-sifted : b ≡ false → (m : Map) → m ≡ refillOf f asked (p .detector) (length work) hits → fromMap m ≡ refilterOf ds asked f stored work values tags used
+    pub refilter-sifted : b ≡ false → (m : Map) → m ≡ refillOf (passesOf f asked) (p .detector) (length work) hits → fromMap m ≡ refilterOf ds asked f stored work values tags used
     unfolding refilterOf refilterPlaced
     refilter-sifted t m e = rw (← said, k, ← told, t, e)
 
@@ -79,7 +79,7 @@ module _ (ds : Detectors) (asked : DetectorNo) (f : RayPathFilter) (stored work 
     unfolding filteredPixelFluxOf filteredPlaced refilterPlaced partPlaced
     flux-all t w e = rw (e, ← said, k, ← told, t)
 
-    pub flux-sifted : b ≡ false → (m : Map) → m ≡ refillOf f asked (p .detector) (length work) hits → fromMap m ≡ filteredPixelFluxOf ds asked f stored work values tags used
+    pub flux-sifted : b ≡ false → (m : Map) → m ≡ refillOf (passesOf f asked) (p .detector) (length work) hits → fromMap m ≡ filteredPixelFluxOf ds asked f stored work values tags used
     unfolding filteredPixelFluxOf filteredPlaced refilterPlaced partPlaced
     flux-sifted t m e = rw (← said, k, ← told, t, e)
 

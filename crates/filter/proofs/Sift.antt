@@ -9,13 +9,11 @@ use native.Mathlib.Omega.{arith}
 use lib.Ieee.{Float, binary64, add}
 use lib.ListN.{length, set, drop, replicate, length-replicate}
 use lib.Seq.{set-out}
-use Rattle.detector.specs.declared.DetectorNo.{DetectorNo}
 use Rattle.detector.specs.declared.Detector2D.{Detector2D}
 use Rattle.detector.specs.Pixels.{pixelAtOf}
 use Rattle.detector.specs.declared.DetectorHit.{DetectorHit}
 use Rattle.memory.specs.Memory.{hitAtOf, hitsFrom}
-use Rattle.filter.specs.declared.RayPathFilter.{RayPathFilter}
-use Rattle.filter.specs.Filters.{Map, addAtOf, addHitOf, plusEach, passesOf, passing, siftHitOf, refillOf}
+use Rattle.filter.specs.Filters.{Map, addAtOf, addHitOf, plusEach, passing, siftHitOf, refillOf}
 use Rattle.doubles.specs.Doubles.{#0}
 
 -- ---- clearing
@@ -39,40 +37,40 @@ pub plus-is : (d : Detector2D) (m : Map) (h : DetectorHit) (p : ℕ) (w : List F
 unfolding addHitOf
 plus-is d m h p w e f = rw (f, e)
 
--- ---- the loop over the listed hits
+-- ---- the loop over the listed hits, whichever of them are wanted
 
-module _ (f : RayPathFilter) (asked : DetectorNo) (d : Detector2D) where
+module _ (wanted : DetectorHit → Bool) (d : Detector2D) where
   pub sift-start : (w : List Float) (n : ℕ) (v : List Float) (t : List ℕ) (used : ℕ) → w ≡ replicate n #0
-      → plusEach d (record { flux = w; total = #0; count = 0 }) (passing f asked (hitsFrom v t (used - 0) 0)) ≡ refillOf f asked d (length w) (hitsFrom v t used 0)
+      → plusEach d (record { flux = w; total = #0; count = 0 }) (passing wanted (hitsFrom v t (used - 0) 0)) ≡ refillOf wanted d (length w) (hitsFrom v t used 0)
   unfolding refillOf
   sift-start w n v t used e = let q : used - 0 ≡ used = omega arith in rw (q, e, length-replicate)
 
-  one : (m : Map) (h : DetectorHit) (b : List DetectorHit) → plusEach d m (passing f asked (h ∷ b)) ≡ plusEach d (siftHitOf f asked d m h) (passing f asked b)
+  one : (m : Map) (h : DetectorHit) (b : List DetectorHit) → plusEach d m (passing wanted (h ∷ b)) ≡ plusEach d (siftHitOf wanted d m h) (passing wanted b)
   unfolding plusEach passing siftHitOf
-  one m h b = go (passesOf f asked h)
+  one m h b = go (wanted h)
     where
-      go : (x : Bool) → plusEach d m (cond x (h ∷ passing f asked b) (passing f asked b)) ≡ plusEach d (cond x (addHitOf d m h) m) (passing f asked b)
+      go : (x : Bool) → plusEach d m (cond x (h ∷ passing wanted b) (passing wanted b)) ≡ plusEach d (cond x (addHitOf d m h) m) (passing wanted b)
       go true = refl
       go false = refl
 
-  pub sift-again : (m k z : Map) (v : List Float) (t : List ℕ) (used i : ℕ) (h : DetectorHit) → i < used → h ≡ hitAtOf v t i → k ≡ siftHitOf f asked d m h
-      → plusEach d m (passing f asked (hitsFrom v t (used - i) i)) ≡ z → plusEach d k (passing f asked (hitsFrom v t (used - (i + 1)) (i + 1))) ≡ z
+  pub sift-again : (m k z : Map) (v : List Float) (t : List ℕ) (used i : ℕ) (h : DetectorHit) → i < used → h ≡ hitAtOf v t i → k ≡ siftHitOf wanted d m h
+      → plusEach d m (passing wanted (hitsFrom v t (used - i) i)) ≡ z → plusEach d k (passing wanted (hitsFrom v t (used - (i + 1)) (i + 1))) ≡ z
   unfolding hitsFrom
   sift-again m k z v t used i h p eh ek e =
       let q : used - i ≡ suc (used - (i + 1)) = omega arith in
       rw (ek, eh) (sym (one m (hitAtOf v t i) (hitsFrom v t (used - (i + 1)) (i + 1))) ∙ (rw q at e))
 
-  pub sift-end : (m z : Map) (v : List Float) (t : List ℕ) (used i : ℕ) → used ≤ i → plusEach d m (passing f asked (hitsFrom v t (used - i) i)) ≡ z → m ≡ z
+  pub sift-end : (m z : Map) (v : List Float) (t : List ℕ) (used i : ℕ) → used ≤ i → plusEach d m (passing wanted (hitsFrom v t (used - i) i)) ≡ z → m ≡ z
   unfolding plusEach passing hitsFrom
   sift-end m z v t used i p e = let q : used - i ≡ 0 = omega arith in rw q at e
 
-  pub same-room : (m : Map) (w : List Float) (n : ℕ) (hits : List DetectorHit) → w ≡ replicate n #0 → m ≡ refillOf f asked d (length w) hits → m ≡ refillOf f asked d n hits
-  same-room m w n hits e g = g ∙ ap (λ k. refillOf f asked d k hits) (ap length e ∙ length-replicate n #0)
+  pub same-room : (m : Map) (w : List Float) (n : ℕ) (hits : List DetectorHit) → w ≡ replicate n #0 → m ≡ refillOf wanted d (length w) hits → m ≡ refillOf wanted d n hits
+  same-room m w n hits e g = g ∙ ap (λ k. refillOf wanted d k hits) (ap length e ∙ length-replicate n #0)
 
   -- a hit raises the count by one at most
-  pub turn-count : (m k : Map) (h : DetectorHit) → k ≡ siftHitOf f asked d m h → k .count ≤ m .count + 1
+  pub turn-count : (m k : Map) (h : DetectorHit) → k ≡ siftHitOf wanted d m h → k .count ≤ m .count + 1
   unfolding siftHitOf addHitOf
-  turn-count m k h e = rw e (go (passesOf f asked h))
+  turn-count m k h e = rw e (go (wanted h))
     where
       go : (x : Bool) → cond x (addHitOf d m h) m .count ≤ m .count + 1
       go true = omega arith

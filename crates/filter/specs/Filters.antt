@@ -67,19 +67,21 @@ unfoldable pub plusEach : Detector2D → Map → List DetectorHit → Map
 plusEach d m [] = m
 plusEach d m (h ∷ b) = plusEach d (addHitOf d m h) b
 
--- of detector `asked`, and let through
+-- the hits that a filter wants: of detector `asked`, and let through
 unfoldable pub passesOf : RayPathFilter → DetectorNo → DetectorHit → Bool
 passesOf f asked h = eqb (h .detector .0) (asked .0) && letsOf f (h .«reflection_count») (h .«tir_count»)
 
--- those of a list that pass, in list order
-unfoldable pub passing : RayPathFilter → DetectorNo → List DetectorHit → List DetectorHit
-passing f asked [] = []
-passing f asked (h ∷ b) = cond (passesOf f asked h) (h ∷ passing f asked b) (passing f asked b)
+-- ---- a map of the wanted hits of a list, whichever these are
 
--- n zeros, and those that pass added in list order
-unfoldable pub refillOf : RayPathFilter → DetectorNo → Detector2D → ℕ → List DetectorHit → Map
-refillOf f asked d n hits = plusEach d (zeros n) (passing f asked hits)
+-- those that are wanted, in list order
+unfoldable pub passing : (DetectorHit → Bool) → List DetectorHit → List DetectorHit
+passing wanted [] = []
+passing wanted (h ∷ b) = cond (wanted h) (h ∷ passing wanted b) (passing wanted b)
+
+-- n zeros, and those that are wanted added in list order
+unfoldable pub refillOf : (DetectorHit → Bool) → Detector2D → ℕ → List DetectorHit → Map
+refillOf wanted d n hits = plusEach d (zeros n) (passing wanted hits)
 
 -- one hit on the way
-unfoldable pub siftHitOf : RayPathFilter → DetectorNo → Detector2D → Map → DetectorHit → Map
-siftHitOf f asked d m h = cond (passesOf f asked h) (addHitOf d m h) m
+unfoldable pub siftHitOf : (DetectorHit → Bool) → Detector2D → Map → DetectorHit → Map
+siftHitOf wanted d m h = cond (wanted h) (addHitOf d m h) m

@@ -15,7 +15,7 @@ use Rattle.detectors.specs.Detectors.{allPixelsOf, findOf}
 use Rattle.memory.specs.Memory.{hitsFrom, isHitListOf}
 use Rattle.filter.specs.declared.RayPathFilter.{RayPathFilter}
 use Rattle.filter.specs.declared.calls.Filtered.{Filtered}
-use Rattle.filter.specs.Filters.{Map, isAllOf, refillOf}
+use Rattle.filter.specs.Filters.{Map, isAllOf, passesOf, refillOf}
 use Rattle.doubles.specs.Doubles.{#0}
 
 -- ---- the checks: 3, 5 to 8, 4, then 9, also for All
@@ -50,7 +50,7 @@ fromMap m = handed (passed tt) (m .flux) (m .total) (m .count)
 unfoldable pub refilterPlaced : RayPathFilter → DetectorNo → List Float → List DetectorHit → Checked Placed → Handed
 refilterPlaced f asked work hits (passed p) =
     cond (isAllOf f) (handed (passed tt) work (p .detector .«total_flux_watts») (p .detector .«total_rays_hit»))
-    (fromMap (refillOf f asked (p .detector) (length work) hits))
+    (fromMap (refillOf (passesOf f asked) (p .detector) (length work) hits))
 refilterPlaced f asked work hits (refusedAt n place) = handed (refusedAt n place) work #0 0
 
 unfoldable pub refilterOf :

@@ -69,7 +69,7 @@ fn sift_hit(
     h: DetectorHit,
 ) -> Tally
     requires { ⌜ t .count + 1 < 2 ^ 64 ⌝ }
-    ensures { λ r. ⌜ asMap r (now (work .exit)) ≡ siftHitOf filter asked d (asMap t (now (work .entry))) h ⌝ }
+    ensures { λ r. ⌜ asMap r (now (work .exit)) ≡ siftHitOf (passesOf filter asked) d (asMap t (now (work .entry))) h ⌝ }
 {
     if passes(filter, asked, h) {
         return add_hit(d, work, t, h);
@@ -88,7 +88,7 @@ pub fn refill(
     used: usize,
 ) -> Tally
     ensures { λ r. ⌜ asMap r (now (work .exit))
-        ≡ refillOf filter asked d (length (now (work .entry))) (hitsFrom (now («hit_values» .entry)) (now («hit_tags» .entry)) used 0) ⌝ }
+        ≡ refillOf (passesOf filter asked) d (length (now (work .entry))) (hitsFrom (now («hit_values» .entry)) (now («hit_tags» .entry)) used 0) ⌝ }
 {
     clear(work);
     let mut t = Tally {

@@ -6,7 +6,7 @@ use mathlib.Core.Path.{_≡_, refl, ap, _∙_}
 use native.Mathlib.Omega.{arith}
 use lib.ListN.{length, length-replicate}
 use Rattle.memory.specs.Memory.{hitsFrom}
-use Rattle.filter.specs.Filters.{asMap, plusEach, passing, refillOf}
+use Rattle.filter.specs.Filters.{asMap, plusEach, passesOf, passing, refillOf}
 use Rattle.filter.proofs.Sift.{sift-start, sift-again, sift-end, turn-count, same-room}
 use Rattle.filter.proofs.sifting.refill.Statement.{statement}
 use Rattle.filter.proofs.sifting.refill.Tie as tie
@@ -16,8 +16,8 @@ Inv-loop filter asked d work₀ hitValues hitTags used t₀ i₀ work t i =
     (i ≤ used)
     × (length work ≡ length work₀)
     × (t .count ≤ i)
-    × (plusEach d (asMap t work) (passing filter asked (hitsFrom hitValues hitTags (used - i) i))
-    ≡ refillOf filter asked d (length work₀) (hitsFrom hitValues hitTags used 0))
+    × (plusEach d (asMap t work) (passing (passesOf filter asked) (hitsFrom hitValues hitTags (used - i) i))
+    ≡ refillOf (passesOf filter asked) d (length work₀) (hitsFrom hitValues hitTags used 0))
 
 abbrev μ-loop : tie.MeasureT-loop
 μ-loop filter asked d work₀ hitValues hitTags used t₀ i₀ work t i = used - i
@@ -30,7 +30,7 @@ loop-holds c = (
   omega arith,
   refl,
   omega arith,
-  sift-start _ _ _ _ (length (now (c .before .before .before .before .before .before .before .args .work))) _ _ _
+  sift-start _ _ _ (length (now (c .before .before .before .before .before .before .before .args .work))) _ _ _
       (c .before .before .clear .ensures),
 )
 
@@ -64,8 +64,8 @@ loop-again c =
     let g = c .before .before .sift-hit in (
       omega (arith, k),
       g .kept .1 .1 .1 .0 ∙ l .inv .1,
-      omega (arith, turn-count _ _ _ _ _ _ (g .ensures), l .inv .2),
-      sift-again _ _ _ _ _ _ _ _ _ _ _ k (hit-at .ensures) (g .ensures) (l .inv .3),
+      omega (arith, turn-count _ _ _ _ _ (g .ensures), l .inv .2),
+      sift-again _ _ _ _ _ _ _ _ _ _ k (hit-at .ensures) (g .ensures) (l .inv .3),
     )
 
 same-length : tie.Need-same-length Inv-loop μ-loop
@@ -76,7 +76,7 @@ returns c =
     let at-clear = c .before .before .before .before in
     let clear = at-clear .clear in
     let args = at-clear .before .before .before .before .before .args in
-    same-room _ _ _ _ _ (length (now (args .work))) _ (clear .ensures) (sift-end _ _ _ _ _ _ _ _ _ (c .loop-test .left) (c .before .loop .inv .3))
+    same-room _ _ _ _ (length (now (args .work))) _ (clear .ensures) (sift-end _ _ _ _ _ _ _ _ (c .loop-test .left) (c .before .loop .inv .3))
 
 pub refill-spec : {M : Type 1} → statement M
 refill-spec =
