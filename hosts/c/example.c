@@ -40,7 +40,7 @@ int main(void)
     uint8_t text[1024];
     nonseq_traced t;
     nonseq_filtered f;
-    size_t n;
+    nonseq_text a;
 
     layout();
     expect("the detector is made", made.refusal == NONSEQ_DONE);
@@ -52,10 +52,14 @@ int main(void)
     t = nonseq_trace_given_rays(config, solid_values, 0, solid_tags, 0, 0, &ray, 1, detectors, flux, 4, hits, 4, hit_values, 8, hit_tags, 8, 0);
     expect("the ray is traced", t.refusal == NONSEQ_DONE && t.used == 1);
     expect("nothing is lost", nonseq_energy_conservation_ratio(t.report.ledger) == 1);
-    n = nonseq_put_answer(text, sizeof text, t.report, t.detectors, NONSEQ_ALL, flux, 4, hit_values, 8, hit_tags, 8, t.used);
-    expect("the answer fits", n <= sizeof text);
-    fwrite(text, 1, n, stdout);
-    expect("one byte too few, and nothing is written", nonseq_put_refusal(text, 17, 17, 4) == 19 && text[0] == 'r' && text[1] == 'a');
+    a = nonseq_put_answer(text, sizeof text, t.report, t.detectors, NONSEQ_ALL, flux, 4, hit_values, 8, hit_tags, 8, t.used);
+    expect("the answer fits", a.refusal == NONSEQ_DONE && a.length <= sizeof text);
+    fwrite(text, 1, a.length, stdout);
+    text[0] = '?';
+    expect("one byte too few, and the length is told", nonseq_put_answer(text, a.length - 1, t.report, t.detectors, NONSEQ_ALL, flux, 4, hit_values, 8, hit_tags, 8, t.used).length == a.length && text[0] == '?');
+    a = nonseq_put_answer(text, sizeof text, t.report, t.detectors, 5, flux, 4, hit_values, 8, hit_tags, 8, t.used);
+    expect("there is no filter 5, and the buffer is left", a.refusal == NONSEQ_INVALID_SCENE_TEXT && a.length == 0 && text[0] == '?');
+    expect("one byte too few, and nothing is written", nonseq_put_refusal(text, 17, 17, 4) == 19 && text[0] == '?');
 
     f = nonseq_refilter(t.detectors, 0, NONSEQ_GHOSTS_ONLY, flux, 4, work, 4, hit_values, 8, hit_tags, 8, t.used);
     expect("it is no ghost", f.refusal == NONSEQ_DONE && f.hit_count == 0 && work[3] == 0);

@@ -143,6 +143,7 @@ typedef struct { uint32_t refusal, place; size_t used; nonseq_detectors detector
 typedef struct { uint32_t refusal, place; double total_flux_watts; size_t hit_count; } nonseq_filtered;
 typedef struct { uint32_t refusal, place; size_t first, pixels; } nonseq_part;
 typedef struct { uint32_t refusal, place, solids, detectors, rays; } nonseq_scene;
+typedef struct { uint32_t refusal, place; size_t length; } nonseq_text;
 typedef struct {
     uint32_t refusal, place;
     size_t used;
@@ -206,8 +207,8 @@ nonseq_scene nonseq_read_scene(const uint8_t *text, size_t text_len, double *run
 /* Texts are written whole from the buffer's start on, or not at all where they do not fit; their length comes back. */
 
 /* The answer of a tracing. A filter over 4 (17), detectors (3, 5 to 8), slices that are not theirs or more than 4,096
- * pixels (9) are answered by the text of the refusal. NONSEQ_MAX_ANSWER bytes hold any answer. */
-size_t nonseq_put_answer(uint8_t *buf, size_t buf_len, nonseq_report report, nonseq_detectors detectors,
+ * pixels (9) are refused: the buffer is left and length is 0. NONSEQ_MAX_ANSWER bytes hold any answer. */
+nonseq_text nonseq_put_answer(uint8_t *buf, size_t buf_len, nonseq_report report, nonseq_detectors detectors,
     uint32_t filter, const double *flux, size_t flux_len, const double *hit_values, size_t hit_values_len,
     const uint32_t *hit_tags, size_t hit_tags_len, size_t used);
 size_t nonseq_put_refusal(uint8_t *buf, size_t buf_len, uint32_t refusal, uint32_t place);

@@ -8,7 +8,7 @@ use native.Mathlib.Nat.{add-zero, mod-le, div-le-self, min-le-left}
 use native.Mathlib.Omega.{arith}
 use lib.Dec.{eqb, leb}
 use lib.Ieee.{Float, ne}
-use lib.ListN.{length, take, drop, replicate, length-append, length-take, length-set, length-replicate}
+use lib.ListN.{length, take, drop, length-append, length-take}
 use borrow.Author.Tests.{eqb-true, eqb-false, leb-true}
 use Rattle.error.specs.Refusals.{Checked, passed, refusedAt}
 use Rattle.detector.specs.declared.DetectorNo.{DetectorNo}
@@ -19,17 +19,16 @@ use Rattle.detectors.specs.declared.Placed.{Placed}
 use Rattle.detectors.specs.Detectors.{maxDetectors, detectorAt, firstPixelOf, allPixelsOf, placedOf, findOf}
 use Rattle.detectors.proofs.Passed.{asked-there, part-in}
 use Rattle.detectors.proofs.Lists.{first-more}
-use Rattle.detector.specs.declared.DetectorHit.{DetectorHit}
-use Rattle.memory.specs.Memory.{hitsFrom, isHitListOf, textPixels}
+use Rattle.memory.specs.Memory.{isHitListOf, textPixels}
 use Rattle.filter.specs.declared.RayPathFilter.{RayPathFilter}
 use Rattle.filter.specs.declared.RayPathFilter.the-variants.{SignalOnly, StrayLight}
-use Rattle.filter.specs.Filters.{Map, isAllOf, zeros, addAtOf, addHitOf, plusEach, passesOf, passing, refillOf}
-use Rattle.filter.specs.Handed.{handed, fromMap, checkPlaced, checkFilterOf, refilterPlaced, storedPartOf, partPlaced, filteredPlaced, filteredPixelFluxOf}
+use Rattle.filter.specs.Filters.{isAllOf}
+use Rattle.filter.specs.Handed.{checkPlaced, checkFilterOf, storedPartOf, partPlaced, filteredPixelFluxOf}
 use Rattle.report.specs.declared.NonSeqTraceReport.{NonSeqTraceReport}
 use Rattle.report.specs.declared.tallies.Tallies.{Tallies}
 use Rattle.printing.specs.Rows.{rowText}
 use Rattle.printing.proofs.Lengths.{decimal-few, row-short, three-short}
-use Rattle.answer_text.specs.Answer.{Held, ledgerText, talliesText, gridAtOf, shownOf, detectorText, pixelText, pixelsText, detectorMapText, eachFrom, detectorCountOf, countIn, detectorsText, mapsText, answerText, refusalText}
+use Rattle.answer_text.specs.Answer.{Held, ledgerText, talliesText, gridAtOf, shownOf, shownMap, detectorText, pixelText, pixelsText, detectorMapText, eachFrom, detectorCountOf, countIn, detectorsText, mapsText, answerText, refusalText}
 use Rattle.doubles.specs.Doubles.{#0}
 use Rattle.fields.specs.Split.{bytes}
 
@@ -73,30 +72,18 @@ pixels-short d w i (x ∷ l) p h =
 
 -- ---- what a filter hands back
 
-each-length : (d : Detector2D) (m : Map) (b : List DetectorHit) → length (plusEach d m b .flux) ≡ length (m .flux)
-unfolding plusEach addHitOf addAtOf
-each-length d m [] = refl
-each-length d m (h ∷ b) = each-length d (addHitOf d m h) b ∙ length-set (m .flux) _ _
-
-refilled-length : (wanted : DetectorHit → Bool) (d : Detector2D) (n : ℕ) (hits : List DetectorHit) → length (refillOf wanted d n hits .flux) ≡ n
-unfolding refillOf
-refilled-length wanted d n hits = each-length d (zeros n) (passing wanted hits) ∙ length-replicate n #0
-
 -- no more than the detector's pixels
-part-short : (f : RayPathFilter) (asked : DetectorNo) (stored work : List Float) (hits : List DetectorHit) (p : Placed) → length work ≡ pixelsOf (p .detector)
-    → length (filteredPlaced f asked stored work hits (passed p) .map) ≤ pixelsOf (p .detector)
-unfolding filteredPlaced refilterPlaced partPlaced storedPartOf
-part-short f asked stored work hits p e = go (isAllOf f)
+part-short : (f : RayPathFilter) (stored work : List Float) (p : Placed) → length work ≡ pixelsOf (p .detector) → length (partPlaced f stored work (passed p)) ≤ pixelsOf (p .detector)
+unfolding partPlaced storedPartOf
+part-short f stored work p e = go (isAllOf f)
   where
-    go : (b : Bool)
-        → length (cond b (take (pixelsOf (p .detector)) (drop (p .first) stored)) (cond b (handed (passed tt) work (p .detector .«total_flux_watts») (p .detector .«total_rays_hit»)) (fromMap (refillOf (passesOf f asked) (p .detector) (length work) hits)) .map))
-        ≤ pixelsOf (p .detector)
+    go : (b : Bool) → length (cond b (take (pixelsOf (p .detector)) (drop (p .first) stored)) work) ≤ pixelsOf (p .detector)
     go true = rw (length-take (pixelsOf (p .detector)) (drop (p .first) stored)) (min-le-left (pixelsOf (p .detector)) (length (drop (p .first) stored)))
-    go false = omega (arith, refilled-length (passesOf f asked) (p .detector) (length work) hits, e)
+    go false = omega (arith, e)
 
-part-none : (f : RayPathFilter) (asked : DetectorNo) (stored work : List Float) (hits : List DetectorHit) (n place : ℕ) → length (filteredPlaced f asked stored work hits (refusedAt n place) .map) ≡ 0
-unfolding filteredPlaced partPlaced
-part-none f asked stored work hits n place = refl
+part-none : (f : RayPathFilter) (stored work : List Float) (n place : ℕ) → length (partPlaced f stored work (refusedAt n place)) ≡ 0
+unfolding partPlaced
+part-none f stored work n place = refl
 
 -- a map of n pixels that is handed back of detector d, where so many are stored
 pub record Part (ds : Detectors) (d stored n : ℕ) : Type 0 where
@@ -108,48 +95,47 @@ pub record Part (ds : Detectors) (d stored n : ℕ) : Type 0 where
 abbrev pub PartOrNone : Detectors → ℕ → ℕ → ℕ → Type 0
 PartOrNone ds d stored n = (n ≡ 0) ⊎ Part ds d stored n
 
-module _ (ds : Detectors) (d : ℕ) (f : RayPathFilter) (stored work : List Float) (hits : List DetectorHit) where
+module _ (ds : Detectors) (d : ℕ) (f : RayPathFilter) (stored work : List Float) where
   abbrev asked : DetectorNo
   asked = record { 0 = d }
 
   abbrev back : Checked Placed → ℕ
-  back c = length (filteredPlaced f asked stored work hits c .map)
+  back c = length (partPlaced f stored work c)
 
   placed-part : (q : Placed) → findOf ds asked ≡ passed q → length stored ≡ allPixelsOf ds → length work ≡ pixelsOf (q .detector) → Part ds d (length stored) (back (passed q))
   unfolding placedOf
   placed-part q v a b =
       let t = asked-there ds asked q v in
       let k : pixelsOf (q .detector) ≡ pixelsOf (detectorAt (ds .list) d) = ap (λ (x : Placed). pixelsOf (x .detector)) (t .2) in
-      let s = part-short f asked stored work hits q b in
+      let s = part-short f stored work q b in
       let w = part-in ds d (length stored) (t .0) (t .1) a in
       record { all = a; own = omega arith; most = omega arith }
 
   found-part : (values tags used : ℕ) (c : Checked Placed) → findOf ds asked ≡ c
       → PartOrNone ds d (length stored) (back (checkPlaced ds (length stored) (length work) values tags used c))
   unfolding checkPlaced
-  found-part values tags used (refusedAt n place) v = inl (part-none f asked stored work hits n place)
+  found-part values tags used (refusedAt n place) v = inl (part-none f stored work n place)
   found-part values tags used (passed q) v = go (eqb (length stored) (allPixelsOf ds)) (eqb (length work) (pixelsOf (q .detector))) (isHitListOf values tags used) refl refl
     where
       go : (x y z : Bool) → eqb (length stored) (allPixelsOf ds) ≡ x → eqb (length work) (pixelsOf (q .detector)) ≡ y
           → PartOrNone ds d (length stored) (back (cond (x && (y && z)) (passed q) (refusedAt 9 0)))
       go true true true a b = inr (placed-part q v (eqb-true _ _ a) (eqb-true _ _ b))
-      go true true false a b = inl (part-none f asked stored work hits 9 0)
-      go true false z a b = inl (part-none f asked stored work hits 9 0)
-      go false y z a b = inl (part-none f asked stored work hits 9 0)
+      go true true false a b = inl (part-none f stored work 9 0)
+      go true false z a b = inl (part-none f stored work 9 0)
+      go false y z a b = inl (part-none f stored work 9 0)
 
-pub held-part : (m : Held) (f : RayPathFilter) (d : ℕ) → PartOrNone (m .detectors) d (length (m .flux)) (length (shownOf m f d .map))
-unfolding shownOf filteredPixelFluxOf checkFilterOf
+pub held-part : (m : Held) (f : RayPathFilter) (d : ℕ) → PartOrNone (m .detectors) d (length (m .flux)) (length (shownMap m f d))
+unfolding shownMap filteredPixelFluxOf checkFilterOf
 held-part m f d =
-    found-part (m .detectors) d f (m .flux) (take (gridAtOf (m .detectors) d .pixels) (replicate textPixels #0)) (hitsFrom (m .hitValues) (m .hitTags) (m .used) 0) (length (m .hitValues)) (length (m .hitTags)) (m .used)
-    (findOf (m .detectors) (record { 0 = d })) refl
+    found-part (m .detectors) d f (m .flux) (shownOf m f d .map) (length (m .hitValues)) (length (m .hitTags)) (m .used) (findOf (m .detectors) (record { 0 = d })) refl
 
-map-short : (m : Held) (f : RayPathFilter) (d : ℕ) → d < 10 → length (shownOf m f d .map) ≤ 10000 → length (detectorMapText m f d) ≤ length (shownOf m f d .map) * 29
+map-short : (m : Held) (f : RayPathFilter) (d : ℕ) → d < 10 → length (shownMap m f d) ≤ 10000 → length (detectorMapText m f d) ≤ length (shownMap m f d) * 29
 unfolding detectorMapText
 map-short m f d p h = go (eqb (gridAtOf (m .detectors) d .columns) 0)
   where
-    go : (b : Bool) → length (cond b [] (pixelsText d (gridAtOf (m .detectors) d .columns) 0 (shownOf m f d .map))) ≤ length (shownOf m f d .map) * 29
+    go : (b : Bool) → length (cond b [] (pixelsText d (gridAtOf (m .detectors) d .columns) 0 (shownMap m f d))) ≤ length (shownMap m f d) * 29
     go true = omega arith
-    go false = pixels-short d (gridAtOf (m .detectors) d .columns) 0 (shownOf m f d .map) p (omega arith)
+    go false = pixels-short d (gridAtOf (m .detectors) d .columns) 0 (shownMap m f d) p (omega arith)
 
 -- ---- one text after another: g says how far each may go
 
@@ -197,14 +183,14 @@ module _ (f : RayPathFilter) (m : Held) (few : length (m .flux) ≤ textPixels) 
   some-lines : (d : ℕ) → d < 8 → length (detectorMapText m f d) ≤ pixelsOf (detectorAt list d) * 29
   some-lines d p = go (held-part m f d)
     where
-      go : PartOrNone (m .detectors) d (length (m .flux)) (length (shownOf m f d .map)) → length (detectorMapText m f d) ≤ pixelsOf (detectorAt list d) * 29
+      go : PartOrNone (m .detectors) d (length (m .flux)) (length (shownMap m f d)) → length (detectorMapText m f d) ≤ pixelsOf (detectorAt list d) * 29
       go (inl z) = omega (arith, map-short m f d (omega arith) (omega arith))
       go (inr r) = omega (arith, map-short m f d (omega arith) (omega arith))
 
   no-lines : (d : ℕ) → d < 8 → (length (m .flux) ≡ allPixelsOf (m .detectors) → ⊥) → length (detectorMapText m f d) ≤ 0
   no-lines d p n = go (held-part m f d)
     where
-      go : PartOrNone (m .detectors) d (length (m .flux)) (length (shownOf m f d .map)) → length (detectorMapText m f d) ≤ 0
+      go : PartOrNone (m .detectors) d (length (m .flux)) (length (shownMap m f d)) → length (detectorMapText m f d) ≤ 0
       go (inl z) = omega (arith, map-short m f d (omega arith) (omega arith))
       go (inr r) = absurd (n (r .all))
 

@@ -13,7 +13,7 @@ use Rattle.detectors.specs.declared.Placed.{Placed}
 use Rattle.detectors.specs.Detectors.{maxDetectors, atOf}
 use Rattle.filter.specs.declared.RayPathFilter.{RayPathFilter}
 use Rattle.filter.specs.declared.RayPathFilter.the-variants.{SignalOnly, StrayLight}
-use Rattle.filter.specs.Handed.{Handed, filteredPixelFluxOf}
+use Rattle.filter.specs.Handed.{Handed, refilterOf, filteredPixelFluxOf}
 use Rattle.report.specs.declared.NonSeqTraceReport.{NonSeqTraceReport}
 use Rattle.report.specs.declared.tallies.Tallies.{Tallies}
 use Rattle.printing.specs.Rows.{rowText}
@@ -64,11 +64,17 @@ gridFrom nothing = record { pixels = 0; columns = 0 }
 unfoldable pub gridAtOf : Detectors → ℕ → Grid
 gridAtOf ds d = gridFrom (atOf ds (record { 0 = d }))
 
--- what a filter hands back of detector d: map, total and count
+-- what a filter makes of detector d's hits: work map, total and count
 unfoldable pub shownOf : Held → RayPathFilter → ℕ → Handed
 shownOf m f d =
-    filteredPixelFluxOf (m .detectors) (record { 0 = d }) f (m .flux)
+    refilterOf (m .detectors) (record { 0 = d }) f (m .flux)
     (take (gridAtOf (m .detectors) d .pixels) (replicate textPixels #0)) (m .hitValues) (m .hitTags) (m .used)
+
+-- and the map that it then hands back
+unfoldable pub shownMap : Held → RayPathFilter → ℕ → List Float
+shownMap m f d =
+    filteredPixelFluxOf (m .detectors) (record { 0 = d }) f (m .flux) (shownOf m f d .map) (m .hitValues) (m .hitTags)
+    (m .used)
 
 -- hits and flux are under the filter, signal and stray are always the full counts
 unfoldable pub detectorText : Held → RayPathFilter → ℕ → List ℕ
@@ -91,7 +97,7 @@ pixelsText d w i (x ∷ l) = pixelText d (i % w) (i / w) x ++ pixelsText d w (i 
 unfoldable pub detectorMapText : Held → RayPathFilter → ℕ → List ℕ
 detectorMapText m f d =
     let w = gridAtOf (m .detectors) d .columns in
-    cond (eqb w 0) [] (pixelsText d w 0 (shownOf m f d .map))
+    cond (eqb w 0) [] (pixelsText d w 0 (shownMap m f d))
 
 -- ---- all of it
 

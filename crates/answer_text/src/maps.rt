@@ -137,11 +137,7 @@ pub(crate) fn put_detector_map(
     let n = g.pixels;
     let w = g.columns;
     let mut work = [0.0f64; TEXT_PIXELS];
-    let mut refusal: u32 = 0;
-    let mut place: u32 = 0;
-    let mut total: f64 = 0.0;
-    let mut count: usize = 0;
-    let map = filter::filtered_pixel_flux(
+    filter::refilter(
         detectors,
         DetectorNo(d),
         filter,
@@ -150,10 +146,16 @@ pub(crate) fn put_detector_map(
         hit_values,
         hit_tags,
         used,
-        &mut refusal,
-        &mut place,
-        &mut total,
-        &mut count,
+    );
+    let map = filter::filtered_pixel_flux(
+        detectors,
+        DetectorNo(d),
+        filter,
+        flux,
+        &work[..n],
+        hit_values,
+        hit_tags,
+        used,
     );
     if w == 0 {
         return at;

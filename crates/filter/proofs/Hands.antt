@@ -3,12 +3,12 @@ use Prim.Native.Nat.{ℕ, _+_, _-_, _≤_}
 use mathlib.Core.Path.{_≡_, refl, ap, sym, _∙_}
 use mathlib.Core.Bool.{Bool, true, false, cond, _&&_}
 use mathlib.Core.List.{List, []}
+use native.Mathlib.Nat.{zero-add}
 use native.Mathlib.Omega.{arith}
 use lib.Dec.{eqb}
 use lib.Ieee.{Float}
 use lib.ListN.{length, take, drop}
 use borrow.Author.Tests.{eqb-true}
-use Rattle.doubles.proofs.Floats.{clash}
 use Rattle.error.specs.declared.NonSeqError.{NonSeqError}
 use Rattle.error.specs.Refusals.{numberOf, Checked, passed, refusedAt}
 use Rattle.detector.specs.declared.DetectorNo.{DetectorNo}
@@ -24,19 +24,8 @@ use Rattle.memory.specs.Memory.{hitsFrom, isHitListOf}
 use Rattle.detectors.proofs.Passed.{asked-there, part-in}
 use Rattle.filter.specs.declared.RayPathFilter.{RayPathFilter}
 use Rattle.filter.specs.Filters.{Map, isAllOf, passesOf, refillOf}
-use Rattle.filter.specs.Handed.{handed, fromMap, checkPlaced, checkFilterOf, refilterPlaced, refilterOf, storedPartOf, partPlaced, filteredPartOf, filteredPlaced, filteredPixelFluxOf, numbered, inNumbers}
+use Rattle.filter.specs.Handed.{handed, fromMap, checkPlaced, checkFilterOf, refilterPlaced, refilterOf, storedPartOf, partPlaced, filteredPixelFluxOf, doublesOn, liesPlaced}
 use Rattle.doubles.specs.Doubles.{#0}
-
--- ---- which of the two slices is handed back: what cannot be where a return stands
-
-pub not-other : {A : Type 0} (b z : Bool) → b ≡ z → b ≡ true → z ≡ false → A
-not-other b z e t f = absurd (clash (sym t ∙ e ∙ f))
-
-pub not-all : {A : Type 0} (b z : Bool) → b ≡ z → b ≡ false → z ≡ true → A
-not-all b z e f t = absurd (clash (sym t ∙ sym e ∙ f))
-
-pub not-passed : {A : Type 0} (a : Found) (c : Checked Placed) (x : NonSeqError) (place : ℕ) (p : Placed) → asFound a ≡ c → a ≡ Refused x place → c ≡ passed p → A
-not-passed a c x place p said k e = never (numberOf x) place p (sym (ap asFound k) ∙ said ∙ e)
 
 -- ---- the returns; a is what the check answered
 module _ (ds : Detectors) (asked : DetectorNo) (f : RayPathFilter) (stored work values : List Float) (tags : List ℕ) (used : ℕ) (a : Found)
@@ -49,13 +38,9 @@ module _ (ds : Detectors) (asked : DetectorNo) (f : RayPathFilter) (stored work 
     unfolding refilterOf refilterPlaced
     refilter-refused = rw (← said, k)
 
-    pub part-refused : [] ≡ filteredPartOf ds asked f stored work values tags used
-    unfolding filteredPartOf partPlaced
+    pub part-refused : [] ≡ filteredPixelFluxOf ds asked f stored work values tags used
+    unfolding filteredPixelFluxOf partPlaced
     part-refused = rw (← said, k)
-
-    pub flux-refused : (n : ℕ) → n ≡ numberOf x → numbered n place [] #0 0 ≡ inNumbers (filteredPixelFluxOf ds asked f stored work values tags used)
-    unfolding filteredPixelFluxOf filteredPlaced refilterPlaced partPlaced
-    flux-refused n e = rw (← said, k, e)
 
   module _ (p : Placed) (k : a ≡ There p) (b : Bool) (told : b ≡ isAllOf f) where
     pub refilter-all : b ≡ true → handed (passed tt) work (p .detector .«total_flux_watts») (p .detector .«total_rays_hit») ≡ refilterOf ds asked f stored work values tags used
@@ -66,22 +51,28 @@ module _ (ds : Detectors) (asked : DetectorNo) (f : RayPathFilter) (stored work 
     unfolding refilterOf refilterPlaced
     refilter-sifted t m e = rw (← said, k, ← told, t, e)
 
-    pub part-all : b ≡ true → (w : List Float) → w ≡ storedPartOf p stored → w ≡ filteredPartOf ds asked f stored work values tags used
-    unfolding filteredPartOf partPlaced
+    pub part-all : b ≡ true → (w : List Float) → w ≡ storedPartOf p stored → w ≡ filteredPixelFluxOf ds asked f stored work values tags used
+    unfolding filteredPixelFluxOf partPlaced
     part-all t w e = rw (e, ← said, k, ← told, t)
 
-    pub part-work : b ≡ false → work ≡ filteredPartOf ds asked f stored work values tags used
-    unfolding filteredPartOf partPlaced
+    pub part-work : b ≡ false → work ≡ filteredPixelFluxOf ds asked f stored work values tags used
+    unfolding filteredPixelFluxOf partPlaced
     part-work t = rw (← said, k, ← told, t)
 
-    pub flux-all : b ≡ true → (w : List Float) → w ≡ storedPartOf p stored
-        → handed (passed tt) w (p .detector .«total_flux_watts») (p .detector .«total_rays_hit») ≡ filteredPixelFluxOf ds asked f stored work values tags used
-    unfolding filteredPixelFluxOf filteredPlaced refilterPlaced partPlaced
-    flux-all t w e = rw (e, ← said, k, ← told, t)
+-- ---- where the part lies that is handed back; c is what the check says
+module _ (f : RayPathFilter) (c : Checked Placed) (at other : ℕ × ℕ) (a : Found) (said : asFound a ≡ c) where
+  pub lies-refused : (x : NonSeqError) (place : ℕ) → a ≡ Refused x place → doublesOn 0 at ≡ liesPlaced f at other c
+  unfolding liesPlaced
+  lies-refused x place k = rw (← said, k, zero-add (at .1))
 
-    pub flux-sifted : b ≡ false → (m : Map) → m ≡ refillOf (passesOf f asked) (p .detector) (length work) hits → fromMap m ≡ filteredPixelFluxOf ds asked f stored work values tags used
-    unfolding filteredPixelFluxOf filteredPlaced refilterPlaced partPlaced
-    flux-sifted t m e = rw (← said, k, ← told, t, e)
+  module _ (p : Placed) (k : a ≡ There p) (b : Bool) (told : b ≡ isAllOf f) where
+    pub lies-all : b ≡ true → (r : ℕ × ℕ) → r ≡ doublesOn (p .first) at → r ≡ liesPlaced f at other c
+    unfolding liesPlaced
+    lies-all t r e = rw (e, ← said, k, ← told, t)
+
+    pub lies-work : b ≡ false → other ≡ liesPlaced f at other c
+    unfolding liesPlaced
+    lies-work t = rw (← said, k, ← told, t)
 
 -- the code's end of the part
 pub part-ends : (p : Placed) (n : ℕ) (stored : List Float) → n ≡ pixelsOf (p .detector) → take (p .first + n - p .first) (drop (p .first) stored) ≡ storedPartOf p stored

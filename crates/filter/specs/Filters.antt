@@ -2,6 +2,7 @@
 use Prim.Native.Nat.{ℕ, _+_}
 use mathlib.Core.Bool.{Bool, true, false, cond, _&&_, _||_}
 use mathlib.Core.List.{List, [], _∷_}
+use mathlib.Core.Option.{Option, none, some}
 use lib.Dec.{leb, ltb, eqb}
 use lib.Ieee.{Float, nan, binary64, add}
 use lib.ListN.{getD, set, replicate}
@@ -11,16 +12,21 @@ use Rattle.detector.specs.Pixels.{pixelAtOf}
 use Rattle.detector.specs.declared.DetectorHit.{DetectorHit}
 use Rattle.filter.specs.declared.RayPathFilter.{RayPathFilter}
 use Rattle.filter.specs.declared.RayPathFilter.the-variants.{All, SignalOnly, GhostsOnly, TirOnly, StrayLight}
+use Rattle.filter.specs.declared.NumberedFilter.{NumberedFilter}
+use Rattle.filter.specs.declared.NumberedFilter.the-variants.{There, Nothing}
 use Rattle.filter.specs.declared.sifting.Tally.{Tally}
 use Rattle.doubles.specs.Doubles.{#0}
 
-abbrev pub lastFilter : ℕ
-lastFilter = 4
-
--- numbers 0 to 4 in this order
-unfoldable pub numberedFilterOf : ℕ → RayPathFilter
+-- numbers 0 to 4 in this order; no other number is a filter's
+unfoldable pub numberedFilterOf : ℕ → Option RayPathFilter
 numberedFilterOf n =
-    cond (eqb n 0) All (cond (eqb n 1) SignalOnly (cond (eqb n 2) GhostsOnly (cond (eqb n 3) TirOnly StrayLight)))
+    cond (eqb n 0) (some All) (cond (eqb n 1) (some SignalOnly) (cond (eqb n 2) (some GhostsOnly)
+    (cond (eqb n 3) (some TirOnly) (cond (eqb n 4) (some StrayLight) none))))
+
+-- what the code's answer says
+abbrev pub asFilter : NumberedFilter → Option RayPathFilter
+asFilter (There f) = some f
+asFilter Nothing = none
 
 abbrev pub isAllOf : RayPathFilter → Bool
 isAllOf All = true

@@ -1,5 +1,5 @@
 -- What a filter hands back: document 01, "Maps and lists".
-use Prim.Native.Nat.{ℕ}
+use Prim.Native.Nat.{ℕ, _+_, _*_}
 use mathlib.Core.Bool.{cond, _&&_}
 use mathlib.Core.List.{List, []}
 use lib.Dec.{eqb}
@@ -31,7 +31,7 @@ unfoldable pub checkFilterOf : Detectors → DetectorNo → ℕ → ℕ → ℕ 
 checkFilterOf ds asked stored work hitValues hitTags used =
     checkPlaced ds stored work hitValues hitTags used (findOf ds asked)
 
--- ---- what is handed back: the check's word, a map or a part of one, its total and its count
+-- ---- what is handed back: the check's word, the work map, a total and a count
 
 pub record Handed : Type 0 where
   pub check : Checked Unit
@@ -69,44 +69,23 @@ unfoldable pub partPlaced : RayPathFilter → List Float → List Float → Chec
 partPlaced f stored work (passed p) = cond (isAllOf f) (storedPartOf p stored) work
 partPlaced f stored work (refusedAt n place) = []
 
-unfoldable pub filteredPartOf :
+unfoldable pub filteredPixelFluxOf :
     Detectors → DetectorNo → RayPathFilter → List Float → List Float → List Float → List ℕ → ℕ → List Float
-filteredPartOf ds asked f stored work hitValues hitTags used =
+filteredPixelFluxOf ds asked f stored work hitValues hitTags used =
     partPlaced f stored work
     (checkFilterOf ds asked (length stored) (length work) (length hitValues) (length hitTags) used)
 
--- ---- both in one call
+-- ---- where it lies, by the places in memory where the two maps begin: a block, and how many bytes into it
 
-unfoldable pub filteredPlaced :
-    RayPathFilter → DetectorNo → List Float → List Float → List DetectorHit → Checked Placed → Handed
-filteredPlaced f asked stored work hits c =
-    let r = refilterPlaced f asked work hits c in
-    handed (r .check) (partPlaced f stored (r .map) c) (r .total) (r .count)
+-- n doubles further on
+abbrev pub doublesOn : ℕ → ℕ × ℕ → ℕ × ℕ
+doublesOn n at = (at .0, n * 8 + at .1)
 
-unfoldable pub filteredPixelFluxOf :
-    Detectors → DetectorNo → RayPathFilter → List Float → List Float → List Float → List ℕ → ℕ → Handed
-filteredPixelFluxOf ds asked f stored work hitValues hitTags used =
-    filteredPlaced f asked stored work (hitsFrom hitValues hitTags used 0)
-    (checkFilterOf ds asked (length stored) (length work) (length hitValues) (length hitTags) used)
+-- for All from the detector's first pixel on; the empty part lies at the stored map's begin
+unfoldable pub liesPlaced : RayPathFilter → ℕ × ℕ → ℕ × ℕ → Checked Placed → ℕ × ℕ
+liesPlaced f stored work (passed p) = cond (isAllOf f) (doublesOn (p .first) stored) work
+liesPlaced f stored work (refusedAt n place) = stored
 
 -- what the code's answer says
 abbrev pub asHanded : Filtered → List Float → Handed
 asHanded r m = handed (asChecked (r .check)) m (r .«total_flux_watts») (r .«hit_count»)
-
--- the same with the check's word as two numbers: 0 and 0 where nothing is refused
-pub record Numbered : Type 0 where
-  pub refusal : ℕ
-  pub place : ℕ
-  pub part : List Float
-  pub total : Float
-  pub count : ℕ
-
-abbrev pub numbered : ℕ → ℕ → List Float → Float → ℕ → Numbered
-numbered n place m t c = record { refusal = n; place = place; part = m; total = t; count = c }
-
-abbrev pub withNumbers : Checked Unit → List Float → Float → ℕ → Numbered
-withNumbers (passed u) m t c = numbered 0 0 m t c
-withNumbers (refusedAt n place) m t c = numbered n place m t c
-
-abbrev pub inNumbers : Handed → Numbered
-inNumbers h = withNumbers (h .check) (h .map) (h .total) (h .count)

@@ -1,5 +1,5 @@
-// A detector's map under a filter, its total and its count (document 01, "Maps and lists"): in two calls,
-// whose contracts say all, and in one.
+// A detector's map under a filter (document 01, "Maps and lists") in two calls: `refilter` fills the work map
+// and answers total and count, `filtered_pixel_flux` hands back the part of the map. Both make all checks.
 use crate::RayPathFilter;
 use crate::sifting::refill;
 use detector::DetectorNo;
@@ -10,15 +10,11 @@ use error::Check;
 use error::NonSeqError;
 use memory::is_hit_list;
 ghost use mathlib.Core.Path.{_≡_};
-ghost use mathlib.Core.Bool.{true, false};
 ghost use Prim.Native.Nat.{_+_, _≤_};
 ghost use lib.ListN.{length};
-ghost use Rattle.error.specs.Refusals.{passed};
 ghost use Rattle.detector.specs.Pixels.{pixelsOf};
-ghost use Rattle.detectors.specs.declared.Placed.{Placed};
 ghost use Rattle.detectors.specs.Detectors.{asFound};
-ghost use Rattle.filter.specs.Filters.{isAllOf};
-ghost use Rattle.filter.specs.Handed.{checkFilterOf, asHanded, refilterOf, storedPartOf, filteredPartOf, numbered, inNumbers, filteredPixelFluxOf};
+ghost use Rattle.filter.specs.Handed.{checkFilterOf, asHanded, refilterOf, storedPartOf, filteredPixelFluxOf, doublesOn, liesPlaced};
 
 // The refusal or none, and the total and the count of the hits under the filter; 0 and 0 where refused.
 pub struct Filtered {
@@ -111,7 +107,7 @@ pub fn refilter(
 fn stored_part<'a>(p: Placed, stored: &'a [f64]) -> &'a [f64]
     requires { ⌜ p .first + pixelsOf (p .detector) ≤ length (now stored) ⌝ }
     ensures { λ r. ⌜ now r ≡ storedPartOf p (now (stored .entry)) ⌝ }
-    ensures { λ r. ⌜ r .ptr .0 ≡ stored .entry .ptr .0 ⌝ }
+    ensures { λ r. ⌜ r .ptr ≡ doublesOn (p .first) (stored .entry .ptr) ⌝ }
 {
     let d = p.detector;
     let first = p.first;
@@ -120,8 +116,8 @@ fn stored_part<'a>(p: Placed, stored: &'a [f64]) -> &'a [f64]
 }
 
 // Second of two calls: the stored map's part of the detector for All, the work map for the others, an
-// empty part where the call is refused.
-pub fn filtered_part<'a>(
+// empty part where the call is refused. The contract says what it holds and where in memory it lies.
+pub fn filtered_pixel_flux<'a>(
     detectors: Detectors,
     asked: DetectorNo,
     filter: RayPathFilter,
@@ -132,11 +128,9 @@ pub fn filtered_part<'a>(
     used: usize,
 ) -> &'a [f64]
     ensures { λ r. ⌜ now r
-        ≡ filteredPartOf detectors asked filter (now (stored .entry)) (now (work .entry)) (now («hit_values» .entry)) (now («hit_tags» .entry)) used ⌝ }
-    ensures { λ r. ⌜ (isAllOf filter ≡ true → r .ptr .0 ≡ stored .entry .ptr .0) ⌝ }
-    ensures { λ r. ⌜ ((p : Placed) → isAllOf filter ≡ false
-        → checkFilterOf detectors asked (length (now (stored .entry))) (length (now (work .entry))) (length (now («hit_values» .entry))) (length (now («hit_tags» .entry))) used
-        ≡ passed p → r .ptr ≡ work .entry .ptr) ⌝ }
+        ≡ filteredPixelFluxOf detectors asked filter (now (stored .entry)) (now (work .entry)) (now («hit_values» .entry)) (now («hit_tags» .entry)) used ⌝ }
+    ensures { λ r. ⌜ r .ptr ≡ liesPlaced filter (stored .entry .ptr) (work .entry .ptr)
+        (checkFilterOf detectors asked (length (now (stored .entry))) (length (now (work .entry))) (length (now («hit_values» .entry))) (length (now («hit_tags» .entry))) used) ⌝ }
 {
     match check_filter(
         detectors,
@@ -153,62 +147,6 @@ pub fn filtered_part<'a>(
                 return stored_part(p, stored);
             }
             work
-        }
-    }
-}
-
-// Both in one call, in the form that document 01 names. The refusal's number (0 for none) and its place,
-// the total and the count go to places of the caller's.
-pub fn filtered_pixel_flux<'a>(
-    detectors: Detectors,
-    asked: DetectorNo,
-    filter: RayPathFilter,
-    stored: &'a [f64],
-    work: &'a mut [f64],
-    hit_values: &[f64],
-    hit_tags: &[u32],
-    used: usize,
-    refusal: &mut u32,
-    at: &mut u32,
-    total: &mut f64,
-    count: &mut usize,
-) -> &'a [f64]
-    ensures { λ r. ⌜ numbered (now (refusal .exit)) (now (at .exit)) (now r) (now (total .exit)) (now (count .exit))
-        ≡ inNumbers (filteredPixelFluxOf detectors asked filter (now (stored .entry)) (now (work .entry)) (now («hit_values» .entry)) (now («hit_tags» .entry)) used) ⌝ }
-    ensures { λ r. ⌜ (isAllOf filter ≡ true → r .ptr .0 ≡ stored .entry .ptr .0) ⌝ }
-    ensures { λ r. ⌜ ((p : Placed) → isAllOf filter ≡ false
-        → checkFilterOf detectors asked (length (now (stored .entry))) (length (now (work .entry))) (length (now («hit_values» .entry))) (length (now («hit_tags» .entry))) used
-        ≡ passed p → r .ptr ≡ work .entry .ptr) ⌝ }
-{
-    *refusal = 0;
-    *at = 0;
-    *total = 0.0;
-    *count = 0;
-    match check_filter(
-        detectors,
-        asked,
-        stored.len(),
-        work.len(),
-        hit_values.len(),
-        hit_tags.len(),
-        used,
-    ) {
-        Found::Refused { error, place } => {
-            *refusal = error.number();
-            *at = place;
-            &stored[0..0]
-        }
-        Found::There(p) => {
-            let d = p.detector;
-            if filter.is_all() {
-                *total = d.total_flux_watts;
-                *count = d.total_rays_hit as usize;
-                return stored_part(p, stored);
-            }
-            let t = refill(filter, asked, d, work, hit_values, hit_tags, used);
-            *total = t.total;
-            *count = t.count;
-            &work[..]
         }
     }
 }

@@ -11,13 +11,12 @@ mod calls;
 mod sifting;
 
 pub use calls::Filtered;
-pub use calls::filtered_part;
 pub use calls::filtered_pixel_flux;
 pub use calls::refilter;
 pub use sifting::Tally;
 pub use sifting::refill;
 ghost use mathlib.Core.Path.{_≡_};
-ghost use Rattle.filter.specs.Filters.{numberedFilterOf, isAllOf, letsOf};
+ghost use Rattle.filter.specs.Filters.{asFilter, numberedFilterOf, isAllOf, letsOf};
 
 pub enum RayPathFilter {
     All,
@@ -27,27 +26,32 @@ pub enum RayPathFilter {
     StrayLight,
 }
 
-impl RayPathFilter {
-    // The largest number of a filter.
-    pub const LAST: u32 = 4;
+// The filter of a number, if it is one's.
+pub enum NumberedFilter {
+    There(RayPathFilter),
+    Nothing,
+}
 
-    // The filter of a number; a number beyond the last is the last.
-    pub fn numbered(number: u32) -> RayPathFilter
-        ensures { λ r. ⌜ r ≡ numberedFilterOf number ⌝ }
+impl RayPathFilter {
+    pub fn numbered(number: u32) -> NumberedFilter
+        ensures { λ r. ⌜ asFilter r ≡ numberedFilterOf number ⌝ }
     {
         if number == 0 {
-            return RayPathFilter::All;
+            return NumberedFilter::There(RayPathFilter::All);
         }
         if number == 1 {
-            return RayPathFilter::SignalOnly;
+            return NumberedFilter::There(RayPathFilter::SignalOnly);
         }
         if number == 2 {
-            return RayPathFilter::GhostsOnly;
+            return NumberedFilter::There(RayPathFilter::GhostsOnly);
         }
         if number == 3 {
-            return RayPathFilter::TirOnly;
+            return NumberedFilter::There(RayPathFilter::TirOnly);
         }
-        RayPathFilter::StrayLight
+        if number == 4 {
+            return NumberedFilter::There(RayPathFilter::StrayLight);
+        }
+        NumberedFilter::Nothing
     }
 
     pub fn is_all(self) -> bool

@@ -1,15 +1,15 @@
 -- The lent maps and the hit list.
 use Prim.Native.Nat.{ℕ}
-use mathlib.Core.Bool.{cond}
+use mathlib.Core.Option.{Option, none, some}
 use mathlib.Core.List.{List}
-use lib.Dec.{leb}
 use lib.Ieee.{Float}
 use Rattle.error.specs.Refusals.{Checked, passed, refusedAt}
 use Rattle.detector.specs.Pixels.{pixelsOf}
 use Rattle.detectors.specs.declared.Detectors.{Detectors}
 use Rattle.detectors.specs.declared.Placed.{Placed}
 use Rattle.memory.specs.Memory.{Memory, Outcome, done, refused}
-use Rattle.filter.specs.Filters.{numberedFilterOf, lastFilter}
+use Rattle.filter.specs.declared.RayPathFilter.{RayPathFilter}
+use Rattle.filter.specs.Filters.{numberedFilterOf}
 use Rattle.filter.specs.Handed.{Handed, handed, refilterOf}
 use Rattle.host_detectors.specs.declared.maps.HostRecorded.{HostRecorded}
 use Rattle.host_detectors.specs.declared.maps.HostFiltered.{HostFiltered}
@@ -54,12 +54,16 @@ filteredWith (refusedAt k place) m t n =
 abbrev pub filteredFrom : Handed → Sifted
 filteredFrom h = filteredWith (h .check) (h .map) (h .total) (h .count)
 
--- a number over 4 is no filter (17)
+-- a number that is no filter's is 17
+unfoldable pub refilterBy :
+    Option RayPathFilter → Detectors → ℕ → List Float → List Float → List Float → List ℕ → ℕ → Handed
+refilterBy (some f) ds asked stored work hitValues hitTags used =
+    refilterOf ds (record { 0 = asked }) f stored work hitValues hitTags used
+refilterBy none ds asked stored work hitValues hitTags used = handed (refusedAt 17 0) work #0 0
+
 unfoldable pub hostRefilterOf : Detectors → ℕ → ℕ → List Float → List Float → List Float → List ℕ → ℕ → Handed
 hostRefilterOf ds asked f stored work hitValues hitTags used =
-    cond (leb f lastFilter)
-    (refilterOf ds (record { 0 = asked }) (numberedFilterOf f) stored work hitValues hitTags used)
-    (handed (refusedAt 17 0) work #0 0)
+    refilterBy (numberedFilterOf f) ds asked stored work hitValues hitTags used
 
 -- ---- where a detector's pixels stand
 

@@ -5,6 +5,7 @@ use detector::DetectorNo;
 use detectors::Detectors;
 use detectors::Found;
 use error::NonSeqError;
+use filter::NumberedFilter;
 use filter::RayPathFilter;
 use host_numbers::HostReading;
 ghost use mathlib.Core.Path.{_≡_};
@@ -84,32 +85,36 @@ pub extern "C" fn nonseq_refilter(
     ensures { λ r. ⌜ filtered r (now (work .exit))
         ≡ filteredFrom (hostRefilterOf detectors asked filter (now (flux .entry)) (now (work .entry)) (now («hit_values» .entry)) (now («hit_tags» .entry)) used) ⌝ }
 {
-    if filter <= RayPathFilter::LAST {
-        let r = filter::refilter(
-            detectors,
-            DetectorNo(asked),
-            RayPathFilter::numbered(filter),
-            flux,
-            work,
-            hit_values,
-            hit_tags,
-            used,
-        );
-        let check = r.check;
-        let c = host_numbers::checked(check);
-        return HostFiltered {
-            refusal: c.refusal,
-            place: c.place,
-            total_flux_watts: r.total_flux_watts,
-            hit_count: r.hit_count,
-        };
-    }
-    let e = NonSeqError::InvalidSceneText;
-    HostFiltered {
-        refusal: e.number(),
-        place: 0,
-        total_flux_watts: 0.0,
-        hit_count: 0,
+    match RayPathFilter::numbered(filter) {
+        NumberedFilter::There(f) => {
+            let r = filter::refilter(
+                detectors,
+                DetectorNo(asked),
+                f,
+                flux,
+                work,
+                hit_values,
+                hit_tags,
+                used,
+            );
+            let check = r.check;
+            let c = host_numbers::checked(check);
+            HostFiltered {
+                refusal: c.refusal,
+                place: c.place,
+                total_flux_watts: r.total_flux_watts,
+                hit_count: r.hit_count,
+            }
+        }
+        NumberedFilter::Nothing => {
+            let e = NonSeqError::InvalidSceneText;
+            HostFiltered {
+                refusal: e.number(),
+                place: 0,
+                total_flux_watts: 0.0,
+                hit_count: 0,
+            }
+        }
     }
 }
 

@@ -1,22 +1,26 @@
 -- A local buffer that is long enough holds the whole text. Assumes nothing.
 use Prim.Native.Nat.{ℕ, _≤_}
 use mathlib.Core.Path.{_≡_, refl, sym, ap, _∙_}
-use mathlib.Core.Bool.{Bool, true, false, cond}
+use mathlib.Core.Bool.{Bool, true, false, cond, _&&_}
 use mathlib.Core.List.{List}
 use native.Mathlib.Omega.{arith}
-use lib.Dec.{leb}
+use lib.Dec.{leb, eqb}
 use lib.ListN.{length, take, replicate, length-replicate}
 use borrow.Author.Tests.{le-leb, leb-true}
-use Rattle.error.specs.Refusals.{Checked, passed, refusedAt}
+use Rattle.error.specs.declared.Check.{Check}
+use Rattle.error.specs.declared.Check.the-variants.{Passed}
+use Rattle.error.specs.Refusals.{Checked, passed, refusedAt, asChecked, after}
+use Rattle.detector.proofs.Grid.{never}
+use Rattle.detectors.specs.declared.Detectors.{Detectors}
 use Rattle.report.specs.declared.NonSeqTraceReport.{NonSeqTraceReport}
-use Rattle.detectors.specs.Detectors.{checkDetectorsOf}
-use Rattle.filter.specs.Filters.{numberedFilterOf}
+use Rattle.detectors.specs.Detectors.{allPixelsOf, checkDetectorsOf}
+use Rattle.filter.specs.declared.RayPathFilter.{RayPathFilter}
 use Rattle.printing.specs.Printing.{Out, out, putAll}
 use Rattle.printing.proofs.Writing.{written, length-put}
 use Rattle.answer_text.specs.Answer.{Held, answerText, refusalText}
 use Rattle.answer_text.proofs.Lengths.{refusal-short, answer-short}
-use Rattle.host_texts.specs.Texts.{putWholeOf, isHeldOf, heldText, textAfter, hostAnswerText}
-use Rattle.memory.specs.Memory.{textPixels}
+use Rattle.host_texts.specs.Texts.{putWholeOf, isHeldOf, checkHeldOf}
+use Rattle.memory.specs.Memory.{isHitListOf, textPixels}
 use Rattle.fields.specs.Split.{frontOf}
 
 front-is : (l left t : List ℕ) (n : ℕ) → length t ≤ length l → out left n ≡ putAll l 0 t → frontOf n left ≡ t
@@ -34,27 +38,18 @@ whole-in k left t f buf n z h e g w =
     let q : length t ≤ length (replicate k b) = omega (arith, length-replicate k b, h) in
     w ∙ ap (putWholeOf buf) (g ∙ front-is (replicate k b) left t n q e)
 
-if-short : (b : Bool) (x y : List ℕ) (k : ℕ) → (b ≡ true → length x ≤ k) → length y ≤ k → length (cond b x y) ≤ k
-if-short true x y k h g = h refl
-if-short false x y k h g = g
-
 pub refusal-fits : (n place : ℕ) → length (refusalText n place) ≤ 64
 refusal-fits n place = omega (arith, refusal-short n place)
 
-short : (n place : ℕ) → length (refusalText n place) ≤ 131072
-short n place = omega (arith, refusal-short n place)
+pub answer-held : (r : NonSeqTraceReport) (f : RayPathFilter) (m : Held) → length (m .flux) ≤ textPixels → length (answerText r f m) ≤ 131072
+answer-held r f m h = omega (arith, answer-short r f m h)
 
-held-short : (r : NonSeqTraceReport) (f : ℕ) (m : Held) → length (heldText r f m) ≤ 131072
-unfolding heldText
-held-short r f m =
-    if-short (leb (length (m .flux)) textPixels) _ _ 131072
-    (λ e. if-short (isHeldOf (m .detectors) (length (m .flux)) (length (m .hitValues)) (length (m .hitTags)) (m .used)) _ _ 131072 (λ g. omega (arith, answer-short r (numberedFilterOf f) m (leb-true _ _ e))) (short 9 0))
-    (short 9 0)
-
-after-short : (c : Checked Unit) (t : List ℕ) → length t ≤ 131072 → length (textAfter c t) ≤ 131072
-after-short (passed u) t h = h
-after-short (refusedAt n place) t h = short n place
-
-pub host-short : (r : NonSeqTraceReport) (f : ℕ) (m : Held) → length (hostAnswerText r f m) ≤ 131072
-unfolding hostAnswerText
-host-short r f m = if-short (leb f 4) _ _ 131072 (λ e. after-short (checkDetectorsOf (m .detectors)) (heldText r f m) (held-short r f m)) (short 17 0)
+-- what passed the check has no more pixels than there is room for
+pub held-few : (ds : Detectors) (nf nv nt used : ℕ) (a : Check) → asChecked a ≡ checkHeldOf ds nf nv nt used → a ≡ Passed → nf ≤ textPixels
+unfolding checkHeldOf isHeldOf
+held-few ds nf nv nt used a said k = go (checkDetectorsOf ds) (leb nf textPixels) (eqb nf (allPixelsOf ds) && isHitListOf nv nt used) refl (sym said ∙ ap asChecked k)
+  where
+    go : (c : Checked Unit) (x y : Bool) → leb nf textPixels ≡ x → _≡_ {A = Checked Unit} (after c (cond (x && y) (passed tt) (refusedAt 9 0))) (passed tt) → nf ≤ textPixels
+    go (refusedAt n place) x y e g = never n place tt g
+    go (passed u) true y e g = leb-true nf textPixels e
+    go (passed u) false y e g = never 9 0 tt g

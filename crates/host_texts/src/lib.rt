@@ -1,16 +1,22 @@
 // Scene texts and answers for hosts, and the ratio of a ledger. hosts/c/nonseq.h declares the calls for C.
 use detectors::Detectors;
 use error::Check;
+use error::NonSeqError;
+use filter::NumberedFilter;
 use filter::RayPathFilter;
 use report::Ledger;
 use report::NonSeqTraceReport;
 ghost use mathlib.Core.Path.{_≡_};
-ghost use Rattle.printing.specs.Printing.{out, putAll};
+ghost use Prim.Native.Nat.{_≤_};
+ghost use lib.ListN.{length};
+ghost use Rattle.error.specs.Refusals.{asChecked};
+ghost use Rattle.memory.specs.Memory.{textPixels};
+ghost use Rattle.printing.specs.Printing.{out};
 ghost use Rattle.report.specs.Report.{energyConservationRatioOf};
-ghost use Rattle.answer_text.specs.Answer.{held, refusalText};
+ghost use Rattle.answer_text.specs.Answer.{held, answerText, refusalText};
 ghost use Rattle.scene_text.specs.Scene.{slices, readSceneOf};
 ghost use Rattle.map_text.specs.StrayMap.{strayMapText};
-ghost use Rattle.host_texts.specs.Texts.{putWholeOf, isHeldOf, heldText, hostAnswerText, sceneFrom, sceneRead};
+ghost use Rattle.host_texts.specs.Texts.{putWholeOf, isHeldOf, checkHeldOf, textPut, putCheckedOf, hostPutAnswerOf, sceneFrom, sceneRead};
 ghost use Rattle.fields.specs.Split.{frontOf};
 
 // How many lines of values the blocks have.
@@ -21,6 +27,14 @@ pub struct HostScene {
     pub solids: u32,
     pub detectors: u32,
     pub rays: u32,
+}
+
+// The length of a text: as long as it is written, or as long as the buffer would have to be; 0 where refused.
+#[repr(C)]
+pub struct HostText {
+    pub refusal: u32,
+    pub place: u32,
+    pub length: usize,
 }
 
 // A scene text into eight slices, each of the text's numbers in their order; what has no place is counted and read
@@ -83,7 +97,8 @@ fn put_whole(buf: &mut [u8], t: &[u8]) -> usize
     t.len()
 }
 
-// Whether slices of these lengths are the flux map and the hit list of these detectors.
+// Whether slices of these lengths are the flux map and the hit list of these detectors, and an answer has room for the
+// pixels.
 fn is_held(
     detectors: Detectors,
     flux: usize,
@@ -93,90 +108,117 @@ fn is_held(
 ) -> bool
     ensures { λ r. ⌜ r ≡ isHeldOf detectors flux «hit_values» «hit_tags» used ⌝ }
 {
-    if flux == detectors.all_pixels() {
-        return memory::is_hit_list(hit_values, hit_tags, used);
+    if flux <= memory::TEXT_PIXELS {
+        if flux == detectors.all_pixels() {
+            return memory::is_hit_list(hit_values, hit_tags, used);
+        }
     }
     false
 }
 
-// The answer, once filter and detectors are good, or 9.
-fn put_held(
+// 3, 5 to 8, then 9.
+fn check_held(
+    detectors: Detectors,
+    flux: usize,
+    hit_values: usize,
+    hit_tags: usize,
+    used: usize,
+) -> Check
+    ensures { λ r. ⌜ asChecked r ≡ checkHeldOf detectors flux «hit_values» «hit_tags» used ⌝ }
+{
+    match detectors.check() {
+        Check::Refused { error, place } => Check::Refused { error, place },
+        Check::Passed => {
+            if is_held(detectors, flux, hit_values, hit_tags, used) {
+                return Check::Passed;
+            }
+            Check::Refused {
+                error: NonSeqError::InvalidSliceLength,
+                place: 0,
+            }
+        }
+    }
+}
+
+// The answer, whole, or nothing where it does not fit. Answers its length.
+fn put_answer(
     buf: &mut [u8],
     report: NonSeqTraceReport,
     detectors: Detectors,
-    filter: u32,
+    filter: RayPathFilter,
     flux: &[f64],
     hit_values: &[f64],
     hit_tags: &[u32],
     used: usize,
 ) -> usize
-    ensures { λ r. ⌜ out (now (buf .exit)) r ≡ putAll (now (buf .entry)) 0
-        (heldText report filter (held detectors (now (flux .entry)) (now («hit_values» .entry)) (now («hit_tags» .entry)) used)) ⌝ }
+    requires { ⌜ length (now flux) ≤ textPixels ⌝ }
+    ensures { λ r. ⌜ out (now (buf .exit)) r ≡ putWholeOf (now (buf .entry))
+        (answerText report filter (held detectors (now (flux .entry)) (now («hit_values» .entry)) (now («hit_tags» .entry)) used)) ⌝ }
 {
-    if flux.len() <= memory::TEXT_PIXELS {
-        if is_held(
-            detectors,
-            flux.len(),
-            hit_values.len(),
-            hit_tags.len(),
-            used,
-        ) {
-            let f = RayPathFilter::numbered(filter);
-            return answer_text::put_answer(
+    let mut t = [0u8; map_text::MAX_ANSWER];
+    let n = answer_text::put_answer(
+        &mut t,
+        0,
+        report,
+        detectors,
+        filter,
+        flux,
+        hit_values,
+        hit_tags,
+        used,
+    );
+    put_whole(buf, front(&t, n))
+}
+
+// The same, unless the detectors or the slices are refused.
+fn put_checked(
+    buf: &mut [u8],
+    report: NonSeqTraceReport,
+    detectors: Detectors,
+    filter: RayPathFilter,
+    flux: &[f64],
+    hit_values: &[f64],
+    hit_tags: &[u32],
+    used: usize,
+) -> HostText
+    ensures { λ r. ⌜ textPut r (now (buf .exit)) ≡ putCheckedOf (now (buf .entry)) report filter
+        (held detectors (now (flux .entry)) (now («hit_values» .entry)) (now («hit_tags» .entry)) used) ⌝ }
+{
+    match check_held(
+        detectors,
+        flux.len(),
+        hit_values.len(),
+        hit_tags.len(),
+        used,
+    ) {
+        Check::Refused { error, place } => HostText {
+            refusal: error.number(),
+            place,
+            length: 0,
+        },
+        Check::Passed => {
+            let n = put_answer(
                 buf,
-                0,
                 report,
                 detectors,
-                f,
+                filter,
                 flux,
                 hit_values,
                 hit_tags,
                 used,
             );
-        }
-        return answer_text::put_refusal(buf, 0, 9, 0);
-    }
-    answer_text::put_refusal(buf, 0, 9, 0)
-}
-
-fn put_text(
-    buf: &mut [u8],
-    report: NonSeqTraceReport,
-    detectors: Detectors,
-    filter: u32,
-    flux: &[f64],
-    hit_values: &[f64],
-    hit_tags: &[u32],
-    used: usize,
-) -> usize
-    ensures { λ r. ⌜ out (now (buf .exit)) r ≡ putAll (now (buf .entry)) 0
-        (hostAnswerText report filter (held detectors (now (flux .entry)) (now («hit_values» .entry)) (now («hit_tags» .entry)) used)) ⌝ }
-{
-    if filter <= RayPathFilter::LAST {
-        match detectors.check() {
-            Check::Passed => {
-                return put_held(
-                    buf,
-                    report,
-                    detectors,
-                    filter,
-                    flux,
-                    hit_values,
-                    hit_tags,
-                    used,
-                );
-            }
-            Check::Refused { error, place } => {
-                return answer_text::put_refusal(buf, 0, error.number(), place);
+            HostText {
+                refusal: 0,
+                place: 0,
+                length: n,
             }
         }
     }
-    answer_text::put_refusal(buf, 0, 17, 0)
 }
 
-// The answer of a tracing as text, whole, or nothing where it does not fit. Answers its length, at most 131,072. A
-// filter over 4 (17), detectors (3, 5 to 8), slices that are not theirs or more than 4,096 pixels (9) are answered by
-// the text of the refusal.
+// The answer of a tracing as text, whole, or nothing where it does not fit: its length, at most 131,072, is told
+// either way. A filter over 4 (17), detectors (3, 5 to 8), slices that are not theirs or more than 4,096 pixels (9)
+// are refused, and the buffer is left.
 #[no_mangle]
 pub extern "C" fn nonseq_put_answer(
     buf: &mut [u8],
@@ -187,22 +229,23 @@ pub extern "C" fn nonseq_put_answer(
     hit_values: &[f64],
     hit_tags: &[u32],
     used: usize,
-) -> usize
-    ensures { λ r. ⌜ out (now (buf .exit)) r ≡ putWholeOf (now (buf .entry))
-        (hostAnswerText report filter (held detectors (now (flux .entry)) (now («hit_values» .entry)) (now («hit_tags» .entry)) used)) ⌝ }
+) -> HostText
+    ensures { λ r. ⌜ textPut r (now (buf .exit)) ≡ hostPutAnswerOf (now (buf .entry)) report filter
+        (held detectors (now (flux .entry)) (now («hit_values» .entry)) (now («hit_tags» .entry)) used) ⌝ }
 {
-    let mut t = [0u8; map_text::MAX_ANSWER];
-    let n = put_text(
-        &mut t,
-        report,
-        detectors,
-        filter,
-        flux,
-        hit_values,
-        hit_tags,
-        used,
-    );
-    put_whole(buf, front(&t, n))
+    match RayPathFilter::numbered(filter) {
+        NumberedFilter::There(f) => {
+            put_checked(buf, report, detectors, f, flux, hit_values, hit_tags, used)
+        }
+        NumberedFilter::Nothing => {
+            let e = NonSeqError::InvalidSceneText;
+            HostText {
+                refusal: e.number(),
+                place: 0,
+                length: 0,
+            }
+        }
+    }
 }
 
 // A refusal as text, whole, or nothing where it does not fit. Answers its length.

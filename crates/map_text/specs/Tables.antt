@@ -2,6 +2,7 @@
 use Prim.Native.Nat.{ℕ, _+_, _*_}
 use mathlib.Core.List.{List, [], _∷_}
 use mathlib.Core.Bool.{cond}
+use mathlib.Core.Option.{Option, none, some}
 use lib.Dec.{leb, ltb, eqb}
 use lib.Ieee.{Float, nan}
 use lib.ListN.{length, getD, take, replicate}
@@ -12,6 +13,7 @@ use Rattle.detectors.specs.declared.Detectors.{Detectors}
 use Rattle.detectors.specs.Detectors.{allPixelsOf}
 use Rattle.memory.specs.Memory.{Memory, lentMemory, Outcome, done, refused, textPixels, textHits, hitDoubles, hitWholes}
 use Rattle.filter.specs.declared.RayPathFilter.{RayPathFilter}
+use Rattle.filter.specs.declared.RayPathFilter.the-variants.{All}
 use Rattle.filter.specs.Filters.{numberedFilterOf}
 use Rattle.step.specs.declared.NonSeqTraceConfig.{NonSeqTraceConfig}
 use Rattle.report.specs.declared.NonSeqTraceReport.{NonSeqTraceReport}
@@ -92,9 +94,14 @@ configOf v w =
           (valueOf v 5) (valueOf v 6));
     }
 
+-- a number that is no filter's, which no scene text has, means All
+abbrev pub orAll : Option RayPathFilter → RayPathFilter
+orAll (some f) = f
+orAll none = All
+
 -- `-` means All
 unfoldable pub meantOf : ℕ → RayPathFilter
-meantOf n = numberedFilterOf (cond (eqb n noFilter) 0 n)
+meantOf n = cond (eqb n noFilter) All (orAll (numberedFilterOf n))
 
 -- ---- the detectors, which have caught nothing
 

@@ -1,6 +1,7 @@
 // What is given to the tracing, from the tables.
 use detector::Detector2D;
 use detectors::Detectors;
+use filter::NumberedFilter;
 use filter::RayPathFilter;
 use material::OpticalMedium;
 use rays::Vec3;
@@ -64,14 +65,17 @@ pub(crate) fn config(run_values: &[f64], run_tags: &[u32]) -> NonSeqTraceConfig
     }
 }
 
-// The filter of a number; `-` means All.
+// The filter of a number. `-` means All, and so does a number that is no filter's, which no scene text has.
 pub(crate) fn meant(number: u32) -> RayPathFilter
     ensures { λ r. ⌜ r ≡ meantOf number ⌝ }
 {
     if number == NO_FILTER {
-        return RayPathFilter::numbered(0);
+        return RayPathFilter::All;
     }
-    RayPathFilter::numbered(number)
+    match RayPathFilter::numbered(number) {
+        NumberedFilter::There(f) => f,
+        NumberedFilter::Nothing => RayPathFilter::All,
+    }
 }
 
 // At most so many.

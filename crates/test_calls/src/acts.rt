@@ -8,6 +8,7 @@ use crate::lists;
 use crate::records;
 use detector::DetectorNo;
 use detector::Reading;
+use filter::NumberedFilter;
 use filter::RayPathFilter;
 ghost use Prim.Native.Nat.{_≤_};
 
@@ -140,7 +141,7 @@ fn parted(
 
 // A filter into a work map; an answer of 9 where the part that it hands out has another length.
 fn filtered_in(
-    u: &[f64],
+    filter: RayPathFilter,
     asked: u32,
     map: &mut [f64],
     flux: &[f64],
@@ -151,7 +152,6 @@ fn filtered_in(
 ) -> Answer {
     let detectors = records::detectors(ds);
     let asked = DetectorNo(asked);
-    let filter = RayPathFilter::numbered(drawn::up_to(u, 4, 4));
     let n = map.len();
     let r = filter::refilter(
         detectors,
@@ -163,7 +163,7 @@ fn filtered_in(
         hit_tags,
         used,
     );
-    let part = filter::filtered_part(
+    let part = filter::filtered_pixel_flux(
         detectors,
         asked,
         filter,
@@ -193,16 +193,19 @@ fn filtered(
     let mut map = [7.0f64; 9];
     let asked = kinds::asked(u, w);
     let n = laid::pixels_of(w, asked) as usize;
-    filtered_in(
-        u,
-        asked,
-        &mut map[0..n],
-        flux,
-        hit_values,
-        hit_tags,
-        ds,
-        used,
-    )
+    match RayPathFilter::numbered(drawn::up_to(u, 4, 4)) {
+        NumberedFilter::There(f) => filtered_in(
+            f,
+            asked,
+            &mut map[0..n],
+            flux,
+            hit_values,
+            hit_tags,
+            ds,
+            used,
+        ),
+        NumberedFilter::Nothing => answers::refused(17, used),
+    }
 }
 
 // The irradiance of a pixel.

@@ -1,4 +1,4 @@
-// Six hits recorded in an empty memory, and what each filter makes of detector 1.
+// Six hits recorded in an empty memory, and what each filter makes of detector 1; 5 is no filter's number.
 use crate::made;
 use crate::report;
 use crate::sifted;
@@ -20,18 +20,14 @@ fn each(detectors: Detectors, used: usize, stored: &[f64], hit_values: &[f64], h
     report::whole(b"Filters, used ", used as u64);
     report::text(b"\n");
     let mut n: u32 = 0;
-    while n < 5 {
+    while n < 6 {
         let q = Question {
             detectors,
             asked: 1,
             filter: n,
             used,
-            in_one_call: false,
         };
         one(q, stored, hit_values, hit_tags);
-        let mut p = q;
-        p.in_one_call = true;
-        one(p, stored, hit_values, hit_tags);
         n += 1;
     }
 }

@@ -44,7 +44,7 @@ fn sift(words: &[u8], stored: usize, work: usize, hit_values: usize, hit_tags: u
         hit_values,
         hit_tags,
     };
-    sifted::each_way(words, made::two(), 1, used, lent);
+    sifted::all_and_ghosts(words, made::two(), 1, used, lent);
 }
 
 pub(crate) fn filters() {

@@ -40,7 +40,7 @@ fn sift(words: &[u8], ds: Detectors, asked: u32, pixels: usize)
         hit_values: 8,
         hit_tags: 8,
     };
-    sifted::each_way(words, ds, asked, 2, lent);
+    sifted::all_and_ghosts(words, ds, asked, 2, lent);
 }
 
 pub(crate) fn not_there() {

@@ -21,17 +21,6 @@ pub(crate) fn refused(number: u32, place: u32) {
     whole(b" at ", place as u64);
 }
 
-// The same, or "passed" for 0 at 0.
-pub(crate) fn numbered(number: u32, place: u32) {
-    if number == 0 {
-        if place == 0 {
-            text(b"passed");
-            return;
-        }
-    }
-    refused(number, place);
-}
-
 pub(crate) fn check(c: Check) {
     match c {
         Check::Passed => text(b"passed"),

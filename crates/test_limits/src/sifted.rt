@@ -5,16 +5,16 @@ use crate::made;
 use crate::report;
 use detector::DetectorNo;
 use detectors::Detectors;
+use filter::NumberedFilter;
 use filter::RayPathFilter;
 ghost use Prim.Native.Nat.{_≤_};
 
-// What is asked: a filter's number for a detector, in two calls or in one, with so many hits used.
+// What is asked: a filter's number for a detector, with so many hits used.
 pub struct Question {
     pub detectors: Detectors,
     pub asked: u32,
     pub filter: u32,
     pub used: usize,
-    pub in_one_call: bool,
 }
 
 // How many places of each slice a trial lends.
@@ -47,10 +47,16 @@ fn tell_changed(
     report::text(b"\n");
 }
 
-// `refilter`, then `filtered_part`.
-fn ask_twice(q: Question, stored: &[f64], work: &mut [f64], hit_values: &[f64], hit_tags: &[u32]) {
+// `refilter`, then `filtered_pixel_flux`.
+fn ask_twice(
+    q: Question,
+    kind: RayPathFilter,
+    stored: &[f64],
+    work: &mut [f64],
+    hit_values: &[f64],
+    hit_tags: &[u32],
+) {
     let detectors = q.detectors;
-    let kind = RayPathFilter::numbered(q.filter);
     let asked = DetectorNo(q.asked);
     let r = filter::refilter(
         detectors,
@@ -66,7 +72,7 @@ fn ask_twice(q: Question, stored: &[f64], work: &mut [f64], hit_values: &[f64], 
     report::check(check);
     report::whole(b", count ", r.hit_count as u64);
     report::bits(b", total ", r.total_flux_watts);
-    tell_part(filter::filtered_part(
+    tell_part(filter::filtered_pixel_flux(
         detectors,
         asked,
         kind,
@@ -78,43 +84,13 @@ fn ask_twice(q: Question, stored: &[f64], work: &mut [f64], hit_values: &[f64], 
     ));
 }
 
-// `filtered_pixel_flux`; the four places for its answer hold 99 before.
-fn ask_once(q: Question, stored: &[f64], work: &mut [f64], hit_values: &[f64], hit_tags: &[u32]) {
-    let detectors = q.detectors;
-    let kind = RayPathFilter::numbered(q.filter);
-    let mut refusal: u32 = 99;
-    let mut at: u32 = 99;
-    let mut total = 99.0;
-    let mut count: usize = 99;
-    let part = filter::filtered_pixel_flux(
-        detectors,
-        DetectorNo(q.asked),
-        kind,
-        stored,
-        work,
-        hit_values,
-        hit_tags,
-        q.used,
-        &mut refusal,
-        &mut at,
-        &mut total,
-        &mut count,
-    );
-    report::numbered(refusal, at);
-    report::whole(b", count ", count as u64);
-    report::bits(b", total ", total);
-    tell_part(part);
-}
-
 fn ask(q: Question, stored: &[f64], work: &mut [f64], hit_values: &[f64], hit_tags: &[u32]) {
     report::whole(b", filter ", q.filter as u64);
-    if q.in_one_call {
-        report::text(b" in one call: ");
-        ask_once(q, stored, work, hit_values, hit_tags);
-        return;
-    }
     report::text(b": ");
-    ask_twice(q, stored, work, hit_values, hit_tags);
+    match RayPathFilter::numbered(q.filter) {
+        NumberedFilter::There(kind) => ask_twice(q, kind, stored, work, hit_values, hit_tags),
+        NumberedFilter::Nothing => report::text(b"no filter"),
+    }
 }
 
 pub(crate) fn sift(
@@ -186,8 +162,13 @@ pub(crate) fn once(words: &[u8], q: Question, lent: Maps)
     );
 }
 
-// All and GhostsOnly, in two calls and in one.
-pub(crate) fn each_way(words: &[u8], detectors: Detectors, asked: u32, used: usize, lent: Maps)
+pub(crate) fn all_and_ghosts(
+    words: &[u8],
+    detectors: Detectors,
+    asked: u32,
+    used: usize,
+    lent: Maps,
+)
     requires { ⌜ (lent .stored ≤ 32) × (lent .work ≤ 32) × (lent .«hit_values» ≤ 32) × (lent .«hit_tags» ≤ 32) ⌝ }
 {
     let mut q = Question {
@@ -195,14 +176,8 @@ pub(crate) fn each_way(words: &[u8], detectors: Detectors, asked: u32, used: usi
         asked,
         filter: 0,
         used,
-        in_one_call: false,
     };
     once(words, q, lent);
-    q.in_one_call = true;
-    once(words, q, lent);
     q.filter = 2;
-    q.in_one_call = false;
-    once(words, q, lent);
-    q.in_one_call = true;
     once(words, q, lent);
 }

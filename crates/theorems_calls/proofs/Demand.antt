@@ -18,8 +18,6 @@ use Rattle.memory.proofs.record_hit_classified.Statement.{statement as record-h
 use Rattle.memory.proofs.record_hit_classified.Met as record-hit-classified
 use Rattle.filter.proofs.refilter.Statement.{statement as refilter-meets}
 use Rattle.filter.proofs.refilter.Met as refilter
-use Rattle.filter.proofs.filtered_part.Statement.{statement as filtered-part-meets}
-use Rattle.filter.proofs.filtered_part.Met as filtered-part
 use Rattle.filter.proofs.filtered_pixel_flux.Statement.{statement as filtered-pixel-flux-meets}
 use Rattle.filter.proofs.filtered_pixel_flux.Met as filtered-pixel-flux
 use Rattle.trace.proofs.trace_rays.Statement.{statement as trace-rays-meets}
@@ -35,7 +33,6 @@ pub record Demand3 (M : Type 1) : Type 2 where
   pub trace-rays : trace-rays-meets M
   pub record-hit-classified : record-hit-classified-meets M
   pub refilter : refilter-meets M
-  pub filtered-part : filtered-part-meets M
   pub filtered-pixel-flux : filtered-pixel-flux-meets M
   pub irradiance-at : irradiance-at-meets M
   pub intersect-ray : intersect-ray-meets M
@@ -57,7 +54,6 @@ demand-3 =
       trace-rays = trace-rays.met;
       record-hit-classified = record-hit-classified.met;
       refilter = refilter.met;
-      filtered-part = filtered-part.met;
       filtered-pixel-flux = filtered-pixel-flux.met;
       irradiance-at = irradiance-at.met;
       intersect-ray = intersect-ray.met;

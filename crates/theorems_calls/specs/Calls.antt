@@ -26,10 +26,9 @@ pub data Call : Type 0 where
   tracing : Batch → Call
   -- `record_hit_classified`
   recording : DetectorHit → Call
-  -- `refilter`, `filtered_part` and `filtered_pixel_flux` of a detector, with the caller's work map
+  -- `refilter` and `filtered_pixel_flux` of a detector, with the caller's work map
   refilter : DetectorNo → RayPathFilter → List Float → Call
   part : DetectorNo → RayPathFilter → List Float → Call
-  filtered : DetectorNo → RayPathFilter → List Float → Call
   -- `irradiance_at` of a detector's column and row
   irradiance : DetectorNo → ℕ → ℕ → Call
   -- `intersect_ray` and `pixel_area_m2` of any detector
@@ -48,7 +47,6 @@ wishIn (tracing B) = rays B
 wishIn (recording h) = hit h
 wishIn (refilter d f work) = nothing
 wishIn (part d f work) = nothing
-wishIn (filtered d f work) = nothing
 wishIn (irradiance d px py) = nothing
 wishIn (crossing d r) = nothing
 wishIn (area d) = nothing

@@ -19,6 +19,7 @@ plain!(HostRecorded { refusal: u32, place: u32, used: usize, detectors: Detector
 plain!(HostFiltered { refusal: u32, place: u32, total_flux_watts: f64, hit_count: usize });
 plain!(HostPart { refusal: u32, place: u32, first: usize, pixels: usize });
 plain!(HostScene { refusal: u32, place: u32, solids: u32, detectors: u32, rays: u32 });
+plain!(HostText { refusal: u32, place: u32, length: usize });
 plain!(HostTraced { refusal: u32, place: u32, used: usize, report: crate::Report, detectors: Detectors });
 plain!(Detectors { list: [crate::Detector; 8], count: u32 });
 
@@ -60,7 +61,7 @@ extern "C" {
     pub fn nonseq_put_answer(
         buf: *mut u8, buf_len: usize, report: crate::Report, detectors: Detectors, filter: u32,
         flux: *const f64, flux_len: usize, hit_values: *const f64, hit_values_len: usize, hit_tags: *const u32, hit_tags_len: usize, used: usize,
-    ) -> usize;
+    ) -> HostText;
     pub fn nonseq_put_refusal(buf: *mut u8, buf_len: usize, refusal: u32, place: u32) -> usize;
     pub fn nonseq_stray_map(buf: *mut u8, buf_len: usize, text: *const u8, text_len: usize) -> usize;
 }

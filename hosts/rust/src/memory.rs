@@ -199,12 +199,13 @@ impl Memory {
         Error::check(r.refusal, r.place).map(|()| r.value)
     }
 
-    pub(crate) fn write(&self, buf: &mut [u8], report: &Report, filter: Filter) -> usize {
-        unsafe {
+    pub(crate) fn write(&self, buf: &mut [u8], report: &Report, filter: Filter) -> Result<usize, Error> {
+        let r = unsafe {
             ffi::nonseq_put_answer(
                 buf.as_mut_ptr(), buf.len(), *report, self.detectors, filter.number(), self.flux.as_ptr(), self.flux.len(),
                 self.hit_values.as_ptr(), self.hit_values.len(), self.hit_tags.as_ptr(), self.hit_tags.len(), self.used,
             )
-        }
+        };
+        Error::check(r.refusal, r.place).map(|()| r.length)
     }
 }

@@ -73,12 +73,12 @@ fn read_into(text: &[u8], s: &mut SceneText) -> Result<(), Error> {
     Ok(())
 }
 
-/// The answer of a tracing as text; for a memory of more than 4,096 pixels the text of refusal 9.
-pub fn write_answer(memory: &Memory, report: &Report, filter: Filter) -> Vec<u8> {
+/// The answer of a tracing as text. A memory of more than 4,096 pixels is refused by 9.
+pub fn write_answer(memory: &Memory, report: &Report, filter: Filter) -> Result<Vec<u8>, Error> {
     let mut buf = vec![0; MAX_ANSWER];
-    let n = memory.write(&mut buf, report, filter);
+    let n = memory.write(&mut buf, report, filter)?;
     buf.truncate(n);
-    buf
+    Ok(buf)
 }
 
 /// A refusal as text.

@@ -83,7 +83,7 @@ fn memories() {
 fn the_first_scene() {
     let mut m = Memory::new(&[screen(10.0, 2)], 4).unwrap();
     let report = m.trace(&config(), &Scene::new(), &[ray(1.0, 1.0, 1.0)]).unwrap();
-    assert_eq!(write_answer(&m, &report, Filter::All), ANSWER);
+    assert_eq!(write_answer(&m, &report, Filter::All).unwrap(), ANSWER);
     assert_eq!(report.ledger.energy_conservation_ratio(), 1.0);
     assert_eq!(m.map(0), Ok(&[0.0, 0.0, 0.0, 1.0][..]));
     assert_eq!(m.irradiance_at(0, 1, 1), Ok(1.0 / (2e-3 * 2e-3)));
@@ -243,7 +243,7 @@ fn texts() {
     let n = unsafe { ffi::nonseq_stray_map(small.as_mut_ptr(), 18, SCENE.as_ptr(), SCENE.len()) };
     assert_eq!((n, small), (ANSWER.len(), [7; 18]));
     let big = Memory::new(&[screen(1.0, 65)], 0).unwrap();
-    assert_eq!(write_answer(&big, &Report::default(), Filter::All), b"refusal place\n9 0\n");
+    assert_eq!(number(write_answer(&big, &Report::default(), Filter::All)), (9, 0));
 }
 
 /// What is read can be traced.
@@ -258,7 +258,7 @@ fn a_text_read_and_traced() {
     let rules = Config { min_power_threshold: s.run_values[0], max_bounces: s.run_tags[0], ambient: Medium::Air };
     let scene = Scene::from_numbers(s.solid_values, s.solid_tags, s.solids);
     let report = m.trace_flat(&rules, &scene, &s.ray_values, &s.ray_tags, s.rays).unwrap();
-    assert_eq!(write_answer(&m, &report, Filter::All), answer);
+    assert_eq!(write_answer(&m, &report, Filter::All).unwrap(), answer);
     assert_eq!(stray_map(text), answer);
 }
 

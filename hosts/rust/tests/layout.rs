@@ -16,6 +16,7 @@ fn sizes() {
     assert_eq!((size_of::<GivenRay>(), offset_of!(GivenRay, media)), (104, 72));
     assert_eq!((size_of::<ffi::HostTraced>(), offset_of!(ffi::HostTraced, detectors)), (992, 88));
     assert_eq!(size_of::<ffi::HostRecorded>(), 920);
+    assert_eq!((size_of::<ffi::HostText>(), offset_of!(ffi::HostText, length)), (16, 8));
 }
 
 fn odd(k: f64) -> Detector {
@@ -81,7 +82,7 @@ fn reports_are_written() {
     report.total_interactions = 22;
     report.tallies = nonseq::Tallies { made: 1, dim: 2, spent: 3, caught: 4, gone: 5, surface: 6, weak: 7 };
     let memory = nonseq::Memory::new(&[], 1).unwrap();
-    let text = nonseq::write_answer(&memory, &report, nonseq::Filter::All);
+    let text = nonseq::write_answer(&memory, &report, nonseq::Filter::All).unwrap();
     let lines: Vec<&str> = std::str::from_utf8(&text).unwrap().lines().collect();
     assert_eq!(lines[1], "21 22 3ff 4 401 402");
     assert_eq!(lines[3], "1 2 3 4 5 6 7");

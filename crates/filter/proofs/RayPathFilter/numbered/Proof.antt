@@ -25,8 +25,16 @@ returns-4 c =
 returns-5 : tie.Need-returns-5
 unfolding numberedFilterOf
 returns-5 c =
-    let if1 = c .before .before .before .if1 in
-    simp (ne-eqb _ _ (if1 .left), ne-eqb _ _ (c .before .before .if2 .left), ne-eqb _ _ (c .before .if3 .left), ne-eqb _ _ (c .if4 .left))
+    let if1 = c .before .before .before .before .if1 in
+    let if2 = c .before .before .before .if2 in
+    simp (ne-eqb _ _ (if1 .left), ne-eqb _ _ (if2 .left), ne-eqb _ _ (c .before .before .if3 .left), ne-eqb _ _ (c .before .if4 .left), eq-eqb _ _ (c .if5 .taken))
+
+returns-6 : tie.Need-returns-6
+unfolding numberedFilterOf
+returns-6 c =
+    let if1 = c .before .before .before .before .if1 in
+    let if2 = c .before .before .before .if2 in
+    simp (ne-eqb _ _ (if1 .left), ne-eqb _ _ (if2 .left), ne-eqb _ _ (c .before .before .if3 .left), ne-eqb _ _ (c .before .if4 .left), ne-eqb _ _ (c .if5 .left))
 
 pub numbered-spec : {M : Type 1} → statement M
-numbered-spec = tie.close (tie.spec returns returns-2 returns-3 returns-4 returns-5)
+numbered-spec = tie.close (tie.spec returns returns-2 returns-3 returns-4 returns-5 returns-6)

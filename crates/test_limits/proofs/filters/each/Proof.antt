@@ -5,10 +5,10 @@ use Rattle.test_limits.proofs.filters.each.Statement.{statement}
 use Rattle.test_limits.proofs.filters.each.Tie as tie
 
 abbrev Inv-loop : tie.InvT-loop
-Inv-loop detectors used stored hitValues hitTags n₀ n = n ≤ 5
+Inv-loop detectors used stored hitValues hitTags n₀ n = n ≤ 6
 
 abbrev μ-loop : tie.MeasureT-loop
-μ-loop detectors used stored hitValues hitTags n₀ n = 5 - n
+μ-loop detectors used stored hitValues hitTags n₀ n = 6 - n
 
 slice-aggregate-whole : tie.Need-slice-aggregate-whole Inv-loop μ-loop
 slice-aggregate-whole c = search needs
@@ -27,9 +27,6 @@ loop-holds c = search needs
 
 one-requires : tie.Need-one-requires Inv-loop μ-loop
 one-requires c κs = search needs
-
-one-requires-2 : tie.Need-one-requires-2 Inv-loop μ-loop
-one-requires-2 c κs = search needs
 
 add-n : tie.Need-add-n Inv-loop μ-loop
 add-n c = search needs
@@ -55,7 +52,6 @@ each-spec =
     text-requires
     loop-holds
     one-requires
-    one-requires-2
     add-n
     loop-less
     loop-again
