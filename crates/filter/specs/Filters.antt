@@ -13,7 +13,7 @@ use Rattle.detector.specs.declared.DetectorHit.{DetectorHit}
 use Rattle.filter.specs.declared.RayPathFilter.{RayPathFilter}
 use Rattle.filter.specs.declared.RayPathFilter.the-variants.{All, SignalOnly, GhostsOnly, TirOnly, StrayLight}
 use Rattle.filter.specs.declared.NumberedFilter.{NumberedFilter}
-use Rattle.filter.specs.declared.NumberedFilter.the-variants.{There, Nothing}
+use Rattle.filter.specs.declared.NumberedFilter.the-variants.{Filter, Nothing}
 use Rattle.filter.specs.declared.sifting.Tally.{Tally}
 use Rattle.doubles.specs.Doubles.{#0}
 
@@ -25,7 +25,7 @@ numberedFilterOf n =
 
 -- what the code's answer says
 abbrev pub asFilter : NumberedFilter → Option RayPathFilter
-asFilter (There f) = some f
+asFilter (Filter f) = some f
 asFilter Nothing = none
 
 abbrev pub isAllOf : RayPathFilter → Bool

@@ -28,7 +28,7 @@ pub enum RayPathFilter {
 
 // The filter of a number, if it is one's.
 pub enum NumberedFilter {
-    There(RayPathFilter),
+    Filter(RayPathFilter),
     Nothing,
 }
 
@@ -37,19 +37,19 @@ impl RayPathFilter {
         ensures { λ r. ⌜ asFilter r ≡ numberedFilterOf number ⌝ }
     {
         if number == 0 {
-            return NumberedFilter::There(RayPathFilter::All);
+            return NumberedFilter::Filter(RayPathFilter::All);
         }
         if number == 1 {
-            return NumberedFilter::There(RayPathFilter::SignalOnly);
+            return NumberedFilter::Filter(RayPathFilter::SignalOnly);
         }
         if number == 2 {
-            return NumberedFilter::There(RayPathFilter::GhostsOnly);
+            return NumberedFilter::Filter(RayPathFilter::GhostsOnly);
         }
         if number == 3 {
-            return NumberedFilter::There(RayPathFilter::TirOnly);
+            return NumberedFilter::Filter(RayPathFilter::TirOnly);
         }
         if number == 4 {
-            return NumberedFilter::There(RayPathFilter::StrayLight);
+            return NumberedFilter::Filter(RayPathFilter::StrayLight);
         }
         NumberedFilter::Nothing
     }

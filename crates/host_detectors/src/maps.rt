@@ -86,7 +86,7 @@ pub extern "C" fn nonseq_refilter(
         ≡ filteredFrom (hostRefilterOf detectors asked filter (now (flux .entry)) (now (work .entry)) (now («hit_values» .entry)) (now («hit_tags» .entry)) used) ⌝ }
 {
     match RayPathFilter::numbered(filter) {
-        NumberedFilter::There(f) => {
+        NumberedFilter::Filter(f) => {
             let r = filter::refilter(
                 detectors,
                 DetectorNo(asked),

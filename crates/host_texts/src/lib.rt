@@ -234,7 +234,7 @@ pub extern "C" fn nonseq_put_answer(
         (held detectors (now (flux .entry)) (now («hit_values» .entry)) (now («hit_tags» .entry)) used) ⌝ }
 {
     match RayPathFilter::numbered(filter) {
-        NumberedFilter::There(f) => {
+        NumberedFilter::Filter(f) => {
             put_checked(buf, report, detectors, f, flux, hit_values, hit_tags, used)
         }
         NumberedFilter::Nothing => {

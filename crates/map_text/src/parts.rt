@@ -73,7 +73,7 @@ pub(crate) fn meant(number: u32) -> RayPathFilter
         return RayPathFilter::All;
     }
     match RayPathFilter::numbered(number) {
-        NumberedFilter::There(f) => f,
+        NumberedFilter::Filter(f) => f,
         NumberedFilter::Nothing => RayPathFilter::All,
     }
 }

@@ -194,7 +194,7 @@ fn filtered(
     let asked = kinds::asked(u, w);
     let n = laid::pixels_of(w, asked) as usize;
     match RayPathFilter::numbered(drawn::up_to(u, 4, 4)) {
-        NumberedFilter::There(f) => filtered_in(
+        NumberedFilter::Filter(f) => filtered_in(
             f,
             asked,
             &mut map[0..n],

@@ -88,7 +88,7 @@ fn ask(q: Question, stored: &[f64], work: &mut [f64], hit_values: &[f64], hit_ta
     report::whole(b", filter ", q.filter as u64);
     report::text(b": ");
     match RayPathFilter::numbered(q.filter) {
-        NumberedFilter::There(kind) => ask_twice(q, kind, stored, work, hit_values, hit_tags),
+        NumberedFilter::Filter(kind) => ask_twice(q, kind, stored, work, hit_values, hit_tags),
         NumberedFilter::Nothing => report::text(b"no filter"),
     }
 }
