@@ -8,46 +8,38 @@ use native.Mathlib.Omega.{arith}
 use lib.Dec.{leb, eqb}
 use lib.Ieee.{Float}
 use lib.ListN.{length}
-use borrow.Author.Tests.{lt-ltb, eq-eqb, eqb-true}
+use borrow.Author.Tests.{lt-ltb}
 use Rattle.error.specs.Refusals.{Checked, passed, refusedAt}
 use Rattle.detector.specs.declared.Detector2D.{Detector2D}
 use Rattle.detector.specs.Pixels.{pixelsOf, pixelAtOf, maxCount}
 use Rattle.detector.proofs.Grid.{Gridded, pixel-in}
-use Rattle.detectors.specs.declared.Detectors.{Detectors}
 use Rattle.detectors.specs.declared.Placed.{Placed}
 use Rattle.detector.specs.declared.DetectorHit.{DetectorHit}
-use Rattle.detectors.specs.Detectors.{detectorAt, firstPixelOf, allPixelsOf, placedOf, findOf}
-use Rattle.memory.specs.Memory.{Memory, done, refused, memoryLeft, listed, hitsFrom, cellOf, cellIn, inMapsOf, hasPixel, judged, capacity, raised, putOf, recordOf, isHitListOf, areLengthsOf, isMemory, unless, recordHitClassifiedOf, writtenAt}
+use Rattle.detectors.specs.Detectors.{detectorAt, firstPixelOf, placedOf, findOf}
+use Rattle.memory.specs.Memory.{Memory, done, refused, memoryLeft, listed, hitsFrom, cellOf, cellIn, inMapsOf, hasPixel, judged, capacity, raised, putOf, recordOf, isMemory, unless, recordHitClassifiedOf, writtenAt}
 use Rattle.memory.specs.Plain.{Empty, added, viewIn, plusAll, bookHit, sharing, numberIn}
 use Rattle.detectors.proofs.Passed.{Sound, asked-there, part-in}
-use Rattle.memory.proofs.Records.{both}
+use Rattle.memory.proofs.Lengths.{long}
 use Rattle.memory.proofs.Keeps.{kept, added-keeps, same-pixels, same-pixel}
 use Rattle.memory.proofs.Plain.{Kept, record-keeps, record-lists}
 use Rattle.memory.proofs.Views.{Fits, AllFit, gridded-kept, views}
 
 -- ---- after the checks a hit is never refused by 9
 
-lengths : (ds : Detectors) (nf nh nv nt used : ℕ) → areLengthsOf ds nf nh nv nt used ≡ true → (nf ≡ allPixelsOf ds) × (nh ≡ allPixelsOf ds) × (nv ≡ nt)
-unfolding areLengthsOf isHitListOf
-lengths ds nf nh nv nt used e =
-    let f = both _ _ e in
-    let g = both _ _ (f .1) in
-    (eqb-true _ _ (f .0), eqb-true _ _ (g .0), eqb-true _ _ (both _ _ (g .1) .0))
-
 pub holds-checked : (s : Memory) (h : DetectorHit) → Sound (s .detectors) → h .detector .0 < s .detectors .count → isMemory s ≡ true → hasPixel s h ≡ true
 unfolding isMemory hasPixel inMapsOf cellIn cellOf placedOf
 holds-checked s h sound k e =
     let d = h .detector .0 in
     let l = s .detectors .list in
-    let t = lengths _ _ _ _ _ _ e in
+    let t = long _ _ _ _ _ _ e in
     let i = pixel-in (detectorAt l d) (h .«local_x») (h .«local_y») (sound .each d k) in
-    let f = part-in (s .detectors) d (length (s .flux)) sound k (t .0) in
-    let g = part-in (s .detectors) d (length (s .hits)) sound k (t .1) in
+    let f = part-in (s .detectors) d (length (s .flux)) sound k (t .flux) in
+    let g = part-in (s .detectors) d (length (s .hits)) sound k (t .hits) in
     rw (
       lt-ltb d 8 (omega (arith, sound .most)),
       lt-ltb (firstPixelOf l d + pixelAtOf (detectorAt l d) (h .«local_x») (h .«local_y»)) (length (s .flux)) (omega (arith, i, f)),
       lt-ltb (firstPixelOf l d + pixelAtOf (detectorAt l d) (h .«local_x») (h .«local_y»)) (length (s .hits)) (omega (arith, i, g)),
-      eq-eqb (length (s .hitValues)) (length (s .hitTags)) (t .2),
+      t .rows,
     )
 
 -- the call that is open to hosts, once the checks passed: only 12 and 13 are left

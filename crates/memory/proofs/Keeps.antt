@@ -1,19 +1,16 @@
 -- What a recorded hit keeps: lengths, and all of the detectors but totals and counts. Assumes nothing.
-use Prim.Native.Nat.{ℕ, zero, suc}
+use Prim.Native.Nat.{ℕ, zero, suc, _*_}
 use mathlib.Core.Path.{_≡_, refl, _∙_}
 use mathlib.Core.List.{List, [], _∷_}
 use lib.Ieee.{Float}
 use lib.ListN.{length, set, length-set}
+use lib.Seq.{length-sets}
 use Rattle.detector.specs.declared.Detector2D.{Detector2D}
 use Rattle.detector.specs.Pixels.{pixelsOf, pixelAtOf}
 use Rattle.detector.specs.declared.DetectorHit.{DetectorHit}
 use Rattle.detectors.specs.Detectors.{detectorAt, firstPixelOf, placedOf}
-use Rattle.memory.specs.Memory.{Memory, capacity, raised, four, cellOf, cellIn, hasPixel, writtenAt}
+use Rattle.memory.specs.Memory.{Memory, hitDoubles, hitWholes, hitValuesRow, hitTagsRow, capacity, raised, cellOf, cellIn, hasPixel, writtenAt}
 use Rattle.memory.specs.Plain.{added}
-
-pub length-four : (A : Type 0) (l : List A) (i : ℕ) (a b c d : A) → length (four A l i a b c d) ≡ length l
-unfolding four
-length-four A l i a b c d = simp length-set
 
 -- ---- the detectors
 
@@ -76,11 +73,11 @@ module _ (s : Memory) (p : ℕ) (k : DetectorHit) where
 
   pub written-values : length (writtenAt s p k .hitValues) ≡ length (s .hitValues)
   unfolding writtenAt
-  written-values = length-four Float _ _ _ _ _ _
+  written-values = length-sets (s .hitValues) (hitDoubles * s .used) (hitValuesRow k)
 
   pub written-tags : length (writtenAt s p k .hitTags) ≡ length (s .hitTags)
   unfolding writtenAt
-  written-tags = length-four ℕ _ _ _ _ _ _
+  written-tags = length-sets (s .hitTags) (hitWholes * s .used) (hitTagsRow k)
 
 -- ---- any number of hits added
 

@@ -1,4 +1,6 @@
 -- What holds of the definitions.
+pub mod Rows
+pub mod Lengths
 pub mod Records
 pub mod Keeps
 pub mod Listed

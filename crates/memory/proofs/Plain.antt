@@ -17,7 +17,7 @@ use Rattle.detector.specs.declared.DetectorHit.{DetectorHit}
 use Rattle.error.specs.Refusals.{Checked, passed, refusedAt}
 use Rattle.detectors.specs.declared.Placed.{Placed}
 use Rattle.detectors.specs.Detectors.{noDetector, detectorAt, findOf}
-use Rattle.memory.specs.Memory.{Memory, Outcome, done, refused, raised, writtenAt, judged, putOf, recordOf, cellIn, capacity, hasPixel, hitDetector, listed, hitsFrom, memoryLeft, unless, isMemory, recordHitClassifiedOf}
+use Rattle.memory.specs.Memory.{Memory, Outcome, done, refused, raised, writtenAt, judged, putOf, recordOf, cellIn, areHitsOf, capacity, hasPixel, hitDetector, listed, hitsFrom, memoryLeft, unless, isMemory, recordHitClassifiedOf}
 use Rattle.memory.specs.Plain.{sharing, numberIn, bookHit, added, Empty}
 use Rattle.memory.proofs.Records.{both, told-lengths}
 use Rattle.memory.proofs.Keeps.{written-cell, written-hits, written-list, added-cell, added-holds, added-capacity}
@@ -90,7 +90,7 @@ judged-same a a′ b b′ m n n′ ea eb en = cc
 
 -- what a memory that holds a hit has
 pub held : (s : Memory) (h : DetectorHit) → hasPixel s h ≡ true
-    → (h .detector .0 < 8) × (cellIn (s .detectors .list) h < length (s .flux)) × (cellIn (s .detectors .list) h < length (s .hits)) × (length (s .hitValues) ≡ length (s .hitTags))
+    → (h .detector .0 < 8) × (cellIn (s .detectors .list) h < length (s .flux)) × (cellIn (s .detectors .list) h < length (s .hits)) × (areHitsOf (length (s .hitValues)) (length (s .hitTags)) ≡ true)
 unfolding hasPixel
 held s h e =
     let f = both (ltb (h .detector .0) 8) _ e in
@@ -128,7 +128,7 @@ module _ (s : Memory) (eight : length (s .detectors .list) ≡ 8) (empty : Empty
       go false e = rw (added-holds b s h, e)
 
   -- the list of the memory is the book, as long as it holds no more than the slices
-  pub same-list : (b : List DetectorHit) → length (s .hitValues) ≡ length (s .hitTags) → length b ≤ capacity s → listed (added s b) ≡ b
+  pub same-list : (b : List DetectorHit) → areHitsOf (length (s .hitValues)) (length (s .hitTags)) ≡ true → length b ≤ capacity s → listed (added s b) ≡ b
   unfolding hitsFrom
   same-list b g k = listed-added b s g (let e = empty .used in omega arith) ∙ ap (λ n. hitsFrom (s .hitValues) (s .hitTags) n 0 ++ b) (empty .used)
 

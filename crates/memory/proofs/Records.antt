@@ -3,10 +3,11 @@ use Prim.Native.Nat.{ℕ, _+_, _*_, _/_, _≤_, _<_}
 use mathlib.Core.Path.{_≡_, refl, sym, ap, _∙_}
 use mathlib.Core.Bool.{Bool, true, false, _&&_}
 use mathlib.Core.List.{List}
-use lib.Dec.{ltb, eqb}
+use lib.Dec.{ltb}
 use lib.Ieee.{Float, nan, binary64, add}
 use lib.ListN.{length, getD, set}
-use borrow.Author.Tests.{le-leb, lt-leb, lt-ltb, eq-eqb, ne-eqb, ltb-true, eqb-true}
+use lib.Seq.{sets}
+use borrow.Author.Tests.{le-leb, lt-leb, lt-ltb, eq-eqb, ne-eqb, ltb-true}
 use Rattle.doubles.proofs.Floats.{clash}
 use Rattle.error.specs.declared.NonSeqError.{NonSeqError}
 use Rattle.error.specs.declared.NonSeqError.the-variants.{HitListFull, HitCountFull, InvalidSliceLength}
@@ -22,45 +23,45 @@ use Rattle.detectors.specs.declared.Spot.the-variants.{Nowhere}
 use Rattle.detectors.specs.Detectors.{placedOf, atOf, asSpot, findOf, asFound}
 use Rattle.detectors.proofs.Lists.{there, nowhere}
 use Rattle.memory.specs.declared.recording.Recorded.{Recorded}
-use Rattle.memory.specs.Memory.{asRecorded, refusedOf, Memory, Outcome, done, refused, lentMemory, capacity, hitDetector, raised, four, writtenAt, judged, putOf, cellOf, cellIn, inMapsOf, hasPixel, recordOf, areLengthsOf, isMemory, recordHitClassifiedOf}
+use Rattle.memory.specs.Memory.{asRecorded, refusedOf, Memory, Outcome, done, refused, lentMemory, hitDoubles, hitWholes, hitValuesRow, hitTagsRow, areHitsOf, capacity, hitDetector, raised, writtenAt, judged, putOf, cellOf, cellIn, inMapsOf, hasPixel, recordOf, areLengthsOf, isMemory, recordHitClassifiedOf}
 use Rattle.detector.specs.Pixels.{maxCount}
 
 module _ (s : Memory) (p : ℕ) (h : DetectorHit) where
-  pub put-full : length (s .hitValues) / 4 ≤ s .used → (r : Recorded) → r ≡ refusedOf HitListFull (s .detectors) (s .used) → asRecorded r (s .flux) (s .hits) (s .hitValues) (s .hitTags) ≡ putOf s p h
+  pub put-full : length (s .hitValues) / hitDoubles ≤ s .used → (r : Recorded) → r ≡ refusedOf HitListFull (s .detectors) (s .used) → asRecorded r (s .flux) (s .hits) (s .hitValues) (s .hitTags) ≡ putOf s p h
   unfolding putOf judged capacity
-  put-full k r e = rw (e, le-leb (length (s .hitValues) / 4) (s .used) k)
+  put-full k r e = rw (e, le-leb (length (s .hitValues) / hitDoubles) (s .used) k)
 
-  module _ (room : s .used < length (s .hitValues) / 4) where
+  module _ (room : s .used < length (s .hitValues) / hitDoubles) where
     pub put-pixel : getD (s .hits) p 0 ≡ maxCount → (r : Recorded) → r ≡ refusedOf HitCountFull (s .detectors) (s .used) → asRecorded r (s .flux) (s .hits) (s .hitValues) (s .hitTags) ≡ putOf s p h
     unfolding putOf judged capacity
-    put-pixel k r e = rw (e, lt-leb (length (s .hitValues) / 4) (s .used) room, eq-eqb (getD (s .hits) p 0) maxCount k)
+    put-pixel k r e = rw (e, lt-leb (length (s .hitValues) / hitDoubles) (s .used) room, eq-eqb (getD (s .hits) p 0) maxCount k)
 
     module _ (more : getD (s .hits) p 0 ≡ maxCount → ⊥) where
       pub put-count : hitDetector s h .«total_rays_hit» ≡ maxCount → (r : Recorded) → r ≡ refusedOf HitCountFull (s .detectors) (s .used) → asRecorded r (s .flux) (s .hits) (s .hitValues) (s .hitTags) ≡ putOf s p h
       unfolding putOf judged capacity
-      put-count k r e = rw (e, lt-leb (length (s .hitValues) / 4) (s .used) room, ne-eqb (getD (s .hits) p 0) maxCount more, eq-eqb (hitDetector s h .«total_rays_hit») maxCount k)
+      put-count k r e = rw (e, lt-leb (length (s .hitValues) / hitDoubles) (s .used) room, ne-eqb (getD (s .hits) p 0) maxCount more, eq-eqb (hitDetector s h .«total_rays_hit») maxCount k)
 
       pub put-done : (hitDetector s h .«total_rays_hit» ≡ maxCount → ⊥) → (l : List Detector2D) (v : List Float) (t : List ℕ)
-          → v ≡ four Float (s .hitValues) (4 * s .used) (h .«local_x») (h .«local_y») (h .«flux_watts») (h .«wavelength_nm»)
-          → t ≡ four ℕ (s .hitTags) (4 * s .used) (h .detector .0) (h .«bounce_count») (h .«reflection_count») (h .«tir_count»)
+          → v ≡ sets (s .hitValues) (hitDoubles * s .used) (hitValuesRow h)
+          → t ≡ sets (s .hitTags) (hitWholes * s .used) (hitTagsRow h)
           → l ≡ set (s .detectors .list) (h .detector .0) (raised (hitDetector s h) (h .«flux_watts»))
           → done (lentMemory (record { list = l; count = s .detectors .count }) (set (s .flux) p (add binary64 (getD (s .flux) p nan) (h .«flux_watts»))) (set (s .hits) p (getD (s .hits) p 0 + 1)) v t (s .used + 1))
           ≡ putOf s p h
       unfolding putOf judged capacity writtenAt
       put-done k l v t ev et el =
-          rw (ev, et, el, lt-leb (length (s .hitValues) / 4) (s .used) room, ne-eqb (getD (s .hits) p 0) maxCount more, ne-eqb (hitDetector s h .«total_rays_hit») maxCount k)
+          rw (ev, et, el, lt-leb (length (s .hitValues) / hitDoubles) (s .used) room, ne-eqb (getD (s .hits) p 0) maxCount more, ne-eqb (hitDetector s h .«total_rays_hit») maxCount k)
 
 -- what two tests that both held say
 pub both : (x y : Bool) → (x && y) ≡ true → (x ≡ true) × (y ≡ true)
 both true y e = (refl, e)
 both false y e = absurd (clash (sym e))
 
-pub told-lengths : (p nf nh nv nt : ℕ) (b : Bool) → b ≡ inMapsOf p nf nh nv nt → b ≡ true → (p < nf) × (p < nh) × (nv ≡ nt)
+pub told-lengths : (p nf nh nv nt : ℕ) (b : Bool) → b ≡ inMapsOf p nf nh nv nt → b ≡ true → (p < nf) × (p < nh) × (areHitsOf nv nt ≡ true)
 unfolding inMapsOf
 told-lengths p nf nh nv nt b told k =
-    let f = both (ltb p nf) (ltb p nh && eqb nv nt) (sym told ∙ k) in
-    let g = both (ltb p nh) (eqb nv nt) (f .1) in
-    (ltb-true p nf (f .0), ltb-true p nh (g .0), eqb-true nv nt (g .1))
+    let f = both (ltb p nf) (ltb p nh && areHitsOf nv nt) (sym told ∙ k) in
+    let g = both (ltb p nh) (areHitsOf nv nt) (f .1) in
+    (ltb-true p nf (f .0), ltb-true p nh (g .0), g .1)
 
 -- what `record` and `record_hit_classified` know at theirs
 module _ (s : Memory) (h : DetectorHit) where

@@ -4,7 +4,8 @@ use mathlib.Core.Bool.{Bool, cond, _&&_, _||_}
 use mathlib.Core.List.{List, [], _∷_}
 use lib.Dec.{leb, ltb, eqb}
 use lib.Ieee.{Float, nan, binary64, add}
-use lib.ListN.{length, getD, set}
+use lib.ListN.{length, getD, set, take, drop}
+use lib.Seq.{sets}
 use Rattle.error.specs.declared.Check.{Check}
 use Rattle.error.specs.declared.Check.the-variants.{Passed, Refused}
 use Rattle.error.specs.declared.NonSeqError.{NonSeqError}
@@ -38,7 +39,7 @@ abbrev pub memoryLeft : {M : Type 0} → Outcome M → M
 memoryLeft (done m) = m
 memoryLeft (refused n place m) = m
 
--- ---- the hit list: x, y, flux, wavelength, and detector, bounce, reflections, total reflections
+-- ---- the hit list: of each hit a row of doubles and a row of whole numbers
 
 -- doubles and whole numbers of a hit
 abbrev pub hitDoubles : ℕ
@@ -47,32 +48,38 @@ hitDoubles = 4
 abbrev pub hitWholes : ℕ
 hitWholes = 4
 
-abbrev pub readHitOf : List Float → List ℕ → ℕ → DetectorHit
-readHitOf v t i =
+-- x, y, flux, wavelength
+unfoldable pub hitValuesRow : DetectorHit → List Float
+hitValuesRow h = h .«local_x» ∷ h .«local_y» ∷ h .«flux_watts» ∷ h .«wavelength_nm» ∷ []
+
+-- detector, bounce, reflections, total reflections
+unfoldable pub hitTagsRow : DetectorHit → List ℕ
+hitTagsRow h = h .detector .0 ∷ h .«bounce_count» ∷ h .«reflection_count» ∷ h .«tir_count» ∷ []
+
+-- the hit whose rows these are; NaN and 0 where a row has no more
+unfoldable pub hitFrom : List Float → List ℕ → DetectorHit
+hitFrom v t =
     record {
-      «local_x» = getD v (hitDoubles * i) nan;
-      «local_y» = getD v (hitDoubles * i + 1) nan;
-      «flux_watts» = getD v (hitDoubles * i + 2) nan;
-      «wavelength_nm» = getD v (hitDoubles * i + 3) nan;
-      detector = record { 0 = getD t (hitWholes * i) 0 };
-      «bounce_count» = getD t (hitWholes * i + 1) 0;
-      «reflection_count» = getD t (hitWholes * i + 2) 0;
-      «tir_count» = getD t (hitWholes * i + 3) 0;
+      «local_x» = getD v 0 nan;
+      «local_y» = getD v 1 nan;
+      «flux_watts» = getD v 2 nan;
+      «wavelength_nm» = getD v 3 nan;
+      detector = record { 0 = getD t 0 0 };
+      «bounce_count» = getD t 1 0;
+      «reflection_count» = getD t 2 0;
+      «tir_count» = getD t 3 0;
     }
+
+-- row i of a list of rows of n
+unfoldable pub rowAt : {A : Type 0} → ℕ → List A → ℕ → List A
+rowAt n l i = take n (drop (n * i) l)
+
+unfoldable pub readHitOf : List Float → List ℕ → ℕ → DetectorHit
+readHitOf v t i = hitFrom (rowAt hitDoubles v i) (rowAt hitWholes t i)
 
 -- what stands for a hit that the slices do not hold
 abbrev pub noHitOf : DetectorHit
-noHitOf =
-    record {
-      «local_x» = nan;
-      «local_y» = nan;
-      «flux_watts» = nan;
-      «wavelength_nm» = nan;
-      detector = record { 0 = 0 };
-      «bounce_count» = 0;
-      «reflection_count» = 0;
-      «tir_count» = 0;
-    }
+noHitOf = hitFrom [] []
 
 -- hit i of the list
 unfoldable pub hitAtOf : List Float → List ℕ → ℕ → DetectorHit
@@ -86,12 +93,12 @@ hitsFrom v t (suc n) i = hitAtOf v t i ∷ hitsFrom v t n (i + 1)
 abbrev pub listed : Memory → List DetectorHit
 listed s = hitsFrom (s .hitValues) (s .hitTags) (s .used) 0
 
+-- whether slices of these lengths hold whole rows, and of as many hits
+unfoldable pub areHitsOf : ℕ → ℕ → Bool
+areHitsOf nv nt = eqb (nv % hitDoubles) 0 && (eqb (nt % hitWholes) 0 && eqb (nv / hitDoubles) (nt / hitWholes))
+
 unfoldable pub capacity : Memory → ℕ
 capacity s = length (s .hitValues) / hitDoubles
-
--- four values stored from a place on
-unfoldable pub four : (A : Type 0) → List A → ℕ → A → A → A → A → List A
-four A l i a b c d = set (set (set (set l i a) (i + 1) b) (i + 2) c) (i + 3) d
 
 -- pixels and hits of the memory that a scene text is traced into
 abbrev pub textPixels : ℕ
@@ -99,13 +106,6 @@ textPixels = 4096
 
 abbrev pub textHits : ℕ
 textHits = 1024
-
--- a hit's doubles and whole numbers, stored from a place on
-abbrev pub putHitValuesOf : List Float → ℕ → DetectorHit → List Float
-putHitValuesOf l at h = four Float l at (h .«local_x») (h .«local_y») (h .«flux_watts») (h .«wavelength_nm»)
-
-abbrev pub putHitTagsOf : List ℕ → ℕ → DetectorHit → List ℕ
-putHitTagsOf l at h = four ℕ l at (h .detector .0) (h .«bounce_count») (h .«reflection_count») (h .«tir_count»)
 
 -- ---- recording
 
@@ -148,8 +148,8 @@ writtenAt s p h =
       };
       flux = set (s .flux) p (add binary64 (getD (s .flux) p nan) (h .«flux_watts»));
       hits = set (s .hits) p (getD (s .hits) p 0 + 1);
-      hitValues = putHitValuesOf (s .hitValues) (hitDoubles * s .used) h;
-      hitTags = putHitTagsOf (s .hitTags) (hitWholes * s .used) h;
+      hitValues = sets (s .hitValues) (hitDoubles * s .used) (hitValuesRow h);
+      hitTags = sets (s .hitTags) (hitWholes * s .used) (hitTagsRow h);
       used = s .used + 1;
     }
 
@@ -162,9 +162,9 @@ putOf s p h =
     judged (leb (capacity s) (s .used))
     (eqb (getD (s .hits) p 0) maxCount || eqb (hitDetector s h .«total_rays_hit») maxCount) s (writtenAt s p h)
 
--- whether a place lies in both maps, and the hit slices are alike
+-- whether a place lies in both maps, and the hit slices hold hits
 unfoldable pub inMapsOf : ℕ → ℕ → ℕ → ℕ → ℕ → Bool
-inMapsOf p nf nh nv nt = ltb p nf && (ltb p nh && eqb nv nt)
+inMapsOf p nf nh nv nt = ltb p nf && (ltb p nh && areHitsOf nv nt)
 
 -- whether the memory has the hit's detector and pixel, as one that passed the checks has
 unfoldable pub hasPixel : Memory → DetectorHit → Bool
@@ -179,9 +179,9 @@ recordOf s h = cond (hasPixel s h) (putOf s (cellIn (s .detectors .list) h) h) (
 
 -- ---- the checks of a recording
 
--- equal, a multiple of four, and no fewer than those used
+-- the slices of a hit list, with room for those used
 unfoldable pub isHitListOf : ℕ → ℕ → ℕ → Bool
-isHitListOf nv nt used = eqb nv nt && (eqb (nv % hitDoubles) 0 && leb used (nv / hitDoubles))
+isHitListOf nv nt used = areHitsOf nv nt && leb used (nv / hitDoubles)
 
 -- 9 unless every slice is as long as it must be
 unfoldable pub areLengthsOf : Detectors → ℕ → ℕ → ℕ → ℕ → ℕ → Bool

@@ -1,6 +1,7 @@
 // Recording: one hit added to its pixel, to its detector and to the hit list, wholly or not at all.
 use crate::HIT_DOUBLES;
 use crate::HIT_WHOLES;
+use crate::hits::are_hits;
 use crate::hits::put_hit_tags;
 use crate::hits::put_hit_values;
 use detector::Detector2D;
@@ -14,10 +15,11 @@ use detectors::Spot;
 use error::Check;
 use error::NonSeqError;
 ghost use mathlib.Core.Path.{_≡_};
+ghost use mathlib.Core.Bool.{true};
 ghost use Prim.Native.Nat.{_*_, _^_, _≤_, _<_};
 ghost use lib.ListN.{length};
 ghost use Rattle.detectors.specs.Detectors.{detectorAt, maxDetectors};
-ghost use Rattle.memory.specs.Memory.{lentMemory, asRecorded, refusedOf, cellOf, inMapsOf, putOf, recordOf, isHitListOf, areLengthsOf, recordHitClassifiedOf, raiseOf};
+ghost use Rattle.memory.specs.Memory.{lentMemory, asRecorded, refusedOf, cellOf, inMapsOf, putOf, recordOf, areHitsOf, isHitListOf, areLengthsOf, recordHitClassifiedOf, raiseOf};
 ghost use Rattle.detector.specs.Pixels.{maxCount};
 
 // The refusal or none, and what goes on: the detectors' records and the number of hits used.
@@ -47,13 +49,13 @@ fn cell(p: Placed, h: DetectorHit) -> usize
     p.first + d.pixel_at(h.local_x, h.local_y)
 }
 
-// Whether a place lies in both maps, and the hit slices are alike.
+// Whether a place lies in both maps, and the hit slices hold hits.
 fn in_maps(p: usize, flux: usize, hits: usize, hit_values: usize, hit_tags: usize) -> bool
     ensures { λ r. ⌜ r ≡ inMapsOf p flux hits «hit_values» «hit_tags» ⌝ }
 {
     if p < flux {
         if p < hits {
-            return hit_values == hit_tags;
+            return are_hits(hit_values, hit_tags);
         }
     }
     false
@@ -83,7 +85,7 @@ fn put(
     h: DetectorHit,
     p: usize,
 ) -> Recorded
-    requires { ⌜ (h .detector .0 < maxDetectors) × (p < length (now flux)) × (p < length (now hits)) × (length (now «hit_values») ≡ length (now «hit_tags»)) ⌝ }
+    requires { ⌜ (h .detector .0 < maxDetectors) × (p < length (now flux)) × (p < length (now hits)) × (areHitsOf (length (now «hit_values»)) (length (now «hit_tags»)) ≡ true) ⌝ }
     ensures { λ r. ⌜ asRecorded r (now (flux .exit)) (now (hits .exit)) (now («hit_values» .exit)) (now («hit_tags» .exit))
         ≡ putOf (lentMemory detectors (now (flux .entry)) (now (hits .entry)) (now («hit_values» .entry)) (now («hit_tags» .entry)) used) p h ⌝ }
 {
@@ -143,10 +145,8 @@ pub fn record(
 pub fn is_hit_list(hit_values: usize, hit_tags: usize, used: usize) -> bool
     ensures { λ r. ⌜ r ≡ isHitListOf «hit_values» «hit_tags» used ⌝ }
 {
-    if hit_values == hit_tags {
-        if hit_values % HIT_DOUBLES == 0 {
-            return used <= hit_values / HIT_DOUBLES;
-        }
+    if are_hits(hit_values, hit_tags) {
+        return used <= hit_values / HIT_DOUBLES;
     }
     false
 }

@@ -1,5 +1,5 @@
 -- What the checks before a run say of a batch and a memory, part by part, and that parts of a batch that passed pass. Assumes nothing.
-use Prim.Native.Nat.{ℕ, zero, suc, _+_, _*_, _/_, _%_, _≤_, _<_}
+use Prim.Native.Nat.{ℕ, zero, suc, _+_, _*_, _/_, _≤_, _<_}
 use mathlib.Core.Path.{_≡_, refl, ap, _∙_}
 use mathlib.Core.Bool.{Bool, true, false, cond, _&&_}
 use native.Mathlib.Omega.{arith}
@@ -12,7 +12,8 @@ use Rattle.rays.specs.Rays.{isValidRayOf}
 use Rattle.scene.specs.Solids.{checkSolidsOf}
 use Rattle.detectors.specs.declared.Detectors.{Detectors}
 use Rattle.detectors.specs.Detectors.{allPixelsOf, checkDetectorsOf}
-use Rattle.memory.specs.Memory.{Memory, capacity, isHitListOf, areLengthsOf}
+use Rattle.memory.specs.Memory.{Memory, hitDoubles, capacity, areLengthsOf}
+use Rattle.memory.proofs.Lengths.{long, long-enough}
 use Rattle.step.specs.declared.ActiveRay.{ActiveRay}
 use Rattle.given_rays.specs.Given.{validMediaOf, checkListsOf, checkRayOf, checkRaysOf}
 use Rattle.trace.specs.Trace.{Batch, raysIn, checkFlatOf, checkConfigOf, checkCountsOf, checkRulesOf, checkLengthsOf, checkMemoryOf, checkTraceOf, checkBatch}
@@ -112,29 +113,13 @@ rays-part given again solids n c m l same e =
 
 -- ---- the memory
 
-five : (a b c d e : Bool) → (a && (b && (c && (d && e)))) ≡ true → (a ≡ true) × (b ≡ true) × (c ≡ true) × (d ≡ true) × (e ≡ true)
-five a b c d e h =
-    let x = and-right a (b && (c && (d && e))) h in
-    let y = and-right b (c && (d && e)) x in
-    let z = and-right c (d && e) y in
-    (and-left a (b && (c && (d && e))) h, and-left b (c && (d && e)) x, and-left c (d && e) y, and-left d e z, and-right d e z)
-
-lengths-say : (ds : Detectors) (nf nh nv nt u : ℕ) → checkLengthsOf ds nf nh nv nt u ≡ passed tt
-    → (eqb nf (allPixelsOf ds) ≡ true) × (eqb nh (allPixelsOf ds) ≡ true) × (eqb nv nt ≡ true) × (eqb (nv % 4) 0 ≡ true) × (leb u (nv / 4) ≡ true)
-unfolding checkLengthsOf areLengthsOf isHitListOf
-lengths-say ds nf nh nv nt u e =
-    five (eqb nf (allPixelsOf ds)) (eqb nh (allPixelsOf ds)) (eqb nv nt) (eqb (nv % 4) 0) (leb u (nv / 4))
-    (said (eqb nf (allPixelsOf ds) && (eqb nh (allPixelsOf ds) && (eqb nv nt && (eqb (nv % 4) 0 && leb u (nv / 4))))) 9 0 e)
-
 pub used-room : (s : Memory) → checkLengthsIn s ≡ passed tt → s .used ≤ capacity s
-unfolding capacity
-used-room s e = leb-true (s .used) (length (s .hitValues) / 4) (lengths-say _ _ _ _ _ _ e .4)
+unfolding capacity checkLengthsOf
+used-room s e = long _ _ _ _ _ _ (said _ 9 0 e) .room
 
-more-used : (ds : Detectors) (nf nh nv nt u v : ℕ) → v ≤ nv / 4 → checkLengthsOf ds nf nh nv nt u ≡ passed tt → checkLengthsOf ds nf nh nv nt v ≡ passed tt
-unfolding checkLengthsOf areLengthsOf isHitListOf
-more-used ds nf nh nv nt u v k e =
-    let t = lengths-say ds nf nh nv nt u e in
-    rw (t .0, t .1, t .2, t .3, le-leb v (nv / 4) k)
+more-used : (ds : Detectors) (nf nh nv nt u v : ℕ) → v ≤ nv / hitDoubles → checkLengthsOf ds nf nh nv nt u ≡ passed tt → checkLengthsOf ds nf nh nv nt v ≡ passed tt
+unfolding checkLengthsOf
+more-used ds nf nh nv nt u v k e = rw (long-enough ds nf nh nv nt u v k (said _ 9 0 e))
 
 -- by pixels and lengths alone
 pub same-lengths : (ds es : Detectors) (nf nh nv nt u : ℕ) → allPixelsOf es ≡ allPixelsOf ds → checkLengthsOf es nf nh nv nt u ≡ checkLengthsOf ds nf nh nv nt u

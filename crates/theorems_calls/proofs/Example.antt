@@ -18,7 +18,7 @@ use Rattle.detector.specs.Faces.{orthogonalOf, faceOf, acrossOf, faceIntersectR
 use Rattle.detector.specs.Pixels.{indexAlongOf, pixelsOf, pixelAtOf}
 use Rattle.detectors.specs.Detectors.{noDetector, firstPixelOf, allPixelsOf, checkListOf, checkDetectorsOf, checkAsked, placedOf, findOf}
 use Rattle.detector.specs.declared.DetectorHit.{DetectorHit}
-use Rattle.memory.specs.Memory.{Memory, done, refused, judged, cellOf, cellIn, capacity, isHitListOf, areLengthsOf, isMemory}
+use Rattle.memory.specs.Memory.{Memory, done, refused, judged, cellOf, cellIn, capacity, areHitsOf, isHitListOf, areLengthsOf, isMemory}
 use Rattle.memory.specs.Plain.{Empty, sharing}
 use Rattle.filter.specs.declared.RayPathFilter.the-variants.{GhostsOnly}
 use Rattle.faces.specs.Faces.{newFacesOf, sightFrom, faceCountOf, nearestDetectorOf}
@@ -104,16 +104,16 @@ calls =
     ∷ []
 
 one : bookTraced (bare memory) batch [] ≡ done (traced ∷ [])
-unfolding bookTraced bare runOn drive startOf emptyStackOf launchedOf launchedFrom givenAtOf readRayOf readMediaOf isLeft stepOn takenFrom loadOf takeStepOf interactOf nearestDetectorOf nearestAmong nearestFrom nearerOf isNearerOf sightFrom faceCountOf newFacesOf faceOf orthogonalOf faceIntersectRayOf acrossOf normalizeOf normOf dotOf crossOf minusOf plusOf scaleOf divideOf atOf closestObjectOf firstMetOf meetsWith hitInOf refusalInOf stackAfter popped pushedIf plainHit judged cellIn cellOf placedOf firstPixelOf pixelsOf pixelAtOf indexAlongOf clampOf ofInt toUnsigned sharing capacity checkBatch checkTraceOf checkFlatOf checkSolidsOf checkTagsOf checkListsOf checkRulesOf checkConfigOf checkCountsOf checkMemoryOf checkDetectorsOf checkListOf checkDetectorOf checkGridOf isSizeOf isParallelOf checkLengthsOf areLengthsOf isHitListOf allPixelsOf isMemory findOf checkAsked checkRaysOf checkRayOf isValidRayOf validMediaOf allSolidsOf isFiniteRayOf isFiniteVecOf isFiniteOf absOf sqrtOf ofBits toBits add sub mul div neg lt le
+unfolding bookTraced bare runOn drive startOf emptyStackOf launchedOf launchedFrom givenAtOf readRayOf readMediaOf isLeft stepOn takenFrom loadOf takeStepOf interactOf nearestDetectorOf nearestAmong nearestFrom nearerOf isNearerOf sightFrom faceCountOf newFacesOf faceOf orthogonalOf faceIntersectRayOf acrossOf normalizeOf normOf dotOf crossOf minusOf plusOf scaleOf divideOf atOf closestObjectOf firstMetOf meetsWith hitInOf refusalInOf stackAfter popped pushedIf plainHit judged cellIn cellOf placedOf firstPixelOf pixelsOf pixelAtOf indexAlongOf clampOf ofInt toUnsigned sharing capacity checkBatch checkTraceOf checkFlatOf checkSolidsOf checkTagsOf checkListsOf checkRulesOf checkConfigOf checkCountsOf checkMemoryOf checkDetectorsOf checkListOf checkDetectorOf checkGridOf isSizeOf isParallelOf checkLengthsOf areLengthsOf isHitListOf areHitsOf allPixelsOf isMemory findOf checkAsked checkRaysOf checkRayOf isValidRayOf validMediaOf allSolidsOf isFiniteRayOf isFiniteVecOf isFiniteOf absOf sqrtOf ofBits toBits add sub mul div neg lt le
 one = refl
 
 two : bookRecorded (bare memory) recorded (traced ∷ []) ≡ done (traced ∷ recorded ∷ [])
-unfolding bookRecorded bare findOf checkAsked placedOf checkDetectorsOf checkListOf checkDetectorOf checkGridOf isSizeOf isParallelOf isMemory areLengthsOf isHitListOf allPixelsOf firstPixelOf pixelsOf plainHit judged cellIn cellOf pixelAtOf indexAlongOf clampOf ofInt toUnsigned sharing capacity normalizeOf normOf dotOf divideOf isFiniteOf absOf sqrtOf ofBits toBits add sub mul div neg lt le
+unfolding bookRecorded bare findOf checkAsked placedOf checkDetectorsOf checkListOf checkDetectorOf checkGridOf isSizeOf isParallelOf isMemory areLengthsOf isHitListOf areHitsOf allPixelsOf firstPixelOf pixelsOf plainHit judged cellIn cellOf pixelAtOf indexAlongOf clampOf ofInt toUnsigned sharing capacity normalizeOf normOf dotOf divideOf isFiniteOf absOf sqrtOf ofBits toBits add sub mul div neg lt le
 two = refl
 
 -- the last call ends because the list is full
 pub full : bookTraced (bare memory) batch (traced ∷ recorded ∷ []) ≡ refused 12 0 (traced ∷ recorded ∷ [])
-unfolding bookTraced bare runOn drive startOf emptyStackOf launchedOf launchedFrom givenAtOf readRayOf readMediaOf isLeft stepOn takenFrom loadOf takeStepOf interactOf nearestDetectorOf nearestAmong nearestFrom nearerOf isNearerOf sightFrom faceCountOf newFacesOf faceOf orthogonalOf faceIntersectRayOf acrossOf normalizeOf normOf dotOf crossOf minusOf plusOf scaleOf divideOf atOf closestObjectOf firstMetOf meetsWith hitInOf refusalInOf stackAfter popped pushedIf plainHit judged cellIn cellOf placedOf firstPixelOf pixelsOf pixelAtOf indexAlongOf clampOf ofInt toUnsigned sharing capacity checkBatch checkTraceOf checkFlatOf checkSolidsOf checkTagsOf checkListsOf checkRulesOf checkConfigOf checkCountsOf checkMemoryOf checkDetectorsOf checkListOf checkDetectorOf checkGridOf isSizeOf isParallelOf checkLengthsOf areLengthsOf isHitListOf allPixelsOf isMemory findOf checkAsked checkRaysOf checkRayOf isValidRayOf validMediaOf allSolidsOf isFiniteRayOf isFiniteVecOf isFiniteOf absOf sqrtOf ofBits toBits add sub mul div neg lt le
+unfolding bookTraced bare runOn drive startOf emptyStackOf launchedOf launchedFrom givenAtOf readRayOf readMediaOf isLeft stepOn takenFrom loadOf takeStepOf interactOf nearestDetectorOf nearestAmong nearestFrom nearerOf isNearerOf sightFrom faceCountOf newFacesOf faceOf orthogonalOf faceIntersectRayOf acrossOf normalizeOf normOf dotOf crossOf minusOf plusOf scaleOf divideOf atOf closestObjectOf firstMetOf meetsWith hitInOf refusalInOf stackAfter popped pushedIf plainHit judged cellIn cellOf placedOf firstPixelOf pixelsOf pixelAtOf indexAlongOf clampOf ofInt toUnsigned sharing capacity checkBatch checkTraceOf checkFlatOf checkSolidsOf checkTagsOf checkListsOf checkRulesOf checkConfigOf checkCountsOf checkMemoryOf checkDetectorsOf checkListOf checkDetectorOf checkGridOf isSizeOf isParallelOf checkLengthsOf areLengthsOf isHitListOf areHitsOf allPixelsOf isMemory findOf checkAsked checkRaysOf checkRayOf isValidRayOf validMediaOf allSolidsOf isFiniteRayOf isFiniteVecOf isFiniteOf absOf sqrtOf ofBits toBits add sub mul div neg lt le
 full = refl
 
 -- the book has both hits
@@ -139,7 +139,7 @@ splits =
     }
 
 passes : checkBatch batch memory ≡ passed tt
-unfolding checkBatch checkTraceOf checkFlatOf checkSolidsOf checkTagsOf checkListsOf checkRulesOf checkConfigOf checkCountsOf checkMemoryOf checkDetectorsOf checkListOf checkDetectorOf checkGridOf isSizeOf isParallelOf checkLengthsOf areLengthsOf isHitListOf allPixelsOf firstPixelOf pixelsOf checkRaysOf checkRayOf givenAtOf readRayOf readMediaOf isValidRayOf validMediaOf allSolidsOf isFiniteRayOf isFiniteVecOf isFiniteOf absOf sqrtOf normalizeOf normOf dotOf divideOf ofBits toBits add sub mul div neg lt le
+unfolding checkBatch checkTraceOf checkFlatOf checkSolidsOf checkTagsOf checkListsOf checkRulesOf checkConfigOf checkCountsOf checkMemoryOf checkDetectorsOf checkListOf checkDetectorOf checkGridOf isSizeOf isParallelOf checkLengthsOf areLengthsOf isHitListOf areHitsOf allPixelsOf firstPixelOf pixelsOf checkRaysOf checkRayOf givenAtOf readRayOf readMediaOf isValidRayOf validMediaOf allSolidsOf isFiniteRayOf isFiniteVecOf isFiniteOf absOf sqrtOf normalizeOf normOf dotOf divideOf ofBits toBits add sub mul div neg lt le
 passes = refl
 
 pub split-example : traceParts batch parts memory ≡ traceRaysOf batch memory .outcome

@@ -1,8 +1,8 @@
 -- `memory::hits::put_hit_values` meets its contract. Assumes nothing.
-use mathlib.Core.Path.{refl}
 use native.Mathlib.Omega.{arith}
+use native.Mathlib.Numerals.{add-one, add-two, add-three}
 use lib.ListN.{length-set}
-use Rattle.memory.specs.Memory.{four}
+use Rattle.memory.specs.Memory.{hitValuesRow}
 use borrow.Author.Needs.{needs}
 use Rattle.memory.proofs.hits.put_hit_values.Statement.{statement}
 use Rattle.memory.proofs.hits.put_hit_values.Tie as tie
@@ -44,8 +44,8 @@ same-length : tie.Need-same-length
 same-length c = search needs
 
 returns : tie.Need-returns
-unfolding four
-returns c = refl
+unfolding hitValuesRow
+returns c = simp (add-one, add-two, add-three)
 
 pub put-hit-values-spec : {M : Type 1} → statement M
 put-hit-values-spec =

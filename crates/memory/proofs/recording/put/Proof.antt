@@ -1,5 +1,6 @@
 -- `memory::recording::put` meets its contract. Assumes nothing.
 use native.Mathlib.Omega.{arith}
+use Rattle.memory.proofs.Lengths.{hit-inside}
 use Rattle.memory.proofs.Records.{put-full, put-pixel, put-count, put-done}
 use borrow.Author.Needs.{needs}
 use Rattle.memory.proofs.recording.put.Statement.{statement}
@@ -83,12 +84,15 @@ mul-put-hit-tags : tie.Need-mul-put-hit-tags
 mul-put-hit-tags c =
     let after-if1 = c .before .before .before .before .before .before .before .before in
     let at-if1 = after-if1 .before .before .before .before in
-    let if1 = at-if1 .if1 in
-    let good = at-if1 .before .before .before .before .before .before .before .before .good in
-    omega (arith, if1 .left, good)
+    let entry = at-if1 .before .before .before .before .before .before .before .before in
+    omega (arith, hit-inside _ _ _ (entry .pre .3) (at-if1 .if1 .left) .1, entry .good)
 
 put-hit-tags-requires : tie.Need-put-hit-tags-requires
-put-hit-tags-requires c κs = search needs
+put-hit-tags-requires c κs =
+    let after-if1 = c .before .before .before .before .before .before .before .before in
+    let at-if1 = after-if1 .before .before .before .before in
+    let entry = at-if1 .before .before .before .before .before .before .before .before in
+    hit-inside _ _ _ (entry .pre .3) (at-if1 .if1 .left) .1
 
 raise-requires : tie.Need-raise-requires
 raise-requires c κs = search needs
