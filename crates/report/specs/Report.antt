@@ -2,7 +2,7 @@
 use Prim.Native.Nat.{ℕ}
 use mathlib.Core.Bool.{Bool, true, false, cond}
 use lib.Ieee.{Float, binary64, ofBits, add, div, le}
-use Rattle.step.specs.Rays.{End, dim, spent, gone, caught, stopped, parted, refusing, Step, moreOf}
+use Rattle.step.specs.Rays.{Meeting, stopped, parted, End, dim, spent, gone, caught, met, refusing, Step, moreOf}
 use Rattle.report.specs.declared.ledger.Ledger.{Ledger}
 use Rattle.report.specs.declared.tallies.Tallies.{Tallies}
 use Rattle.report.specs.declared.NonSeqTraceReport.{NonSeqTraceReport}
@@ -41,14 +41,18 @@ escapeOf l x =
 unfoldable pub unlessMadeOf : Bool → Ledger → Float → Ledger
 unlessMadeOf made l x = cond made l (absorbOf l x)
 
--- power is the ray's; made and also are the step's two flags
+-- made and also are the step's two flags
+unfoldable pub ledgerMetOf : Ledger → Meeting → Bool → Bool → Ledger
+ledgerMetOf l (stopped x) made also = absorbOf l x
+ledgerMetOf l (parted r t total) made also = unlessMadeOf also (unlessMadeOf made l r) t
+
+-- power is the ray's
 unfoldable pub ledgerAfterOf : Ledger → Float → End → Bool → Bool → Ledger
 ledgerAfterOf l power dim made also = absorbOf l power
 ledgerAfterOf l power spent made also = absorbOf l power
 ledgerAfterOf l power gone made also = escapeOf l power
 ledgerAfterOf l power (caught h) made also = detectOf l power
-ledgerAfterOf l power (stopped x) made also = absorbOf l x
-ledgerAfterOf l power (parted r t total) made also = unlessMadeOf also (unlessMadeOf made l r) t
+ledgerAfterOf l power (met m) made also = ledgerMetOf l m made also
 ledgerAfterOf l power (refusing n) made also = l
 
 -- ---- the tallies
@@ -118,17 +122,22 @@ addSurfaceOf t made also weak faint =
       weak = moreIfOf faint (moreIfOf weak (t .weak));
     }
 
--- whether the threshold left the second ray unmade: the missing one of a radicand at most 0 isn't weak
-unfoldable pub faintOf : Bool → Bool → Bool
-faintOf total also = cond total false (cond also false true)
+-- whether the threshold left the first ray unmade
+unfoldable pub weakOf : Meeting → Bool → Bool
+weakOf (stopped x) made = false
+weakOf (parted r t total) made = cond made false true
+
+-- whether it left the second one unmade: the missing one of a radicand at most 0 isn't weak
+unfoldable pub faintOf : Meeting → Bool → Bool
+faintOf (stopped x) also = false
+faintOf (parted r t total) also = cond total false (cond also false true)
 
 unfoldable pub talliesAfterOf : Tallies → End → Bool → Bool → Tallies
 talliesAfterOf t dim made also = addDimOf t
 talliesAfterOf t spent made also = addSpentOf t
 talliesAfterOf t gone made also = addGoneOf t
 talliesAfterOf t (caught h) made also = addCaughtOf t
-talliesAfterOf t (stopped x) made also = addSurfaceOf t made also false false
-talliesAfterOf t (parted r p total) made also = addSurfaceOf t made also (cond made false true) (faintOf total also)
+talliesAfterOf t (met m) made also = addSurfaceOf t made also (weakOf m made) (faintOf m also)
 talliesAfterOf t (refusing n) made also = t
 
 -- ---- the report
@@ -139,8 +148,7 @@ isInteractionOf dim = false
 isInteractionOf spent = false
 isInteractionOf gone = true
 isInteractionOf (caught h) = true
-isInteractionOf (stopped x) = true
-isInteractionOf (parted r t total) = true
+isInteractionOf (met m) = true
 isInteractionOf (refusing n) = true
 
 unfoldable pub reportAfterOf : NonSeqTraceReport → Float → Step → NonSeqTraceReport

@@ -1,8 +1,9 @@
 // The ledger: the powers of a tracing, in watts, added up in step order.
 use step::End;
+use step::Meeting;
 ghost use mathlib.Core.Path.{_≡_};
-ghost use Rattle.step.specs.Rays.{asEnd};
-ghost use Rattle.report.specs.Report.{detectOf, absorbOf, escapeOf, unlessMadeOf, ledgerAfterOf, energyConservationRatioOf};
+ghost use Rattle.step.specs.Rays.{asMeeting, asEnd};
+ghost use Rattle.report.specs.Report.{detectOf, absorbOf, escapeOf, unlessMadeOf, ledgerMetOf, ledgerAfterOf, energyConservationRatioOf};
 
 #[repr(C)]
 pub struct Ledger {
@@ -56,7 +57,24 @@ impl Ledger {
         self.absorb(power)
     }
 
-    // After what became of a ray of some power; the flags say which of its rays were made.
+    // After what a solid made of a ray; the flags say which of its rays were made.
+    fn met(self, meeting: Meeting, first: bool, second: bool) -> Ledger
+        ensures { λ r. ⌜ r ≡ ledgerMetOf self (asMeeting meeting) first second ⌝ }
+    {
+        match meeting {
+            Meeting::Stopped(left) => self.absorb(left),
+            Meeting::Parted {
+                reflected,
+                transmitted,
+                total: _,
+            } => {
+                let l = self.unless_made(first, reflected);
+                l.unless_made(second, transmitted)
+            }
+        }
+    }
+
+    // After what became of a ray of some power.
     pub fn after(self, power: f64, end: End, first: bool, second: bool) -> Ledger
         ensures { λ r. ⌜ r ≡ ledgerAfterOf self power (asEnd end) first second ⌝ }
     {
@@ -65,15 +83,7 @@ impl Ledger {
             End::Spent => self.absorb(power),
             End::Gone => self.escape(power),
             End::Caught(_) => self.detect(power),
-            End::Stopped(left) => self.absorb(left),
-            End::Parted {
-                reflected,
-                transmitted,
-                total: _,
-            } => {
-                let l = self.unless_made(first, reflected);
-                l.unless_made(second, transmitted)
-            }
+            End::Met(meeting) => self.met(meeting, first, second),
             End::Refused(_) => self,
         }
     }

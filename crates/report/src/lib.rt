@@ -30,12 +30,7 @@ fn is_interaction(end: End) -> bool
         End::Spent => false,
         End::Gone => true,
         End::Caught(_) => true,
-        End::Stopped(_) => true,
-        End::Parted {
-            reflected: _,
-            transmitted: _,
-            total: _,
-        } => true,
+        End::Met(_) => true,
         End::Refused(_) => true,
     }
 }

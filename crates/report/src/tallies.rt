@@ -1,10 +1,11 @@
 // The tallies: how many rays were made, and what became of how many.
 use step::End;
+use step::Meeting;
 use step::more;
 ghost use mathlib.Core.Path.{_≡_};
 ghost use mathlib.Core.Bool.{true, false, cond};
-ghost use Rattle.step.specs.Rays.{asEnd};
-ghost use Rattle.report.specs.Report.{moreIfOf, addDimOf, addSpentOf, addCaughtOf, addGoneOf, addSurfaceOf, faintOf, talliesAfterOf};
+ghost use Rattle.step.specs.Rays.{asMeeting, asEnd};
+ghost use Rattle.report.specs.Report.{moreIfOf, addDimOf, addSpentOf, addCaughtOf, addGoneOf, addSurfaceOf, weakOf, faintOf, talliesAfterOf};
 
 #[repr(C)]
 pub struct Tallies {
@@ -35,14 +36,37 @@ fn opposite(b: bool) -> bool
     true
 }
 
-// Whether the threshold left the second ray of a clear surface unmade.
-fn faint(total: bool, second: bool) -> bool
-    ensures { λ r. ⌜ r ≡ faintOf total second ⌝ }
+// Whether the threshold left the first ray of a clear surface unmade.
+fn weak(meeting: Meeting, first: bool) -> bool
+    ensures { λ r. ⌜ r ≡ weakOf (asMeeting meeting) first ⌝ }
 {
-    if total {
-        return false;
+    match meeting {
+        Meeting::Stopped(_) => false,
+        Meeting::Parted {
+            reflected: _,
+            transmitted: _,
+            total: _,
+        } => opposite(first),
     }
-    opposite(second)
+}
+
+// Whether it left the second one unmade.
+fn faint(meeting: Meeting, second: bool) -> bool
+    ensures { λ r. ⌜ r ≡ faintOf (asMeeting meeting) second ⌝ }
+{
+    match meeting {
+        Meeting::Stopped(_) => false,
+        Meeting::Parted {
+            reflected: _,
+            transmitted: _,
+            total,
+        } => {
+            if total {
+                return false;
+            }
+            opposite(second)
+        }
+    }
 }
 
 impl Tallies {
@@ -100,12 +124,9 @@ impl Tallies {
             End::Spent => self.add_spent(),
             End::Gone => self.add_gone(),
             End::Caught(_) => self.add_caught(),
-            End::Stopped(_) => self.add_surface(first, second, false, false),
-            End::Parted {
-                reflected: _,
-                transmitted: _,
-                total,
-            } => self.add_surface(first, second, opposite(first), faint(total, second)),
+            End::Met(meeting) => {
+                self.add_surface(first, second, weak(meeting, first), faint(meeting, second))
+            }
             End::Refused(_) => self,
         }
     }

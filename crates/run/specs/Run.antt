@@ -11,7 +11,7 @@ use Rattle.error.specs.Refusals.{Checked, passed, refusedAt}
 use Rattle.detector.specs.declared.DetectorHit.{DetectorHit}
 use Rattle.memory.specs.Memory.{Memory, lentMemory, Outcome, done, refused, unless, asOutcome, recordOf}
 use Rattle.step.specs.declared.ActiveRay.{ActiveRay}
-use Rattle.step.specs.Rays.{Scene, Step, End, dim, spent, gone, caught, stopped, parted, refusing}
+use Rattle.step.specs.Rays.{Scene, Step, End, dim, spent, gone, caught, met, refusing}
 use Rattle.step.specs.Steps.{takeStepOf}
 use Rattle.report.specs.declared.NonSeqTraceReport.{NonSeqTraceReport}
 use Rattle.report.specs.Report.{reportAfterOf, countedOf}
@@ -38,8 +38,7 @@ hitInOf dim = none
 hitInOf spent = none
 hitInOf gone = none
 hitInOf (caught h) = some h
-hitInOf (stopped x) = none
-hitInOf (parted r t total) = none
+hitInOf (met m) = none
 hitInOf (refusing n) = none
 
 -- 14 to 16, at the given ray's place
@@ -48,8 +47,7 @@ refusalInOf dim place = passed tt
 refusalInOf spent place = passed tt
 refusalInOf gone place = passed tt
 refusalInOf (caught h) place = passed tt
-refusalInOf (stopped x) place = passed tt
-refusalInOf (parted r t total) place = passed tt
+refusalInOf (met m) place = passed tt
 refusalInOf (refusing n) place = refusedAt n place
 
 -- the hit is in the memory; or 12 or 13, and the report is as the step found it, but its interaction is counted

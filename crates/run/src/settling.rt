@@ -22,12 +22,7 @@ pub(crate) fn hit_in(end: End) -> Catch
         End::Spent => Catch::Nothing,
         End::Gone => Catch::Nothing,
         End::Caught(h) => Catch::Hit(h),
-        End::Stopped(_) => Catch::Nothing,
-        End::Parted {
-            reflected: _,
-            transmitted: _,
-            total: _,
-        } => Catch::Nothing,
+        End::Met(_) => Catch::Nothing,
         End::Refused(_) => Catch::Nothing,
     }
 }
@@ -41,12 +36,7 @@ pub(crate) fn refusal_in(end: End, place: u32) -> Check
         End::Spent => Check::Passed,
         End::Gone => Check::Passed,
         End::Caught(_) => Check::Passed,
-        End::Stopped(_) => Check::Passed,
-        End::Parted {
-            reflected: _,
-            transmitted: _,
-            total: _,
-        } => Check::Passed,
+        End::Met(_) => Check::Passed,
         End::Refused(error) => Check::Refused { error, place },
     }
 }

@@ -19,6 +19,7 @@ use Rattle.step.specs.declared.NonSeqTraceConfig.{NonSeqTraceConfig}
 use Rattle.step.specs.declared.ActiveRay.{ActiveRay}
 use Rattle.step.specs.declared.Step as steps
 use Rattle.step.specs.declared.End as ends
+use Rattle.step.specs.declared.Meeting as meetings
 use Rattle.detector.specs.Pixels.{maxCount}
 
 -- the solids' finishes and media, and by which rules rays are traced
@@ -41,16 +42,20 @@ listedOptics x k g = record { finish = finishAtOf x k; medium = mediumAtOf x k; 
 abbrev pub listedScene : List Float → List ℕ → ℕ → Faces → NonSeqTraceConfig → Scene
 listedScene x k n fs g = record { solids = n; solid = objectAtOf x k; faces = fs; optics = listedOptics x k g }
 
+-- what a solid makes of a ray's power: a power left at an absorber or a mirror; the powers reflected and transmitted at
+-- a clear surface, and whether the radicand was at most 0
+pub data Meeting : Type 0 where
+  stopped : Float → Meeting
+  parted : Float → Float → Bool → Meeting
+
 -- what becomes of the newest ray: at most the threshold; bounced to the limit; lost to the dark; caught by a detector;
--- a power left at an absorber or a mirror; the powers reflected and transmitted at a clear surface, and whether the
--- radicand was at most 0; a refusal
+-- met by a solid; a refusal
 pub data End : Type 0 where
   dim : End
   spent : End
   gone : End
   caught : DetectorHit → End
-  stopped : Float → End
-  parted : Float → Float → Bool → End
+  met : Meeting → End
   refusing : ℕ → End
 
 -- one step: what becomes of the ray, and the rays that come of it, if they are made
@@ -92,13 +97,16 @@ transmittedOf a r m =
     }
 
 -- what the code's answers say
+abbrev pub asMeeting : meetings.Meeting → Meeting
+asMeeting (meetings.the-variants.Stopped p) = stopped p
+asMeeting (meetings.the-variants.Parted r t total) = parted r t total
+
 abbrev pub asEnd : ends.End → End
 asEnd ends.the-variants.Dim = dim
 asEnd ends.the-variants.Spent = spent
 asEnd ends.the-variants.Gone = gone
 asEnd (ends.the-variants.Caught h) = caught h
-asEnd (ends.the-variants.Stopped p) = stopped p
-asEnd (ends.the-variants.Parted r t total) = parted r t total
+asEnd (ends.the-variants.Met m) = met (asMeeting m)
 asEnd (ends.the-variants.Refused e) = refusing (numberOf e)
 
 abbrev pub asStep : steps.Step → Step

@@ -20,9 +20,9 @@ use Rattle.detector.specs.declared.DetectorHit.{DetectorHit}
 use Rattle.faces.specs.declared.Sight.{Sight}
 use Rattle.faces.specs.Faces.{nearestDetectorOf}
 use Rattle.step.specs.declared.ActiveRay.{ActiveRay}
-use Rattle.step.specs.declared.meeting.Met as code
-use Rattle.step.specs.Rays.{Optics, Scene, Step, endsOf, dim, spent, gone, caught, stopped, parted, refusing}
-use Rattle.step.specs.Rays.{reflectedOf, transmittedOf}
+use Rattle.step.specs.declared.ahead.Ahead as code
+use Rattle.step.specs.Rays.{Optics, Scene, Step, endsOf, dim, spent, gone, caught, met, refusing}
+use Rattle.step.specs.Rays.{stopped, parted, reflectedOf, transmittedOf}
 use Rattle.doubles.specs.Doubles.{#0}
 
 -- ---- a clear surface
@@ -44,7 +44,7 @@ beyondOf m h = cond (h .entering) (enteredOf m (h .«object_id»)) (leftOf m (h 
 unfoldable pub partedBy : Float → ActiveRay → Media → FresnelInteraction → Step
 partedBy threshold a m (total r) =
     record {
-      end = parted (r .energy) #0 true;
+      end = met (parted (r .energy) #0 true);
       «first» = lt threshold (r .energy);
       reflected = reflectedOf true a r;
       second = false;
@@ -52,7 +52,7 @@ partedBy threshold a m (total r) =
     }
 partedBy threshold a m (split r t) =
     record {
-      end = parted (r .energy) (t .energy) false;
+      end = met (parted (r .energy) (t .energy) false);
       «first» = lt threshold (r .energy);
       reflected = reflectedOf (le (t .energy) #0) a r;
       second = lt threshold (t .energy);
@@ -86,7 +86,13 @@ clearOf O a h =
 
 unfoldable pub mirrorFromOf : ActiveRay → Float → Answer Ray → Step
 mirrorFromOf a left (value r) =
-    record { end = stopped left; «first» = true; reflected = reflectedOf false a r; second = false; transmitted = a }
+    record {
+      end = met (stopped left);
+      «first» = true;
+      reflected = reflectedOf false a r;
+      second = false;
+      transmitted = a;
+    }
 mirrorFromOf a left (refusal n) = endsOf a (refusing n)
 
 -- what the mirror keeps is absorbed; its ray is made only above the threshold
@@ -94,14 +100,14 @@ unfoldable pub mirrorOf : Float → ActiveRay → NonSeqHit → Float → Step
 mirrorOf threshold a h rho =
     let power = mirroredPowerOf (a .ray .energy) rho in
     let left = sub binary64 (a .ray .energy) power in
-    cond (lt threshold power) (mirrorFromOf a left (mirroredOf (a .ray) h power)) (endsOf a (stopped left))
+    cond (lt threshold power) (mirrorFromOf a left (mirroredOf (a .ray) h power)) (endsOf a (met (stopped left)))
 
 -- ---- what a ray meets
 
 unfoldable pub surfaceBy : Optics → ActiveRay → NonSeqHit → SurfaceFinish → Step
 surfaceBy O a h Specular = clearOf O a h
 surfaceBy O a h (Mirror rho) = mirrorOf (O .config .«min_power_threshold») a h rho
-surfaceBy O a h Absorber = endsOf a (stopped (a .ray .energy))
+surfaceBy O a h Absorber = endsOf a (met (stopped (a .ray .energy)))
 
 unfoldable pub surfaceOf : Optics → ActiveRay → NonSeqHit → Step
 surfaceOf O a h = surfaceBy O a h (O .finish (h .«object_id»))
@@ -119,29 +125,33 @@ caughtByOf a s =
       «tir_count» = a .«tir_count»;
     }
 
-pub data Met : Type 0 where
-  detector : Sight → Met
-  solid : NonSeqHit → Met
-  nothing : Met
+-- what is first ahead of a ray
+pub data Ahead : Type 0 where
+  detector : Sight → Ahead
+  solid : NonSeqHit → Ahead
+  nothing : Ahead
 
 -- a detector wins only if strictly nearer than the nearest solid, or with no solid hit
-unfoldable pub nearerOf : Sight → NonSeqHit → Met
+unfoldable pub nearerOf : Sight → NonSeqHit → Ahead
 nearerOf s h = cond (lt (s .crossing .t) (h .t)) (detector s) (solid h)
 
-unfoldable pub firstMetOf : Option Sight → Option NonSeqHit → Met
-firstMetOf none none = nothing
-firstMetOf none (some h) = solid h
-firstMetOf (some s) none = detector s
-firstMetOf (some s) (some h) = nearerOf s h
+unfoldable pub firstAheadOf : Option Sight → Option NonSeqHit → Ahead
+firstAheadOf none none = nothing
+firstAheadOf none (some h) = solid h
+firstAheadOf (some s) none = detector s
+firstAheadOf (some s) (some h) = nearerOf s h
 
-unfoldable pub meetsWith : Scene → ActiveRay → Met → Step
+abbrev pub aheadIn : Scene → ActiveRay → Ahead
+aheadIn S a =
+    firstAheadOf (nearestDetectorOf (S .faces) (a .ray)) (closestObjectOf (S .solid) (S .solids) (a .ray))
+
+unfoldable pub meetsWith : Scene → ActiveRay → Ahead → Step
 meetsWith S a (detector s) = endsOf a (caught (caughtByOf a s))
 meetsWith S a (solid h) = surfaceOf (S .optics) a h
 meetsWith S a nothing = endsOf a gone
 
 unfoldable pub interactOf : Scene → ActiveRay → Step
-interactOf S a =
-    meetsWith S a (firstMetOf (nearestDetectorOf (S .faces) (a .ray)) (closestObjectOf (S .solid) (S .solids) (a .ray)))
+interactOf S a = meetsWith S a (aheadIn S a)
 
 -- power at most the threshold: dim; else bounce at least the limit: spent; else one interaction
 unfoldable pub takeStepOf : Scene → ActiveRay → Step
@@ -150,7 +160,7 @@ takeStepOf S a =
     (cond (leb (S .optics .config .«max_bounces») (a .«bounce_count»)) (endsOf a spent) (interactOf S a))
 
 -- what the code's answer says
-abbrev pub asMet : code.Met → Met
-asMet (code.the-variants.Detector s) = detector s
-asMet (code.the-variants.Solid h) = solid h
-asMet code.the-variants.Nothing = nothing
+abbrev pub asAhead : code.Ahead → Ahead
+asAhead (code.the-variants.Detector s) = detector s
+asAhead (code.the-variants.Solid h) = solid h
+asAhead code.the-variants.Nothing = nothing

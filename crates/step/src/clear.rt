@@ -1,6 +1,7 @@
 // A ray at a clear surface.
 use crate::ActiveRay;
 use crate::End;
+use crate::Meeting;
 use crate::NonSeqTraceConfig;
 use crate::Step;
 use material::RefractiveIndex;
@@ -50,11 +51,11 @@ fn all_reflected(threshold: f64, a: ActiveRay, media: Media, ray: Ray) -> Step
     ensures { λ r. ⌜ asStep r ≡ allReflectedOf threshold a media ray ⌝ }
 {
     Step {
-        end: End::Parted {
+        end: End::Met(Meeting::Parted {
             reflected: ray.energy,
             transmitted: 0.0,
             total: true,
-        },
+        }),
         first: ray.energy > threshold,
         reflected: a.reflected(true, ray),
         second: false,
@@ -68,11 +69,11 @@ fn both_made(threshold: f64, a: ActiveRay, media: Media, reflected: Ray, transmi
 {
     let tir = transmitted.energy <= 0.0;
     Step {
-        end: End::Parted {
+        end: End::Met(Meeting::Parted {
             reflected: reflected.energy,
             transmitted: transmitted.energy,
             total: false,
-        },
+        }),
         first: reflected.energy > threshold,
         reflected: a.reflected(tir, reflected),
         second: transmitted.energy > threshold,

@@ -1,9 +1,11 @@
 // One step of a ray's life (document 01, "How a ray lives"), after trace.rs: what becomes of the newest
 // ray, and which rays come of it. It sees no memory.
+mod ahead;
 mod clear;
-mod meeting;
 mod mirror;
 
+pub use ahead::Ahead;
+pub use ahead::first_ahead;
 use detector::DetectorHit;
 use detector::MAX_COUNT;
 use error::NonSeqError;
@@ -12,8 +14,6 @@ use faces::Sight;
 use material::OpticalMedium;
 use material::SurfaceFinish;
 use media::Media;
-pub use meeting::Met;
-pub use meeting::first_met;
 use rays::Ray;
 use scene::NonSeqHit;
 ghost use mathlib.Core.Path.{_≡_};
@@ -36,6 +36,18 @@ pub struct ActiveRay {
     pub media: Media,
 }
 
+// What a solid makes of a ray's power.
+pub enum Meeting {
+    // an absorber or a mirror keeps this power
+    Stopped(f64),
+    // a clear surface reflects and transmits these powers; `total` where the radicand is at most 0
+    Parted {
+        reflected: f64,
+        transmitted: f64,
+        total: bool,
+    },
+}
+
 // What becomes of a ray.
 pub enum End {
     // its power is at most the threshold
@@ -45,14 +57,8 @@ pub enum End {
     // it meets nothing
     Gone,
     Caught(DetectorHit),
-    // an absorber or a mirror keeps this power
-    Stopped(f64),
-    // a clear surface reflects and transmits these powers; `total` where the radicand is at most 0
-    Parted {
-        reflected: f64,
-        transmitted: f64,
-        total: bool,
-    },
+    // a solid is nearest
+    Met(Meeting),
     Refused(NonSeqError),
 }
 
@@ -163,7 +169,7 @@ fn surface(
         SurfaceFinish::Mirror { reflectance } => {
             mirror::mirror(config.min_power_threshold, a, hit, reflectance)
         }
-        SurfaceFinish::Absorber => a.ends(End::Stopped(a.ray.energy)),
+        SurfaceFinish::Absorber => a.ends(End::Met(Meeting::Stopped(a.ray.energy))),
     }
 }
 
@@ -180,10 +186,10 @@ fn interact(
     let ray = a.ray;
     let seen = faces.nearest_detector(ray);
     let met = scene::closest_object(solid_values, solid_tags, count, ray);
-    match meeting::first_met(seen, met) {
-        Met::Detector(sight) => a.ends(End::Caught(a.caught_by(sight))),
-        Met::Solid(hit) => surface(config, solid_values, solid_tags, a, hit),
-        Met::Nothing => a.ends(End::Gone),
+    match ahead::first_ahead(seen, met) {
+        Ahead::Detector(sight) => a.ends(End::Caught(a.caught_by(sight))),
+        Ahead::Solid(hit) => surface(config, solid_values, solid_tags, a, hit),
+        Ahead::Nothing => a.ends(End::Gone),
     }
 }
 

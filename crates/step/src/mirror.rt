@@ -1,6 +1,7 @@
 // A ray at a mirror.
 use crate::ActiveRay;
 use crate::End;
+use crate::Meeting;
 use crate::Step;
 use rays::NewRay;
 use scene::NonSeqHit;
@@ -15,7 +16,7 @@ fn mirror_from(a: ActiveRay, left: f64, made: NewRay) -> Step
 {
     match made {
         NewRay::Made(ray) => Step {
-            end: End::Stopped(left),
+            end: End::Met(Meeting::Stopped(left)),
             first: true,
             reflected: a.reflected(false, ray),
             second: false,
@@ -35,5 +36,5 @@ pub(crate) fn mirror(threshold: f64, a: ActiveRay, hit: NonSeqHit, reflectance: 
     if power > threshold {
         return mirror_from(a, left, surface::mirrored(ray, hit, power));
     }
-    a.ends(End::Stopped(left))
+    a.ends(End::Met(Meeting::Stopped(left)))
 }

@@ -6,7 +6,7 @@ use Rattle.detector.specs.declared.DetectorHit.{DetectorHit}
 use Rattle.memory.specs.Memory.{Outcome, done, refused, memoryLeft}
 use Rattle.memory.proofs.Plain.{mapOutcome}
 use Rattle.step.specs.declared.ActiveRay.{ActiveRay}
-use Rattle.step.specs.Rays.{Scene, Step, End, dim, spent, gone, caught, stopped, parted, refusing}
+use Rattle.step.specs.Rays.{Scene, Step, End, dim, spent, gone, caught, met, refusing}
 use Rattle.step.specs.Steps.{takeStepOf}
 use Rattle.report.specs.declared.NonSeqTraceReport.{NonSeqTraceReport}
 use Rattle.report.specs.Report.{reportAfterOf}
@@ -47,8 +47,7 @@ module _ {N M : Type 0} (φ : N → M) where
     map-settle n place found after spent b = refl
     map-settle n place found after gone b = refl
     map-settle n place found after (caught h) b = ap (putFrom place found after) (same n h (b h refl)) ∙ map-put place found after (put′ n h)
-    map-settle n place found after (stopped x) b = refl
-    map-settle n place found after (parted r t z) b = refl
+    map-settle n place found after (met x) b = refl
     map-settle n place found after (refusing k) b = refl
 
     map-step : (n : N) (p : Progress) → stepOn put S given (φ n) p ≡ mapRun (stepOn put′ S given n p)
@@ -101,8 +100,7 @@ module _ {M : Type 0} (put : M → DetectorHit → Outcome M) (S : Scene) (given
   settle-keeps m place found after spent b x = x
   settle-keeps m place found after gone b x = x
   settle-keeps m place found after (caught h) b x = put-keeps place found after (put m h) (keeps m h (b h refl) x)
-  settle-keeps m place found after (stopped y) b x = x
-  settle-keeps m place found after (parted r t z) b x = x
+  settle-keeps m place found after (met y) b x = x
   settle-keeps m place found after (refusing k) b x = x
 
   step-keeps : (m : M) (p : Progress) → P m → P (memoryLeft (stepOn put S given m p .outcome))

@@ -8,7 +8,7 @@ use borrow.Author.Tests.{le-ltb}
 use Rattle.detector.specs.declared.DetectorHit.{DetectorHit}
 use Rattle.memory.specs.Memory.{Outcome, done, refused}
 use Rattle.step.specs.declared.ActiveRay.{ActiveRay}
-use Rattle.step.specs.Rays.{Scene, End, dim, spent, gone, caught, stopped, parted, refusing}
+use Rattle.step.specs.Rays.{Scene, End, dim, spent, gone, caught, met, refusing}
 use Rattle.step.specs.Steps.{takeStepOf}
 use Rattle.report.specs.declared.NonSeqTraceReport.{NonSeqTraceReport}
 use Rattle.run.specs.declared.Progress.{Progress}
@@ -59,8 +59,7 @@ module _ {M : Type 0} (put : M → DetectorHit → Outcome M) (S : Scene) (c : �
   settle-later m place r a r′ a′ spent = refl
   settle-later m place r a r′ a′ gone = refl
   settle-later m place r a r′ a′ (caught h) = put-later place r a r′ a′ (put m h)
-  settle-later m place r a r′ a′ (stopped x) = refl
-  settle-later m place r a r′ a′ (parted x y z) = refl
+  settle-later m place r a r′ a′ (met x) = refl
   settle-later m place r a r′ a′ (refusing k) = refl
 
   module _ (n : ℕ) (given later : ℕ → ActiveRay) (same : (i : ℕ) → i < n → later i ≡ given (c + i)) (m : M) (p q : Progress) where

@@ -7,7 +7,7 @@ use lib.Dec.{leb, ltb}
 use Rattle.detector.specs.declared.DetectorHit.{DetectorHit}
 use Rattle.memory.specs.Memory.{Memory, Outcome, done, refused, recordOf}
 use Rattle.step.specs.declared.ActiveRay.{ActiveRay}
-use Rattle.step.specs.Rays.{Scene, End, dim, spent, gone, caught, stopped, parted, refusing}
+use Rattle.step.specs.Rays.{Scene, End, dim, spent, gone, caught, met, refusing}
 use Rattle.step.specs.Steps.{takeStepOf}
 use Rattle.report.specs.declared.NonSeqTraceReport.{NonSeqTraceReport}
 use Rattle.run.specs.declared.stack.Stack.{Stack}
@@ -39,8 +39,7 @@ module _ {M : Type 0} (put : M → DetectorHit → Outcome M) (S : Scene) (given
   settle-within m place r a spent k = tt
   settle-within m place r a gone k = tt
   settle-within m place r a (caught h) k = put-within place r a (put m h) k
-  settle-within m place r a (stopped x) k = tt
-  settle-within m place r a (parted x y z) k = tt
+  settle-within m place r a (met x) k = tt
   settle-within m place r a (refusing j) k = k
 
   step-within : (m : M) (p : Progress) → p .left ≤ n → Within n (stepOn put S given m p .outcome)

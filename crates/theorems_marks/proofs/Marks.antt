@@ -16,9 +16,9 @@ use Rattle.scene.specs.declared.NonSeqHit.{NonSeqHit}
 use Rattle.surface.specs.Fresnel.{leavingOf, cosineOf, radicandOf, reflectedDirectionOf, refractedDirectionOf, amplitudeOf, reflectanceOf, total, split, bothOf, refractOf, computeSnellFresnelInteractionOf, mirroredPowerOf}
 use Rattle.detector.proofs.Marks.{m8}
 use Rattle.step.specs.declared.ActiveRay.{ActiveRay}
-use Rattle.step.specs.Rays.{endsOf, stopped}
-use Rattle.step.specs.Steps.{mirrorOf, nearerOf, firstMetOf}
-use Rattle.report.specs.Report.{absorbOf, ledgerAfterOf, moreIfOf, addSurfaceOf, talliesAfterOf, reportAfterOf}
+use Rattle.step.specs.Rays.{endsOf, stopped, met}
+use Rattle.step.specs.Steps.{mirrorOf, nearerOf, firstAheadOf}
+use Rattle.report.specs.Report.{absorbOf, ledgerMetOf, ledgerAfterOf, moreIfOf, addSurfaceOf, weakOf, faintOf, talliesAfterOf, reportAfterOf}
 use Rattle.theorems_marks.specs.Marks.{#-0, #¼, #¾, #3, #+x, #+z, #-z, #000, upward, sideways, facing, sentRay, M1, M2, M6, M7, M9, M10, M11, Marks}
 use Rattle.theorems_marks.proofs.Itself.{below-itself, above-zero}
 use Rattle.theorems_marks.proofs.Sent.{sent}
@@ -96,13 +96,13 @@ m7 = (grazing, grazing sideways facing #1 #1 (one-above .0) (one-above .1) (inr 
 -- ---- M9 to M11
 
 pub m9 : M9
-unfolding firstMetOf nearerOf
+unfolding firstAheadOf nearerOf
 m9 s h e = rw (e, below-itself (h .t))
 
 pub m10 : M10
 m10 M put ds B m z = uninteracting put ds B m z
 
-left-half : (a : ActiveRay) (h : NonSeqHit) → a .ray .energy ≡ #1 → mirrorOf #½ a h #½ ≡ endsOf a (stopped #½)
+left-half : (a : ActiveRay) (h : NonSeqHit) → a .ray .energy ≡ #1 → mirrorOf #½ a h #½ ≡ endsOf a (met (stopped #½))
 unfolding mirrorOf mirroredPowerOf clampOf sub mul lt ofBits
 left-half a h e = rw e
 
@@ -111,7 +111,7 @@ unfolding add ofBits
 half = refl
 
 pub m11 : M11
-unfolding reportAfterOf ledgerAfterOf absorbOf talliesAfterOf addSurfaceOf moreIfOf
+unfolding reportAfterOf ledgerAfterOf ledgerMetOf absorbOf talliesAfterOf weakOf faintOf addSurfaceOf moreIfOf
 m11 a h r e z =
     let s = left-half a h e in
     (rw s, rw s, rw s, rw (s, z) half, rw s, rw s)

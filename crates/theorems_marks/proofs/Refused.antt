@@ -16,24 +16,23 @@ use Rattle.rays.specs.declared.Ray.{Ray}
 use Rattle.rays.specs.Rays.{isFiniteRayOf}
 use Rattle.material.specs.declared.OpticalMedium.{OpticalMedium}
 use Rattle.material.specs.declared.OpticalMedium.the-variants.{Air, Constant, Sellmeier1, Schott}
-use Rattle.material.specs.declared.SurfaceFinish.{SurfaceFinish}
-use Rattle.material.specs.declared.SurfaceFinish.the-variants.{Specular, Mirror, Absorber}
 use Rattle.material.specs.Media.{squareUmOf, sellmeierOf, schottOf, constantOf, rootOfSquareOf, indexAtOf, refractiveIndexOf}
 use Rattle.scene.specs.declared.NonSeqHit.{NonSeqHit}
-use Rattle.surface.specs.Fresnel.{leavingOf, radicandOf, reflectedDirectionOf, refractedDirectionOf, FresnelInteraction, total, split, totalOf, bothOf, refractOf, computeSnellFresnelInteractionOf, mirroredPowerOf, mirroredOf}
+use Rattle.surface.specs.Fresnel.{leavingOf, radicandOf, reflectedDirectionOf, refractedDirectionOf, FresnelInteraction, total, split, totalOf, bothOf, refractOf, computeSnellFresnelInteractionOf, mirroredOf}
 use Rattle.media.specs.declared.Media.{Media}
 use Rattle.detector.specs.declared.DetectorHit.{DetectorHit}
 use Rattle.memory.specs.Memory.{Memory, Outcome, done, refused, memoryLeft, judged, putOf, recordOf, hasPixel, capacity, cellIn, hitDetector, writtenAt}
 use Rattle.step.specs.declared.ActiveRay.{ActiveRay}
-use Rattle.step.specs.Rays.{Optics, Scene, End, dim, spent, gone, caught, stopped, parted, refusing, endsOf}
-use Rattle.step.specs.Steps.{Met, detector, solid, nothing, indexInOf, beyondOf, partedBy, partedOf, betweenOf, clearOf, mirrorFromOf, mirrorOf, surfaceBy, surfaceOf, caughtByOf, meetsWith, interactOf, takeStepOf}
+use Rattle.step.specs.Rays.{Optics, Scene, Step, End, dim, spent, gone, caught, met, refusing}
+use Rattle.step.specs.Steps.{indexInOf, partedBy, mirrorFromOf, surfaceOf, caughtByOf, takeStepOf}
+use Rattle.step.proofs.Ways.{Refuses, by-tests, by-ahead, by-surface}
 use Rattle.report.specs.declared.NonSeqTraceReport.{NonSeqTraceReport}
 use Rattle.run.specs.declared.Progress.{Progress}
 use Rattle.run.specs.Stack.{takenFrom}
 use Rattle.run.specs.Run.{Run, hitInOf, refusalInOf, putFrom, settleWith, isLeft, andThen, stepOn, drive}
 use Rattle.trace.specs.Trace.{Batch, raysIn, sceneIn, allSteps, startOf, runOn, checkBatch, traceAfter, traceRaysOf}
 use Rattle.theorems_marks.specs.Marks.{sentRay}
-use Rattle.theorems_marks.specs.Refused.{BadSquare, BadIndex, IndexRefused, cosineAt, rootAt, shareAt, mirroredRay, ClearRefused, HitRefused, metBy, SurfaceRefused, RayRefused, StepRefused, Refusing, RunRefused}
+use Rattle.theorems_marks.specs.Refused.{BadSquare, BadIndex, IndexRefused, cosineAt, rootAt, shareAt, mirroredRay, ClearRefused, HitRefused, SurfaceRefused, RayRefused, StepRefused, Refusing, RunRefused}
 use Rattle.theorems_marks.proofs.Sent.{leaving-is}
 use Rattle.detector.specs.Pixels.{maxCount}
 
@@ -193,8 +192,7 @@ refusalNo dim = 0
 refusalNo spent = 0
 refusalNo gone = 0
 refusalNo (caught h) = 0
-refusalNo (stopped x) = 0
-refusalNo (parted r t all) = 0
+refusalNo (met m) = 0
 refusalNo (refusing n) = n
 
 abbrev isRefusing : End → Bool
@@ -202,85 +200,48 @@ isRefusing dim = false
 isRefusing spent = false
 isRefusing gone = false
 isRefusing (caught h) = false
-isRefusing (stopped x) = false
-isRefusing (parted r t all) = false
+isRefusing (met m) = false
 isRefusing (refusing n) = true
 
 -- an end that is no refusal
 other : {n : ℕ} (e : End) → isRefusing e ≡ false → e ≡ refusing n → ⊥
 other e f x = clash (sym (ap isRefusing x) ∙ f)
 
--- the end of a parting is no refusal
-parted-ends : (threshold : Float) (a : ActiveRay) (m : Media) (p : FresnelInteraction) → isRefusing (partedBy threshold a m p .end) ≡ false
-unfolding partedBy
-parted-ends threshold a m (total r) = refl
-parted-ends threshold a m (split r t) = refl
-
 module _ (O : Optics) (a : ActiveRay) (h : NonSeqHit) (n : ℕ) where
-  clear-refuses : O .finish (h .«object_id») ≡ Specular → clearOf O a h .end ≡ refusing n → SurfaceRefused O a h n
-  unfolding clearOf betweenOf partedOf indexInOf
-  clear-refuses s x = go (indexInOf O (a .media) w) (indexInOf O (beyondOf (a .media) h) w) refl refl x
-    where
-      w : Float
-      w = a .ray .«wavelength_nm»
+  why-refuses : Refuses O a h n → SurfaceRefused O a h n
+  unfolding indexInOf
+  why-refuses (inl (s, inl e)) = inl (s, inl (index-refuses _ _ n e))
+  why-refuses (inl (s, inr (inl e))) = inl (s, inr (inl (index-refuses _ _ n e)))
+  why-refuses (inl (s, inr (inr (n1, (n2, (e, (f, g))))))) =
+      let l = snell-refuses (a .ray) h n1 n2 (a .ray .energy) n g in
+      inl (s, inr (inr (l .0, (n1, (n2, (e, (f, l .1)))))))
+  why-refuses (inr (rho, (s, (e, g)))) =
+      let l = mirror-refuses (a .ray) h _ n g in
+      inr (l .0, (rho, (s, l .1)))
 
-      threshold : Float
-      threshold = O .config .«min_power_threshold»
+  -- a parting and a mirror's ray are no refusals
+  parted-ends : (threshold : Float) (m : Media) (p : FresnelInteraction) → partedBy threshold a m p .end ≡ refusing n → SurfaceRefused O a h n
+  unfolding partedBy
+  parted-ends threshold m (total r) x = absurd (other _ refl x)
+  parted-ends threshold m (split r t) x = absurd (other _ refl x)
 
-      sends : (n1 n2 : Float) → indexInOf O (a .media) w ≡ value n1 → indexInOf O (beyondOf (a .media) h) w ≡ value n2 → (p : Answer FresnelInteraction) → computeSnellFresnelInteractionOf (a .ray) h n1 n2 (a .ray .energy) ≡ p
-          → partedOf threshold a (beyondOf (a .media) h) p .end ≡ refusing n → SurfaceRefused O a h n
-      sends n1 n2 e f (value p) g x = absurd (other (partedBy threshold a (beyondOf (a .media) h) p .end) (parted-ends threshold a (beyondOf (a .media) h) p) x)
-      sends n1 n2 e f (refusal k) g x =
-          let l = snell-refuses (a .ray) h n1 n2 (a .ray .energy) n (g ∙ ap refusal (ap refusalNo x)) in
-          inl (s, inr (inr (l .0, (n1, (n2, (e, (f, l .1)))))))
-
-      go : (i j : Answer Float) → indexInOf O (a .media) w ≡ i → indexInOf O (beyondOf (a .media) h) w ≡ j → betweenOf threshold a h (beyondOf (a .media) h) i j .end ≡ refusing n → SurfaceRefused O a h n
-      go (value n1) (value n2) e f x = sends n1 n2 e f (computeSnellFresnelInteractionOf (a .ray) h n1 n2 (a .ray .energy)) refl x
-      go (value n1) (refusal k) e f x = inl (s, inr (inl (index-refuses _ w n (f ∙ ap refusal (ap refusalNo x)))))
-      go (refusal k) j e f x = inl (s, inl (index-refuses _ w n (e ∙ ap refusal (ap refusalNo x))))
-
-  mirrored-refuses : (rho : Float) → O .finish (h .«object_id») ≡ Mirror rho → mirrorOf (O .config .«min_power_threshold») a h rho .end ≡ refusing n → SurfaceRefused O a h n
-  unfolding mirrorOf mirrorFromOf
-  mirrored-refuses rho s x = go (lt (O .config .«min_power_threshold») power) x
-    where
-      power : Float
-      power = mirroredPowerOf (a .ray .energy) rho
-
-      left : Float
-      left = sub binary64 (a .ray .energy) power
-
-      sends : (r : Answer Ray) → mirroredOf (a .ray) h power ≡ r → mirrorFromOf a left r .end ≡ refusing n → SurfaceRefused O a h n
-      sends (value r) g x = absurd (other (stopped left) refl x)
-      sends (refusal k) g x =
-          let l = mirror-refuses (a .ray) h power n (g ∙ ap refusal (ap refusalNo x)) in
-          inr (l .0, (rho, (s, l .1)))
-
-      go : (b : Bool) → cond b (mirrorFromOf a left (mirroredOf (a .ray) h power)) (endsOf a (stopped left)) .end ≡ refusing n → SurfaceRefused O a h n
-      go true x = sends (mirroredOf (a .ray) h power) refl x
-      go false x = absurd (other (stopped left) refl x)
+  mirrored-ends : (left : Float) (r : Ray) → mirrorFromOf a left (value r) .end ≡ refusing n → SurfaceRefused O a h n
+  unfolding mirrorFromOf
+  mirrored-ends left r x = absurd (other _ refl x)
 
   pub surface-refuses : surfaceOf O a h .end ≡ refusing n → SurfaceRefused O a h n
-  unfolding surfaceOf surfaceBy
-  surface-refuses x = go (O .finish (h .«object_id»)) refl x
-    where
-      go : (f : SurfaceFinish) → O .finish (h .«object_id») ≡ f → surfaceBy O a h f .end ≡ refusing n → SurfaceRefused O a h n
-      go Specular e x = clear-refuses e x
-      go (Mirror rho) e x = mirrored-refuses rho e x
-      go Absorber e x = absurd (other (stopped (a .ray .energy)) refl x)
+  surface-refuses =
+      by-surface (λ (s : Step). (s .end ≡ refusing n → SurfaceRefused O a h n)) a O h (λ m x. absurd (other (met m) refl x))
+      (λ k g x. why-refuses (subst (Refuses O a h) (ap refusalNo x) g))
+      (λ power left r g. mirrored-ends left r) (λ n1 n2 p g. parted-ends _ _ p)
 
 pub ray-refuses : (S : Scene) (a : ActiveRay) (n : ℕ) → takeStepOf S a .end ≡ refusing n → RayRefused S a n
-unfolding takeStepOf interactOf meetsWith
-ray-refuses S a n x = go (le (a .ray .energy) (S .optics .config .«min_power_threshold»)) (leb (S .optics .config .«max_bounces») (a .«bounce_count»)) x
-  where
-    meets : (m : Met) → metBy S a ≡ m → meetsWith S a m .end ≡ refusing n → RayRefused S a n
-    meets (detector s) e x = absurd (other (caught (caughtByOf a s)) refl x)
-    meets (solid h) e x = (h, (e, surface-refuses (S .optics) a h n x))
-    meets nothing e x = absurd (other gone refl x)
-
-    go : (b c : Bool) → cond b (endsOf a dim) (cond c (endsOf a spent) (interactOf S a)) .end ≡ refusing n → RayRefused S a n
-    go true c x = absurd (other dim refl x)
-    go false true x = absurd (other spent refl x)
-    go false false x = meets (metBy S a) refl x
+ray-refuses S a n =
+    let Q : Step → Type 0 = λ s. (s .end ≡ refusing n → RayRefused S a n) in
+    by-tests Q a S (λ e x. absurd (other dim refl x)) (λ e x. absurd (other spent refl x))
+    (λ e f.
+    by-ahead Q a S (λ s q x. absurd (other (caught (caughtByOf a s)) refl x)) (λ h q x. (h, (q, surface-refuses (S .optics) a h n x)))
+    (λ x. absurd (other gone refl x)))
 
 -- ---- a step
 
@@ -307,8 +268,7 @@ module _ {M : Type 0} (put : M → DetectorHit → Outcome M) where
   settle-refuses m at found after dim n place s x = absurd (done-refused x)
   settle-refuses m at found after spent n place s x = absurd (done-refused x)
   settle-refuses m at found after gone n place s x = absurd (done-refused x)
-  settle-refuses m at found after (stopped p) n place s x = absurd (done-refused x)
-  settle-refuses m at found after (parted r t all) n place s x = absurd (done-refused x)
+  settle-refuses m at found after (met x) n place s y = absurd (done-refused y)
   settle-refuses m at found after (refusing k) n place s x = (sym (ap placeIn x), inr (ap refusing (ap numberIn x), ap memoryLeft x))
   settle-refuses m at found after (caught h) n place s x = go (put m h) refl x
     where

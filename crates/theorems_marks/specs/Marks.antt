@@ -25,8 +25,8 @@ use Rattle.detector.specs.declared.DetectorHit.{DetectorHit}
 use Rattle.memory.specs.Memory.{Outcome}
 use Rattle.faces.specs.declared.Sight.{Sight}
 use Rattle.step.specs.declared.ActiveRay.{ActiveRay}
-use Rattle.step.specs.Rays.{stopped}
-use Rattle.step.specs.Steps.{firstMetOf, solid, mirrorOf}
+use Rattle.step.specs.Rays.{stopped, met}
+use Rattle.step.specs.Steps.{firstAheadOf, solid, mirrorOf}
 use Rattle.report.specs.declared.NonSeqTraceReport.{NonSeqTraceReport}
 use Rattle.report.specs.Report.{reportAfterOf}
 use Rattle.trace.specs.Trace.{Batch, runOn}
@@ -133,7 +133,7 @@ M8 =
 
 -- a solid and a detector equally far: the solid
 abbrev pub M9 : Type 0
-M9 = (s : Sight) (h : NonSeqHit) → s .crossing .t ≡ h .t → firstMetOf (some s) (some h) ≡ solid h
+M9 = (s : Sight) (h : NonSeqHit) → s .crossing .t ≡ h .t → firstAheadOf (some s) (some h) ≡ solid h
 
 -- limit 0: interactions 0, into any memory, whatever is refused
 abbrev pub M10 : Type 1
@@ -146,7 +146,7 @@ abbrev pub M11 : Type 0
 M11 =
     (a : ActiveRay) (h : NonSeqHit) (r : NonSeqTraceReport) → a .ray .energy ≡ #1
     → r .ledger .«absorbed_flux_watts» ≡ #0
-    → (mirrorOf #½ a h #½ .end ≡ stopped #½) × (mirrorOf #½ a h #½ .«first» ≡ false) ×
+    → (mirrorOf #½ a h #½ .end ≡ met (stopped #½)) × (mirrorOf #½ a h #½ .«first» ≡ false) ×
     (mirrorOf #½ a h #½ .second ≡ false)
     × (reportAfterOf r #1 (mirrorOf #½ a h #½) .ledger .«absorbed_flux_watts» ≡ #½)
     × (reportAfterOf r #1 (mirrorOf #½ a h #½) .tallies .made ≡ r .tallies .made)

@@ -16,17 +16,15 @@ use Rattle.material.specs.declared.OpticalMedium.the-variants.{Air, Constant, S
 use Rattle.material.specs.declared.SurfaceFinish.the-variants.{Specular, Mirror}
 use Rattle.material.specs.Media.{squareUmOf, sellmeierOf, schottOf}
 use Rattle.scene.specs.declared.NonSeqHit.{NonSeqHit}
-use Rattle.scene.specs.Closest.{closestObjectOf}
 use Rattle.surface.specs.Fresnel.{cosineOf, radicandOf, reflectedDirectionOf, refractedDirectionOf, reflectanceOf}
 use Rattle.surface.specs.Fresnel.{mirroredPowerOf}
 use Rattle.media.specs.declared.Media.{Media}
 use Rattle.media.specs.Media.{newestOf}
 use Rattle.detector.specs.declared.DetectorHit.{DetectorHit}
 use Rattle.memory.specs.Memory.{Memory, Outcome, done, refused, recordOf, hasPixel, capacity, cellIn, hitDetector}
-use Rattle.faces.specs.Faces.{nearestDetectorOf}
 use Rattle.step.specs.declared.ActiveRay.{ActiveRay}
 use Rattle.step.specs.Rays.{Optics, Scene, caught}
-use Rattle.step.specs.Steps.{Met, solid, mediumFrom, indexInOf, beyondOf, firstMetOf, takeStepOf}
+use Rattle.step.specs.Steps.{solid, aheadIn, mediumFrom, indexInOf, beyondOf, takeStepOf}
 use Rattle.run.specs.declared.Progress.{Progress}
 use Rattle.run.specs.Stack.{takenFrom}
 use Rattle.run.specs.Run.{isLeft, stepOn, drive}
@@ -102,10 +100,6 @@ HitRefused s h n =
 
 -- ---- a step
 
--- what the ray meets first
-abbrev pub metBy : Scene → ActiveRay → Met
-metBy S a = firstMetOf (nearestDetectorOf (S .faces) (a .ray)) (closestObjectOf (S .solid) (S .solids) (a .ray))
-
 -- the index in the newest of the media, else the ambient, is refused
 abbrev pub MediaRefused : Optics → Media → Float → ℕ → Type 0
 MediaRefused O m w n = IndexRefused (mediumFrom O (newestOf m)) w n
@@ -129,7 +123,7 @@ SurfaceRefused O a h n =
 
 -- a solid is met, and its surface is refused
 abbrev pub RayRefused : Scene → ActiveRay → ℕ → Type 0
-RayRefused S a n = (h : NonSeqHit) × ((metBy S a ≡ solid h) × SurfaceRefused (S .optics) a h n)
+RayRefused S a n = (h : NonSeqHit) × ((aheadIn S a ≡ solid h) × SurfaceRefused (S .optics) a h n)
 
 -- a detector is met, and the hit is refused
 abbrev pub CatchRefused : Memory → Scene → ActiveRay → ℕ → Type 0
@@ -180,7 +174,7 @@ CountFull t S a =
 
 -- the ray meets a clear surface with property C
 abbrev pub AtClear : Scene → ActiveRay → (NonSeqHit → Type 0) → Type 0
-AtClear S a C = (h : NonSeqHit) × ((metBy S a ≡ solid h) × ((S .optics .finish (h .«object_id») ≡ Specular) × C h))
+AtClear S a C = (h : NonSeqHit) × ((aheadIn S a ≡ solid h) × ((S .optics .finish (h .«object_id») ≡ Specular) × C h))
 
 -- 14: there, with a wavelength at most 0 or not finite
 abbrev pub BadWavelength : Scene → ActiveRay → Type 0
@@ -207,7 +201,7 @@ BadRay S a =
     × ((indexInOf (S .optics) (beyondOf (a .media) h) (a .ray .«wavelength_nm») ≡ value n2) × ClearRefused
     (a .ray) h n1 n2 (a .ray .energy)))))
     ⊎ ((h : NonSeqHit)
-    × ((metBy S a ≡ solid h)
+    × ((aheadIn S a ≡ solid h)
     × ((rho : Float)
     × ((S .optics .finish (h .«object_id») ≡ Mirror rho) ×
     (isFiniteRayOf (mirroredRay (a .ray) h (mirroredPowerOf (a .ray .energy) rho)) ≡ false)))))

@@ -9,7 +9,7 @@ use Rattle.detectors.specs.declared.Detectors.{Detectors}
 use Rattle.detector.specs.declared.DetectorHit.{DetectorHit}
 use Rattle.memory.specs.Memory.{Outcome, done, refused}
 use Rattle.step.specs.declared.ActiveRay.{ActiveRay}
-use Rattle.step.specs.Rays.{Scene, Step, End, dim, spent, gone, caught, stopped, parted, refusing, moreOf}
+use Rattle.step.specs.Rays.{Scene, Step, End, dim, spent, gone, caught, met, refusing, moreOf}
 use Rattle.step.specs.Steps.{takeStepOf}
 use Rattle.report.specs.declared.tallies.Tallies.{Tallies}
 use Rattle.report.specs.declared.NonSeqTraceReport.{NonSeqTraceReport}
@@ -69,8 +69,7 @@ tallied t gone f s r x y h k =
 tallied t (caught d) f s r x y h k =
     let q : moreOf (t .caught) ≡ t .caught + 1 = more-is (t .caught) (omega arith) in
     record { made = omega (arith, no-flag f x, no-flag s y); over = omega (arith, q); met = omega (arith, q) }
-tallied t (stopped z) f s r x y h k = surfacing-added t (stopped z) f s _ _ refl h k
-tallied t (parted z u v) f s r x y h k = surfacing-added t (parted z u v) f s _ _ refl h k
+tallied t (met m) f s r x y h k = surfacing-added t (met m) f s _ _ refl h k
 tallied t (refusing n) f s r x y h k = false-true (sym r)
 
 -- ---- sums of ones
@@ -122,8 +121,7 @@ module _ {M : Type 0} (put : M → DetectorHit → Outcome M) where
   settle-done m place r after z spent h = (refl, refl)
   settle-done m place r after z gone h = (refl, refl)
   settle-done m place r after z (caught d) h = (put-done place r after z (put m d) h, refl)
-  settle-done m place r after z (stopped x) h = (refl, refl)
-  settle-done m place r after z (parted x y u) h = (refl, refl)
+  settle-done m place r after z (met x) h = (refl, refl)
   settle-done m place r after z (refusing n) h = not-done n place m z h
 
   module _ (S : Scene) (given : ℕ → ActiveRay) where

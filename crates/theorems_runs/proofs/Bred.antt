@@ -7,20 +7,19 @@ use mathlib.Core.Option.{Option, none, some}
 use native.Mathlib.Omega.{arith}
 use lib.Dec.{ltb, leb}
 use lib.ListN.{length, set, length-set}
-use lib.Ieee.{Float, lt, le, binary64, ofBits}
+use lib.Ieee.{Float, le, binary64, ofBits}
 use borrow.Author.Tests.{leb-false}
-use Rattle.error.specs.Refusals.{Answer, value, refusal}
+use Rattle.error.specs.Refusals.{value}
 use Rattle.rays.specs.declared.Ray.{Ray}
-use Rattle.material.specs.declared.SurfaceFinish.{SurfaceFinish}
-use Rattle.material.specs.declared.SurfaceFinish.the-variants.{Specular, Mirror, Absorber}
 use Rattle.scene.specs.declared.SolidNo.{SolidNo}
 use Rattle.scene.specs.declared.NonSeqHit.{NonSeqHit}
-use Rattle.surface.specs.Fresnel.{FresnelInteraction, total, split, mirroredPowerOf}
+use Rattle.surface.specs.Fresnel.{FresnelInteraction, total, split}
 use Rattle.media.specs.declared.Media.{Media}
 use Rattle.media.specs.Media.{enteredOf, leftOf, lastPlaceOf, moveDownOf, withoutPlace, solidIn, maxMedia}
 use Rattle.step.specs.declared.ActiveRay.{ActiveRay}
-use Rattle.step.specs.Rays.{Optics, Scene, Step, End, endsOf, dim, spent, gone, caught, stopped, parted, refusing, moreOf, reflectedOf, transmittedOf}
-use Rattle.step.specs.Steps.{beyondOf, partedBy, partedOf, betweenOf, clearOf, mirrorFromOf, mirrorOf, surfaceBy, surfaceOf, Met, detector, solid, nothing, meetsWith, interactOf, takeStepOf}
+use Rattle.step.specs.Rays.{Scene, Step, End, endsOf, dim, spent, gone, caught, met, refusing, moreOf, reflectedOf, transmittedOf}
+use Rattle.step.specs.Steps.{beyondOf, partedBy, mirrorFromOf, takeStepOf}
+use Rattle.step.proofs.Ways.{by-tests, by-ahead, by-surface}
 use Rattle.report.specs.Report.{isInteractionOf}
 use Rattle.theorems_runs.specs.Sums.{isSurface}
 
@@ -135,24 +134,9 @@ module _ (b : ℕ) (a : ActiveRay) (low : a .«bounce_count» < b) where
         later-two = transmitted-later a t m d;
       }
 
-  parted-from : (threshold : Float) (m : Media) (p : Answer FresnelInteraction) → Deeper (a .media) m → Bred b a (partedOf threshold a m p)
-  unfolding partedOf
-  parted-from threshold m (value p) d = parted-bred threshold m p d
-  parted-from threshold m (refusal n) d = ended-bred b a (refusing n) (λ q. low)
-
-  between-bred : (threshold : Float) (h : NonSeqHit) (m : Media) (x y : Answer Float) → Deeper (a .media) m → Bred b a (betweenOf threshold a h m x y)
-  unfolding betweenOf
-  between-bred threshold h m (value x) (value y) d = parted-from threshold m _ d
-  between-bred threshold h m (value x) (refusal n) d = ended-bred b a (refusing n) (λ q. low)
-  between-bred threshold h m (refusal n) y d = ended-bred b a (refusing n) (λ q. low)
-
-  clear-bred : (O : Optics) (h : NonSeqHit) → Bred b a (clearOf O a h)
-  unfolding clearOf
-  clear-bred O h = between-bred _ h (beyondOf (a .media) h) _ _ (beyond (a .media) h)
-
-  mirror-from : (left : Float) (r : Answer Ray) → Bred b a (mirrorFromOf a left r)
+  mirrored-bred : (left : Float) (r : Ray) → Bred b a (mirrorFromOf a left (value r))
   unfolding mirrorFromOf reflectedOf isSurface
-  mirror-from left (value r) =
+  mirrored-bred left r =
       record {
         busy = λ q. low;
         one = λ q. refl;
@@ -162,33 +146,20 @@ module _ (b : ℕ) (a : ActiveRay) (low : a .«bounce_count» < b) where
         later-one = reflected-later false a r;
         later-two = itself a;
       }
-  mirror-from left (refusal n) = ended-bred b a (refusing n) (λ q. low)
-
-  mirror-bred : (threshold : Float) (h : NonSeqHit) (rho : Float) → Bred b a (mirrorOf threshold a h rho)
-  unfolding mirrorOf
-  mirror-bred threshold h rho =
-      pick (Bred b a) (lt threshold (mirroredPowerOf (a .ray .energy) rho)) (λ q. mirror-from _ _) (λ q. ended-bred b a _ (λ z. low))
-
-  by-bred : (O : Optics) (h : NonSeqHit) (f : SurfaceFinish) → Bred b a (surfaceBy O a h f)
-  unfolding surfaceBy
-  by-bred O h Specular = clear-bred O h
-  by-bred O h (Mirror rho) = mirror-bred _ h rho
-  by-bred O h Absorber = ended-bred b a _ (λ q. low)
-
-  meets-bred : (S : Scene) (k : Met) → Bred b a (meetsWith S a k)
-  unfolding meetsWith surfaceOf
-  meets-bred S (detector s) = ended-bred b a _ (λ q. low)
-  meets-bred S (solid h) = by-bred (S .optics) h (S .optics .finish (h .«object_id»))
-  meets-bred S nothing = ended-bred b a gone (λ q. low)
 
 pub bred : (S : Scene) (a : ActiveRay) → Bred (S .optics .config .«max_bounces») a (takeStepOf S a)
-unfolding takeStepOf interactOf isInteractionOf
+unfolding isInteractionOf
 bred S a =
     let b : ℕ = S .optics .config .«max_bounces» in
-    pick (Bred b a) (le (a .ray .energy) (S .optics .config .«min_power_threshold»)) (λ q. ended-bred b a dim (λ z. false-true z))
-    (λ q.
-    pick (Bred b a) (leb b (a .«bounce_count»)) (λ z. ended-bred b a spent (λ y. false-true y))
-    (λ z. meets-bred b a (leb-false b (a .«bounce_count») z) S _))
+    let Q : Step → Type 0 = Bred b a in
+    by-tests Q a S (λ e. ended-bred b a dim (λ z. false-true z)) (λ e. ended-bred b a spent (λ z. false-true z))
+    (λ e f.
+    let low : a .«bounce_count» < b = leb-false b (a .«bounce_count») f in
+    by-ahead Q a S (λ s q. ended-bred b a _ (λ z. low))
+    (λ h q.
+    by-surface Q a (S .optics) h (λ m. ended-bred b a (met m) (λ z. low)) (λ n g. ended-bred b a (refusing n) (λ z. low))
+    (λ power left r g. mirrored-bred b a low left r) (λ n1 n2 p g. parted-bred b a low _ (beyondOf (a .media) h) p (beyond (a .media) h)))
+    (ended-bred b a gone (λ z. low)))
 
 -- a ray made at a surface is made in an interaction
 pub surface-busy : (e : End) → isSurface e ≡ true → isInteractionOf e ≡ true
@@ -197,6 +168,5 @@ surface-busy dim q = q
 surface-busy spent q = q
 surface-busy gone q = refl
 surface-busy (caught h) q = refl
-surface-busy (stopped x) q = refl
-surface-busy (parted r t z) q = refl
+surface-busy (met m) q = refl
 surface-busy (refusing n) q = refl

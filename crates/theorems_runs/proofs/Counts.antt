@@ -10,7 +10,7 @@ use Rattle.detectors.specs.declared.Detectors.{Detectors}
 use Rattle.detector.specs.declared.DetectorHit.{DetectorHit}
 use Rattle.memory.specs.Memory.{Outcome, done, refused}
 use Rattle.step.specs.declared.ActiveRay.{ActiveRay}
-use Rattle.step.specs.Rays.{Scene, Step, End, dim, spent, gone, caught, stopped, parted, refusing}
+use Rattle.step.specs.Rays.{Scene, Step, End, dim, spent, gone, caught, met, refusing}
 use Rattle.step.specs.Steps.{takeStepOf}
 use Rattle.report.specs.declared.tallies.Tallies.{Tallies}
 use Rattle.report.specs.declared.NonSeqTraceReport.{NonSeqTraceReport}
@@ -48,8 +48,7 @@ module _ (n w v : ℕ) (less : w + 2 ≤ v) where
   tallies-small t spent f s h = record { made = omega (arith, h .made); dim = omega (arith, h .dim); spent = omega (arith, h .spent, more-most (t .spent)); caught = omega (arith, h .caught); gone = omega (arith, h .gone); surface = omega (arith, h .surface); weak = omega (arith, h .weak) }
   tallies-small t gone f s h = record { made = omega (arith, h .made); dim = omega (arith, h .dim); spent = omega (arith, h .spent); caught = omega (arith, h .caught); gone = omega (arith, h .gone, more-most (t .gone)); surface = omega (arith, h .surface); weak = omega (arith, h .weak) }
   tallies-small t (caught d) f s h = record { made = omega (arith, h .made); dim = omega (arith, h .dim); spent = omega (arith, h .spent); caught = omega (arith, h .caught, more-most (t .caught)); gone = omega (arith, h .gone); surface = omega (arith, h .surface); weak = omega (arith, h .weak) }
-  tallies-small t (stopped x) f s h = surfacing-small t f s _ _ h
-  tallies-small t (parted x y z) f s h = surfacing-small t f s _ _ h
+  tallies-small t (met m) f s h = surfacing-small t f s _ _ h
   tallies-small t (refusing k) f s h = record { made = omega (arith, h .made); dim = omega (arith, h .dim); spent = omega (arith, h .spent); caught = omega (arith, h .caught); gone = omega (arith, h .gone); surface = omega (arith, h .surface); weak = omega (arith, h .weak) }
 
   after-small : (r : NonSeqTraceReport) (power : Float) (s : Step) → SmallCounts n v r → SmallCounts n w (reportAfterOf r power s)

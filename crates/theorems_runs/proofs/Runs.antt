@@ -6,7 +6,7 @@ use native.Mathlib.Omega.{arith}
 use Rattle.detector.specs.declared.DetectorHit.{DetectorHit}
 use Rattle.memory.specs.Memory.{Outcome, done, refused}
 use Rattle.step.specs.declared.ActiveRay.{ActiveRay}
-use Rattle.step.specs.Rays.{Scene, End, dim, spent, gone, caught, stopped, parted, refusing}
+use Rattle.step.specs.Rays.{Scene, End, dim, spent, gone, caught, met, refusing}
 use Rattle.step.specs.Steps.{takeStepOf}
 use Rattle.report.specs.declared.NonSeqTraceReport.{NonSeqTraceReport}
 use Rattle.report.specs.Report.{isInteractionOf, moreIfOf, reportAfterOf, countedOf}
@@ -47,8 +47,7 @@ module _ {M : Type 0} (put : M → DetectorHit → Outcome M) (S : Scene) (given
   settle-count m place r after spent h = h
   settle-count m place r after gone h = h
   settle-count m place r after (caught k) h = put-count place r after (put m k) h
-  settle-count m place r after (stopped x) h = h
-  settle-count m place r after (parted x y z) h = h
+  settle-count m place r after (met x) h = h
   settle-count m place r after (refusing n) h = h
 
   pub next-count : (m : M) (p : Progress) → next put S given m p .report .«total_interactions» ≤ p .report .«total_interactions» + cond (isInteractionOf (takeStepOf S (ray put S given m p) .end)) 1 0

@@ -5,7 +5,7 @@ use mathlib.Core.Path.{_≡_}
 use mathlib.Core.Bool.{Bool, true, false, cond}
 use lib.ListN.{length, getD}
 use Rattle.step.specs.declared.ActiveRay.{ActiveRay}
-use Rattle.step.specs.Rays.{Step, End, dim, spent, gone, caught, stopped, parted, refusing}
+use Rattle.step.specs.Rays.{Step, End, dim, spent, gone, caught, met, refusing}
 use Rattle.report.specs.declared.tallies.Tallies.{Tallies}
 use Rattle.run.specs.declared.stack.Stack.{Stack}
 use Rattle.run.specs.declared.Progress.{Progress}
@@ -62,8 +62,7 @@ isSurface dim = false
 isSurface spent = false
 isSurface gone = false
 isSurface (caught h) = false
-isSurface (stopped x) = true
-isSurface (parted r t total) = true
+isSurface (met m) = true
 isSurface (refusing n) = false
 
 -- whether a step is refused by itself
@@ -72,8 +71,7 @@ refuses dim = false
 refuses spent = false
 refuses gone = false
 refuses (caught h) = false
-refuses (stopped x) = false
-refuses (parted r t total) = false
+refuses (met m) = false
 refuses (refusing n) = true
 
 -- the rays whose life is over, and those that interacted

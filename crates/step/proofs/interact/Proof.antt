@@ -10,8 +10,8 @@ nearest-detector-requires c κs = search needs
 closest-object-requires : tie.Need-closest-object-requires
 closest-object-requires c κs = search needs
 
-first-met-requires : tie.Need-first-met-requires
-first-met-requires c κs = search needs
+first-ahead-requires : tie.Need-first-ahead-requires
+first-ahead-requires c κs = search needs
 
 enum-known-sight : tie.Need-enum-known-sight
 enum-known-sight c = search needs
@@ -38,13 +38,13 @@ returns : tie.Need-returns
 unfolding interactOf meetsWith
 returns c =
     let sight = c .before .before .before .sight in
-    let first-met = c .before .before .before .before .before .first-met in
+    let first-ahead = c .before .before .before .before .before .first-ahead in
     let closest-object = c .before .before .before .before .before .before .closest-object in
     let nearest-detector = c .before .before .before .before .before .before .before .nearest-detector in
     simp (
       ← nearest-detector .ensures,
       ← closest-object .ensures,
-      ← first-met .ensures,
+      ← first-ahead .ensures,
       sight .given .1,
       ← c .before .caught-by .ensures,
       ← c .ends .ensures,
@@ -53,18 +53,18 @@ returns c =
 returns-2 : tie.Need-returns-2
 unfolding interactOf meetsWith
 returns-2 c =
-    let first-met = c .before .before .before .before .first-met in
+    let first-ahead = c .before .before .before .before .first-ahead in
     let closest-object = c .before .before .before .before .before .closest-object in
     let nearest-detector = c .before .before .before .before .before .before .nearest-detector in
-    simp (← nearest-detector .ensures, ← closest-object .ensures, ← first-met .ensures, c .before .before .hit .given .1, ← c .surface .ensures)
+    simp (← nearest-detector .ensures, ← closest-object .ensures, ← first-ahead .ensures, c .before .before .hit .given .1, ← c .surface .ensures)
 
 returns-3 : tie.Need-returns-3
 unfolding interactOf meetsWith
 returns-3 c =
-    let first-met = c .before .before .before .first-met in
+    let first-ahead = c .before .before .before .first-ahead in
     let closest-object = c .before .before .before .before .closest-object in
     let nearest-detector = c .before .before .before .before .before .nearest-detector in
-    simp (← nearest-detector .ensures, ← closest-object .ensures, ← first-met .ensures, c .before .enum-told .given .1, ← c .ends2 .ensures)
+    simp (← nearest-detector .ensures, ← closest-object .ensures, ← first-ahead .ensures, c .before .enum-told .given .1, ← c .ends2 .ensures)
 
 pub interact-spec : {M : Type 1} → statement M
 interact-spec =
@@ -72,7 +72,7 @@ interact-spec =
     (tie.spec
     nearest-detector-requires
     closest-object-requires
-    first-met-requires
+    first-ahead-requires
     enum-known-sight
     caught-by-requires
     ends-requires

@@ -22,9 +22,6 @@ enum-told-4 c = search needs
 enum-told-5 : tie.Need-enum-told-5
 enum-told-5 c = search needs
 
-enum-told-6 : tie.Need-enum-told-6
-enum-told-6 c = search needs
-
 returns : tie.Need-returns
 unfolding hitInOf
 returns c = simp (c .enum-told .given .1)
@@ -49,10 +46,6 @@ returns-6 : tie.Need-returns-6
 unfolding hitInOf
 returns-6 c = simp (c .enum-told5 .given .1)
 
-returns-7 : tie.Need-returns-7
-unfolding hitInOf
-returns-7 c = simp (c .enum-told6 .given .1)
-
 pub hit-in-spec : {M : Type 1} → statement M
 hit-in-spec =
     tie.close
@@ -63,11 +56,9 @@ hit-in-spec =
     enum-known-end
     enum-told-4
     enum-told-5
-    enum-told-6
     returns
     returns-2
     returns-3
     returns-4
     returns-5
-    returns-6
-    returns-7)
+    returns-6)

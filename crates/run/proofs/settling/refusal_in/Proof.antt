@@ -19,9 +19,6 @@ enum-told-4 c = search needs
 enum-told-5 : tie.Need-enum-told-5
 enum-told-5 c = search needs
 
-enum-told-6 : tie.Need-enum-told-6
-enum-told-6 c = search needs
-
 enum-known-end : tie.Need-enum-known-end
 enum-known-end c = search needs
 
@@ -47,11 +44,7 @@ returns-5 c = simp (c .enum-told5 .given .1)
 
 returns-6 : tie.Need-returns-6
 unfolding refusalInOf
-returns-6 c = simp (c .enum-told6 .given .1)
-
-returns-7 : tie.Need-returns-7
-unfolding refusalInOf
-returns-7 c = simp (c .before .end .given .1)
+returns-6 c = simp (c .before .end .given .1)
 
 pub refusal-in-spec : {M : Type 1} → statement M
 refusal-in-spec =
@@ -62,12 +55,10 @@ refusal-in-spec =
     enum-told-3
     enum-told-4
     enum-told-5
-    enum-told-6
     enum-known-end
     returns
     returns-2
     returns-3
     returns-4
     returns-5
-    returns-6
-    returns-7)
+    returns-6)

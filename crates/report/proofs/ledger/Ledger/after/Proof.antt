@@ -31,17 +31,8 @@ detect-requires c κs = search needs
 enum-known-end : tie.Need-enum-known-end
 enum-known-end c = search needs
 
-absorb-requires-3 : tie.Need-absorb-requires-3
-absorb-requires-3 c κs = search needs
-
-enum-known-end-2 : tie.Need-enum-known-end-2
-enum-known-end-2 c = search needs
-
-unless-made-requires : tie.Need-unless-made-requires
-unless-made-requires c κs = search needs
-
-unless-made-requires-2 : tie.Need-unless-made-requires-2
-unless-made-requires-2 c κs = search needs
+met-requires : tie.Need-met-requires
+met-requires c κs = search needs
 
 enum-told-5 : tie.Need-enum-told-5
 enum-told-5 c = search needs
@@ -64,15 +55,11 @@ returns-4 c = simp (c .before .enum-told4 .given .1, ← c .detect .ensures)
 
 returns-5 : tie.Need-returns-5
 unfolding ledgerAfterOf
-returns-5 c = simp (c .before .before .end .given .1, ← c .absorb3 .ensures)
+returns-5 c = simp (c .before .before .end .given .1, ← c .met .ensures)
 
 returns-6 : tie.Need-returns-6
 unfolding ledgerAfterOf
-returns-6 c = simp (c .before .before .before .end2 .given .1, ← c .before .unless-made .ensures, ← c .unless-made2 .ensures)
-
-returns-7 : tie.Need-returns-7
-unfolding ledgerAfterOf
-returns-7 c = simp (c .enum-told5 .given .1)
+returns-6 c = simp (c .enum-told5 .given .1)
 
 pub after-spec : {M : Type 1} → statement M
 after-spec =
@@ -87,15 +74,11 @@ after-spec =
     enum-told-4
     detect-requires
     enum-known-end
-    absorb-requires-3
-    enum-known-end-2
-    unless-made-requires
-    unless-made-requires-2
+    met-requires
     enum-told-5
     returns
     returns-2
     returns-3
     returns-4
     returns-5
-    returns-6
-    returns-7)
+    returns-6)

@@ -28,26 +28,20 @@ enum-told-4 c = search needs
 add-caught-requires : tie.Need-add-caught-requires
 add-caught-requires c κs = search needs
 
-enum-told-5 : tie.Need-enum-told-5
-enum-told-5 c = search needs
-
-add-surface-requires : tie.Need-add-surface-requires
-add-surface-requires c κs = search needs
-
 enum-known-end : tie.Need-enum-known-end
 enum-known-end c = search needs
 
-opposite-requires : tie.Need-opposite-requires
-opposite-requires c κs = search needs
+weak-requires : tie.Need-weak-requires
+weak-requires c κs = search needs
 
 faint-requires : tie.Need-faint-requires
 faint-requires c κs = search needs
 
-add-surface-requires-2 : tie.Need-add-surface-requires-2
-add-surface-requires-2 c κs = search needs
+add-surface-requires : tie.Need-add-surface-requires
+add-surface-requires c κs = search needs
 
-enum-told-6 : tie.Need-enum-told-6
-enum-told-6 c = search needs
+enum-told-5 : tie.Need-enum-told-5
+enum-told-5 c = search needs
 
 returns : tie.Need-returns
 unfolding talliesAfterOf
@@ -67,21 +61,13 @@ returns-4 c = simp (c .before .enum-told4 .given .1, ← c .add-caught .ensures)
 
 returns-5 : tie.Need-returns-5
 unfolding talliesAfterOf
-returns-5 c = simp (c .before .enum-told5 .given .1, ← c .add-surface .ensures)
+returns-5 c =
+    simp
+    (c .before .before .before .before .end .given .1, ← c .before .before .weak .ensures, ← c .before .faint .ensures, ← c .add-surface .ensures)
 
 returns-6 : tie.Need-returns-6
 unfolding talliesAfterOf
-returns-6 c =
-    simp (
-      c .before .before .before .before .end .given .1,
-      ← c .before .before .opposite .ensures,
-      ← c .before .faint .ensures,
-      ← c .add-surface2 .ensures,
-    )
-
-returns-7 : tie.Need-returns-7
-unfolding talliesAfterOf
-returns-7 c = simp (c .enum-told6 .given .1)
+returns-6 c = simp (c .enum-told5 .given .1)
 
 pub after-spec : {M : Type 1} → statement M
 after-spec =
@@ -95,17 +81,14 @@ after-spec =
     add-gone-requires
     enum-told-4
     add-caught-requires
-    enum-told-5
-    add-surface-requires
     enum-known-end
-    opposite-requires
+    weak-requires
     faint-requires
-    add-surface-requires-2
-    enum-told-6
+    add-surface-requires
+    enum-told-5
     returns
     returns-2
     returns-3
     returns-4
     returns-5
-    returns-6
-    returns-7)
+    returns-6)

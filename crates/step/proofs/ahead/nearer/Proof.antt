@@ -1,7 +1,7 @@
--- `step::meeting::nearer` meets its contract. Assumes nothing.
+-- `step::ahead::nearer` meets its contract. Assumes nothing.
 use Rattle.step.specs.Steps.{nearerOf}
-use Rattle.step.proofs.meeting.nearer.Statement.{statement}
-use Rattle.step.proofs.meeting.nearer.Tie as tie
+use Rattle.step.proofs.ahead.nearer.Statement.{statement}
+use Rattle.step.proofs.ahead.nearer.Tie as tie
 
 returns : tie.Need-returns
 unfolding nearerOf

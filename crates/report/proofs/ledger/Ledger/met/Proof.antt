@@ -1,0 +1,40 @@
+-- `report::ledger::Ledger::met` meets its contract. Assumes nothing.
+use Rattle.report.specs.Report.{ledgerMetOf}
+use borrow.Author.Needs.{needs}
+use Rattle.report.proofs.ledger.Ledger.met.Statement.{statement}
+use Rattle.report.proofs.ledger.Ledger.met.Tie as tie
+
+enum-known-meeting : tie.Need-enum-known-meeting
+enum-known-meeting c = search needs
+
+absorb-requires : tie.Need-absorb-requires
+absorb-requires c κs = search needs
+
+enum-known-meeting-2 : tie.Need-enum-known-meeting-2
+enum-known-meeting-2 c = search needs
+
+unless-made-requires : tie.Need-unless-made-requires
+unless-made-requires c κs = search needs
+
+unless-made-requires-2 : tie.Need-unless-made-requires-2
+unless-made-requires-2 c κs = search needs
+
+returns : tie.Need-returns
+unfolding ledgerMetOf
+returns c = simp (c .before .before .meeting .given .1, ← c .absorb .ensures)
+
+returns-2 : tie.Need-returns-2
+unfolding ledgerMetOf
+returns-2 c = simp (c .before .before .before .meeting2 .given .1, ← c .before .unless-made .ensures, ← c .unless-made2 .ensures)
+
+pub met-spec : {M : Type 1} → statement M
+met-spec =
+    tie.close
+    (tie.spec
+    enum-known-meeting
+    absorb-requires
+    enum-known-meeting-2
+    unless-made-requires
+    unless-made-requires-2
+    returns
+    returns-2)

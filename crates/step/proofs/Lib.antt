@@ -1,0 +1,2 @@
+-- What holds of a step.
+pub mod Ways
