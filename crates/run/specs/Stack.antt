@@ -11,8 +11,6 @@ use Rattle.step.specs.Rays.{Step}
 use Rattle.given_rays.specs.Given.{noRayOf}
 use Rattle.run.specs.declared.stack.Stack.{Stack}
 use Rattle.run.specs.declared.stack.Taken.{Taken}
-use Rattle.run.specs.declared.stack.Coming.{Coming}
-use Rattle.run.specs.declared.stack.Coming.the-variants.{Both, Reflected, Transmitted, Nothing}
 
 abbrev pub maxStack : ℕ
 maxStack = 17
@@ -61,27 +59,16 @@ stackAfter s e =
     cond (ltb (popped s .len) pairRoom)
     (pushedIf (e .second) (pushedIf (e .«first») (popped s) (e .reflected)) (e .transmitted)) (popped s)
 
--- ---- the same as the code does it
+-- ---- what the code's functions are held to
+
+abbrev pub poppedOf : Stack → Stack
+poppedOf = popped
+
+abbrev pub stackAfterOf : Stack → Step → Stack
+stackAfterOf = stackAfter
 
 unfoldable pub topAtOf : ℕ → ℕ
 topAtOf len = cond (ltb 0 len && leb len maxStack) (len - 1) 0
 
 unfoldable pub takeOf : (ℕ → ActiveRay) → ActiveRay → ℕ → ℕ → Taken
 takeOf given top len left = cond (ltb 0 len && leb len maxStack) (record { ray = top; left = left }) (loadOf given left)
-
-unfoldable pub slotOf : ℕ → ℕ
-slotOf at = cond (ltb at pairRoom) at 0
-
-unfoldable pub raysComingOf : Bool → Bool → ℕ → Coming
-raysComingOf made also at =
-    cond (ltb at pairRoom) (cond made (cond also Both Reflected) (cond also Transmitted Nothing)) Nothing
-
--- the places with the rays that come, from place i on
-abbrev pub storedRays : Coming → List ActiveRay → ℕ → ActiveRay → ActiveRay → List ActiveRay
-storedRays Both l i r t = set (set l i r) (i + 1) t
-storedRays Reflected l i r t = set l i r
-storedRays Transmitted l i r t = set l i t
-storedRays Nothing l i r t = l
-
-unfoldable pub heightOf : Bool → Bool → ℕ → ℕ
-heightOf made also at = cond (ltb at pairRoom) (cond made (cond also (at + 1 + 1) (at + 1)) (cond also (at + 1) at)) at

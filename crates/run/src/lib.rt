@@ -8,7 +8,6 @@ use error::Check;
 use faces::Faces;
 use report::NonSeqTraceReport;
 pub use settling::Catch;
-use stack::Coming;
 pub use stack::Stack;
 pub use stack::Taken;
 use step::NonSeqTraceConfig;
@@ -71,9 +70,6 @@ pub fn advance(
         let e = step::take_step(config, solid_values, solid_tags, count, faces, t.ray);
         let after = report.after(t.ray.ray.energy, e);
         left = t.left;
-        let at = stack::under(stack.len);
-        let slot = stack::slot(at);
-        stack.len = stack::height(e.first, e.second, at);
         let end = e.end;
         match settling::hit_in(end) {
             Catch::Hit(h) => {
@@ -83,20 +79,15 @@ pub fn advance(
                 let c = r.check;
                 report = settling::settled(c, report, after);
                 check = settling::placed(c, left);
+                stack = stack.popped();
             }
             Catch::Nothing => {
                 report = after;
                 check = settling::refusal_in(end, left);
-                let reflected = e.reflected;
-                let transmitted = e.transmitted;
-                match stack::rays_coming(e.first, e.second, at) {
-                    Coming::Both => {
-                        stack.rays[slot] = reflected;
-                        stack.rays[slot + 1] = transmitted;
-                    }
-                    Coming::Reflected => stack.rays[slot] = reflected,
-                    Coming::Transmitted => stack.rays[slot] = transmitted,
-                    Coming::Nothing => {}
+                if e.first | e.second {
+                    stack = stack.after(e);
+                } else {
+                    stack = stack.popped();
                 }
             }
         }

@@ -1,9 +1,11 @@
-// The work stack: 17 rays by value, one place changed with each step, the newest ray last.
+// The work stack, the newest ray last: 17 rays, taken by value and handed back with each step.
 use step::ActiveRay;
+use step::Step;
 ghost use mathlib.Core.Path.{_≡_};
 ghost use Prim.Native.Nat.{_-_, _<_};
+ghost use Rattle.step.specs.Rays.{asStep};
 ghost use Rattle.given_rays.specs.Given.{givenAtOf};
-ghost use Rattle.run.specs.Stack.{emptyStackOf, loadOf, topAtOf, takeOf, slotOf, raysComingOf, heightOf, maxStack, pairRoom};
+ghost use Rattle.run.specs.Stack.{emptyStackOf, loadOf, topAtOf, takeOf, poppedOf, stackAfterOf, maxStack};
 
 // The most rays on the stack. A place below PAIR_ROOM has room for two more.
 const MAX_STACK: usize = 17;
@@ -19,14 +21,6 @@ pub struct Stack {
 pub struct Taken {
     pub ray: ActiveRay,
     pub left: u32,
-}
-
-// The rays that are pushed.
-pub enum Coming {
-    Both,
-    Reflected,
-    Transmitted,
-    Nothing,
 }
 
 // One given ray fewer; none stays none.
@@ -83,61 +77,13 @@ pub(crate) fn take(
 }
 
 // One ray fewer; none stays none.
-pub(crate) fn under(len: usize) -> usize
+fn under(len: usize) -> usize
     ensures { λ r. ⌜ r ≡ len - 1 ⌝ }
 {
     if 0 < len {
         return len - 1;
     }
     0
-}
-
-// The first place that a step may change.
-pub(crate) fn slot(at: usize) -> usize
-    ensures { λ r. ⌜ (r ≡ slotOf at) × (r < pairRoom) ⌝ }
-{
-    if at < PAIR_ROOM {
-        return at;
-    }
-    0
-}
-
-// Which rays come of a step; a stack without room for two takes none.
-pub(crate) fn rays_coming(first: bool, second: bool, at: usize) -> Coming
-    ensures { λ r. ⌜ r ≡ raysComingOf first second at ⌝ }
-{
-    if at < PAIR_ROOM {
-        if first {
-            if second {
-                return Coming::Both;
-            }
-            return Coming::Reflected;
-        }
-        if second {
-            return Coming::Transmitted;
-        }
-        return Coming::Nothing;
-    }
-    Coming::Nothing
-}
-
-// How many rays there are then.
-pub(crate) fn height(first: bool, second: bool, at: usize) -> usize
-    ensures { λ r. ⌜ r ≡ heightOf first second at ⌝ }
-{
-    if at < PAIR_ROOM {
-        if first {
-            if second {
-                return at + 1 + 1;
-            }
-            return at + 1;
-        }
-        if second {
-            return at + 1;
-        }
-        return at;
-    }
-    at
 }
 
 impl Stack {
@@ -147,5 +93,38 @@ impl Stack {
         let blank = given_rays::no_ray();
         let rays = [blank; MAX_STACK];
         Stack { rays, len: 0 }
+    }
+
+    // After a step of which no ray comes: the newest ray is gone.
+    pub(crate) fn popped(self) -> Stack
+        ensures { λ r. ⌜ r ≡ poppedOf self ⌝ }
+    {
+        let rays = self.rays;
+        Stack {
+            rays,
+            len: under(self.len),
+        }
+    }
+
+    // The newest ray is gone, the reflected one is pushed, then the transmitted one; a stack without room
+    // for both takes neither.
+    pub(crate) fn after(self, e: Step) -> Stack
+        ensures { λ r. ⌜ r ≡ stackAfterOf self (asStep e) ⌝ }
+    {
+        let mut rays = self.rays;
+        let mut at = under(self.len);
+        let reflected = e.reflected;
+        let transmitted = e.transmitted;
+        if at < PAIR_ROOM {
+            if e.first {
+                rays[at] = reflected;
+                at += 1;
+            }
+            if e.second {
+                rays[at] = transmitted;
+                at += 1;
+            }
+        }
+        Stack { rays, len: at }
     }
 }
