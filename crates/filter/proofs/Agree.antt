@@ -58,19 +58,19 @@ zero-part z (suc b) n (x ∷ l) k e = zero-part z b n l (omega arith) (λ p q. e
 
 -- ---- only a hit's place is read of the detector
 
-each-same : (e e′ : Detector2D) → ((x y : Float) → pixelAtOf e′ x y ≡ pixelAtOf e x y) → (b : List DetectorHit) (m : Map) → plusEach e′ m b ≡ plusEach e m b
+pub each-same : (e e′ : Detector2D) → ((x y : Float) → pixelAtOf e′ x y ≡ pixelAtOf e x y) → (b : List DetectorHit) (m : Map) → plusEach e′ m b ≡ plusEach e m b
 unfolding plusEach addHitOf
 each-same e e′ f [] m = refl
 each-same e e′ f (h ∷ b) m = rw (f (h .«local_x») (h .«local_y»)) (each-same e e′ f b _)
 
-module _ (s : Memory) (eight : length (s .detectors .list) ≡ 8) (empty : Empty s) (m : Memory) (booked : Booked s eight empty m) (d : DetectorNo) (there : d .0 < 8)
+module _ (s : Memory) (eight : length (s .detectors .list) ≡ 8) (empty : Empty s) (m : Memory) (booked : Booked s eight empty m) (d : DetectorNo) (there : d .0 < s .detectors .count) (few : d .0 < 8)
     (within : firstPixelOf (s .detectors .list) (d .0) + pixelsOf (detectorAt (s .detectors .list) (d .0)) ≤ length (s .flux)) where
   abbrev own : Detector2D
   own = detectorAt (m .detectors .list) (d .0)
 
   start : mapInView (viewIn s (d .0)) ≡ zeros (pixelsOf (detectorAt (s .detectors .list) (d .0)))
   unfolding viewIn partIn
-  start = rw (empty .totals (d .0) there, empty .counts (d .0) there, zero-part #0 (firstPixelOf (s .detectors .list) (d .0)) (pixelsOf (detectorAt (s .detectors .list) (d .0))) (s .flux) within (empty .flux))
+  start = rw (empty .totals (d .0) there few, empty .counts (d .0) there few, zero-part #0 (firstPixelOf (s .detectors .list) (d .0)) (pixelsOf (detectorAt (s .detectors .list) (d .0))) (s .flux) within (empty .flux))
 
   -- the stored map, total and count are those that All would make anew
   pub all-agrees : mapInView (viewIn m (d .0)) ≡ refillOf (passesOf All d) own (pixelsOf own) (listed m)

@@ -21,7 +21,7 @@ use Rattle.memory.specs.Plain.{Empty, added, viewIn, plusAll, bookHit, s
 use Rattle.detectors.proofs.Passed.{Sound, asked-there, part-in}
 use Rattle.memory.proofs.Lengths.{long}
 use Rattle.memory.proofs.Keeps.{kept, added-keeps, same-pixels, same-pixel}
-use Rattle.memory.proofs.Plain.{Kept, record-keeps, record-lists}
+use Rattle.memory.proofs.Plain.{Kept, asked-below, record-keeps, record-lists}
 use Rattle.memory.proofs.Views.{Fits, AllFit, gridded-kept, views}
 
 -- ---- after the checks a hit is never refused by 9
@@ -90,9 +90,9 @@ module _ (s : Memory) (eight : length (s .detectors .list) ≡ 8) (empty : Empty
       none = ap (λ n. hitsFrom (s .hitValues) (s .hitTags) n 0) (empty .used)
 
   -- one hit of a detector that is there into any such memory, as in a run
-  pub record-books : (m : Memory) (h : DetectorHit) → Fits (s .detectors .list) h → Booked m → Booked (memoryLeft (recordOf m h))
-  record-books m h g b =
-      record { kept = record-keeps s eight empty m h (b .kept); fit = subst (λ b. AllFit (s .detectors .list) b) (sym (record-lists s eight empty m h (b .kept))) (book-fits s (listed m) h (b .fit) g) }
+  pub record-books : (m : Memory) (h : DetectorHit) → h .detector .0 < s .detectors .count → Fits (s .detectors .list) h → Booked m → Booked (memoryLeft (recordOf m h))
+  record-books m h n g b =
+      record { kept = record-keeps s eight empty m h n (b .kept); fit = subst (λ b. AllFit (s .detectors .list) b) (sym (record-lists s eight empty m h n (b .kept))) (book-fits s (listed m) h (b .fit) g) }
 
   -- a hit whose detector passed the checks
   asked-fits : (m : Memory) (h : DetectorHit) (p : Placed) → Booked m → findOf (m .detectors) (h .detector) ≡ passed p → Fits (s .detectors .list) h
@@ -110,7 +110,7 @@ module _ (s : Memory) (eight : length (s .detectors .list) ≡ 8) (empty : Empty
   recording-books m h b = go (findOf (m .detectors) (h .detector)) (isMemory m) refl
     where
       go : (c : Checked Placed) (x : Bool) → findOf (m .detectors) (h .detector) ≡ c → Booked (memoryLeft (unless c m (cond x (recordOf m h) (refused 9 0 m))))
-      go (passed p) true e = record-books m h (asked-fits m h p b e) b
+      go (passed p) true e = record-books m h (asked-below s eight empty m h p (b .kept) e) (asked-fits m h p b e) b
       go (passed p) false e = b
       go (refusedAt n place) x e = b
 

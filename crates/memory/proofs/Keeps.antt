@@ -90,6 +90,10 @@ added-keeps g e (k ∷ b) s = added-keeps g e b (writtenAt s _ k) ∙ e s _ k
 pub added-cell : (b : List DetectorHit) (s : Memory) (h : DetectorHit) → cellIn (added s b .detectors .list) h ≡ cellIn (s .detectors .list) h
 added-cell b s h = added-keeps (λ m. cellIn (m .detectors .list) h) (λ s p k. written-cell s p k h) b s
 
+pub added-count : (b : List DetectorHit) (s : Memory) → added s b .detectors .count ≡ s .detectors .count
+unfolding writtenAt
+added-count = added-keeps (λ m. m .detectors .count) (λ s p k. refl)
+
 added-flux : (b : List DetectorHit) (s : Memory) → length (added s b .flux) ≡ length (s .flux)
 added-flux = added-keeps (λ m. length (m .flux)) written-flux
 

@@ -20,7 +20,8 @@ use Rattle.detectors.specs.Detectors.{noDetector, detectorAt, findOf}
 use Rattle.memory.specs.Memory.{Memory, Outcome, done, refused, raised, writtenAt, judged, putOf, recordOf, cellIn, areHitsOf, capacity, hasPixel, hitDetector, listed, hitsFrom, memoryLeft, unless, isMemory, recordHitClassifiedOf}
 use Rattle.memory.specs.Plain.{sharing, numberIn, bookHit, added, Empty}
 use Rattle.memory.proofs.Records.{both, told-lengths}
-use Rattle.memory.proofs.Keeps.{written-cell, written-hits, written-list, added-cell, added-holds, added-capacity}
+use Rattle.detectors.proofs.Passed.{asked-there}
+use Rattle.memory.proofs.Keeps.{written-cell, written-hits, written-list, added-cell, added-holds, added-capacity, added-count}
 use Rattle.memory.proofs.Listed.{listed-added}
 use Rattle.detector.specs.Pixels.{maxCount}
 
@@ -101,30 +102,30 @@ module _ (s : Memory) (eight : length (s .detectors .list) ≡ 8) (empty : Empty
   pub used-by : (b : List DetectorHit) → added s b .used ≡ length b
   used-by b = added-used b s ∙ (let e = empty .used in omega arith)
 
-  put-held : (b : List DetectorHit) (h : DetectorHit) → hasPixel s h ≡ true → putOf (added s b) (cellIn (added s b .detectors .list) h) h ≡ mapOutcome (added s)
+  put-held : (b : List DetectorHit) (h : DetectorHit) → h .detector .0 < s .detectors .count → hasPixel s h ≡ true → putOf (added s b) (cellIn (added s b .detectors .list) h) h ≡ mapOutcome (added s)
       (judged (leb (capacity s) (length b)) (eqb (sharing (cellIn (s .detectors .list)) (cellIn (s .detectors .list) h) b) maxCount || eqb (sharing numberIn (h .detector .0) b) maxCount) b (b ++ h ∷ []))
   unfolding putOf
-  put-held b h k =
+  put-held b h n k =
       let t = held s h k in
       let c = cellIn (s .detectors .list) h in
       let full : leb (capacity (added s b)) (added s b .used) ≡ leb (capacity s) (length b) = rw (added-capacity b s, used-by b) in
       let pixel : getD (added s b .hits) (cellIn (added s b .detectors .list) h) 0 ≡ sharing (cellIn (s .detectors .list)) c b =
       ap (λ c. getD (added s b .hits) c 0) (added-cell b s h) ∙ pixel-counts b s c (t .2) ∙ (let e = empty .hits c (t .2) in omega arith) in
       let count : hitDetector (added s b) h .«total_rays_hit» ≡ sharing numberIn (h .detector .0) b =
-      detector-counts b s (h .detector .0) (let z = t .0 in omega arith) ∙ (let e = empty .counts (h .detector .0) (t .0) in omega arith) in
+      detector-counts b s (h .detector .0) (let z = t .0 in omega arith) ∙ (let e = empty .counts (h .detector .0) n (t .0) in omega arith) in
       judged-same _ _ _ _ _ _ _ full (ap (λ n. eqb n maxCount || eqb (hitDetector (added s b) h .«total_rays_hit») maxCount) pixel ∙ ap (λ n. eqb (sharing (cellIn (s .detectors .list)) c b) maxCount || eqb n maxCount) count) (sym (added-snoc b s h))
       ∙ map-judged (added s) _ _ b (b ++ h ∷ [])
 
-  -- recording in the empty memory with the book's hits added is adding to the book
-  pub same-put : (b : List DetectorHit) (h : DetectorHit) → recordOf (added s b) h ≡ mapOutcome (added s) (bookHit s b h)
+  -- recording a hit of a detector that is there in the empty memory with the book's hits added is adding to the book
+  pub same-put : (b : List DetectorHit) (h : DetectorHit) → h .detector .0 < s .detectors .count → recordOf (added s b) h ≡ mapOutcome (added s) (bookHit s b h)
   unfolding recordOf bookHit
-  same-put b h = go (hasPixel s h) refl
+  same-put b h n = go (hasPixel s h) refl
     where
       go : (x : Bool) → hasPixel s h ≡ x → cond (hasPixel (added s b) h) (putOf (added s b) (cellIn (added s b .detectors .list) h) h) (refused 9 0 (added s b))
           ≡ mapOutcome (added s) (cond (hasPixel s h)
           (judged (leb (capacity s) (length b)) (eqb (sharing (cellIn (s .detectors .list)) (cellIn (s .detectors .list) h) b) maxCount || eqb (sharing numberIn (h .detector .0) b) maxCount) b (b ++ h ∷ []))
           (refused 9 0 b))
-      go true e = rw (added-holds b s h, e) (put-held b h e)
+      go true e = rw (added-holds b s h, e) (put-held b h n e)
       go false e = rw (added-holds b s h, e)
 
   -- the list of the memory is the book, as long as it holds no more than the slices
@@ -154,28 +155,35 @@ module _ (s : Memory) (eight : length (s .detectors .list) ≡ 8) (empty : Empty
   map-left (done b) = refl
   map-left (refused n p b) = refl
 
-  left-is : (b : List DetectorHit) (h : DetectorHit) → memoryLeft (recordOf (added s b) h) ≡ added s (memoryLeft (bookHit s b h))
-  left-is b h = ap memoryLeft (same-put b h) ∙ map-left (bookHit s b h)
+  left-is : (b : List DetectorHit) (h : DetectorHit) → h .detector .0 < s .detectors .count → memoryLeft (recordOf (added s b) h) ≡ added s (memoryLeft (bookHit s b h))
+  left-is b h n = ap memoryLeft (same-put b h n) ∙ map-left (bookHit s b h)
 
-  added-keeps : (b : List DetectorHit) (h : DetectorHit) → listed (added s b) ≡ b → Kept (memoryLeft (recordOf (added s b) h))
-  added-keeps b h e = rw (left-is b h) (ap (added s) (book-listed b h e))
+  added-keeps : (b : List DetectorHit) (h : DetectorHit) → h .detector .0 < s .detectors .count → listed (added s b) ≡ b → Kept (memoryLeft (recordOf (added s b) h))
+  added-keeps b h n e = rw (left-is b h n) (ap (added s) (book-listed b h e))
 
-  -- one hit into any memory
-  pub record-keeps : (m : Memory) (h : DetectorHit) → Kept m → Kept (memoryLeft (recordOf m h))
-  record-keeps m h e = rw e at (added-keeps (listed m) h (ap listed e))
+  -- one hit of a detector that is there into any memory
+  pub record-keeps : (m : Memory) (h : DetectorHit) → h .detector .0 < s .detectors .count → Kept m → Kept (memoryLeft (recordOf m h))
+  record-keeps m h n e = rw e at (added-keeps (listed m) h n (ap listed e))
 
-  pub record-lists : (m : Memory) (h : DetectorHit) → Kept m → listed (memoryLeft (recordOf m h)) ≡ memoryLeft (bookHit s (listed m) h)
-  record-lists m h e = ap (λ x. listed (memoryLeft (recordOf x h))) (sym e) ∙ ap listed (left-is (listed m) h) ∙ book-listed (listed m) h (ap listed e)
+  pub record-lists : (m : Memory) (h : DetectorHit) → h .detector .0 < s .detectors .count → Kept m → listed (memoryLeft (recordOf m h)) ≡ memoryLeft (bookHit s (listed m) h)
+  record-lists m h n e = ap (λ x. listed (memoryLeft (recordOf x h))) (sym e) ∙ ap listed (left-is (listed m) h n) ∙ book-listed (listed m) h (ap listed e)
+
+  same-count : (m : Memory) → Kept m → m .detectors .count ≡ s .detectors .count
+  same-count m e = ap (λ x. x .detectors .count) (sym e) ∙ added-count (listed m) s
+
+  -- a hit whose detector passed the checks
+  pub asked-below : (m : Memory) (h : DetectorHit) (p : Placed) → Kept m → findOf (m .detectors) (h .detector) ≡ passed p → h .detector .0 < s .detectors .count
+  asked-below m h p e f = let t = asked-there (m .detectors) (h .detector) p f in omega (arith, t .1, same-count m e)
 
   -- the call that is open to hosts, refused or not
   pub recording-keeps : (m : Memory) (h : DetectorHit) → Kept m → Kept (memoryLeft (recordHitClassifiedOf m h))
   unfolding recordHitClassifiedOf
-  recording-keeps m h e = go (findOf (m .detectors) (h .detector)) (isMemory m)
+  recording-keeps m h e = go (findOf (m .detectors) (h .detector)) (isMemory m) refl
     where
-      go : (c : Checked Placed) (x : Bool) → Kept (memoryLeft (unless c m (cond x (recordOf m h) (refused 9 0 m))))
-      go (passed p) true = record-keeps m h e
-      go (passed p) false = e
-      go (refusedAt n place) x = e
+      go : (c : Checked Placed) (x : Bool) → findOf (m .detectors) (h .detector) ≡ c → Kept (memoryLeft (unless c m (cond x (recordOf m h) (refused 9 0 m))))
+      go (passed p) true f = record-keeps m h (asked-below m h p e f) e
+      go (passed p) false f = e
+      go (refusedAt n place) x f = e
 
   -- ---- stored counts are numbers of listed hits
 
@@ -183,6 +191,6 @@ module _ (s : Memory) (eight : length (s .detectors .list) ≡ 8) (empty : Empty
   kept-pixel-counts m c e k =
       ap (λ x. getD (x .hits) c 0) (sym e) ∙ pixel-counts (listed m) s c k ∙ (let z = empty .hits c k in omega arith)
 
-  pub kept-detector-counts : (m : Memory) (d : ℕ) → Kept m → d < 8 → detectorAt (m .detectors .list) d .«total_rays_hit» ≡ sharing numberIn d (listed m)
-  kept-detector-counts m d e k =
-      ap (λ x. detectorAt (x .detectors .list) d .«total_rays_hit») (sym e) ∙ detector-counts (listed m) s d (omega (arith, eight)) ∙ (let z = empty .counts d k in omega arith)
+  pub kept-detector-counts : (m : Memory) (d : ℕ) → Kept m → d < s .detectors .count → d < 8 → detectorAt (m .detectors .list) d .«total_rays_hit» ≡ sharing numberIn d (listed m)
+  kept-detector-counts m d e n k =
+      ap (λ x. detectorAt (x .detectors .list) d .«total_rays_hit») (sym e) ∙ detector-counts (listed m) s d (omega (arith, eight)) ∙ (let z = empty .counts d n k in omega arith)

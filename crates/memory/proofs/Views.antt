@@ -28,7 +28,7 @@ module _ (A : Type 0) (l : List A) (base n : ℕ) where
   part-set : (p : ℕ) (v : A) → p < n → take n (drop base (set l (base + p) v)) ≡ set (take n (drop base l)) p v
   part-set p v k = ap (take n) (drop-set-add base l p v) ∙ take-set-lt n (drop base l) p v k
 
-  part-get : (p : ℕ) (z : A) → p < n → getD (take n (drop base l)) p z ≡ getD l (base + p) z
+  pub part-get : (p : ℕ) (z : A) → p < n → getD (take n (drop base l)) p z ≡ getD l (base + p) z
   part-get p z k = getD-take n (drop base l) p z k ∙ getD-drop base l p z
 
   part-before : (c : ℕ) (v : A) → c < base → take n (drop base (set l c v)) ≡ take n (drop base l)
@@ -178,7 +178,7 @@ all-written [] s p k f = tt
 all-written (h ∷ b) s p k f = (fits-written s p k h (f .0), all-written b s p k (f .1))
 
 -- a hit's place is all that is read of the detector
-plus-same : (d : ℕ) (e e′ : Detector2D) → ((x y : Float) → pixelAtOf e′ x y ≡ pixelAtOf e x y) → (b : List DetectorHit) (v : View) → plusAll d e′ v b ≡ plusAll d e v b
+pub plus-same : (d : ℕ) (e e′ : Detector2D) → ((x y : Float) → pixelAtOf e′ x y ≡ pixelAtOf e x y) → (b : List DetectorHit) (v : View) → plusAll d e′ v b ≡ plusAll d e v b
 unfolding plusAll plusHit
 plus-same d e e′ f [] v = refl
 plus-same d e e′ f (h ∷ b) v = rw (f (h .«local_x») (h .«local_y»)) (plus-same d e e′ f b _)

@@ -37,13 +37,16 @@ unfoldable pub added : Memory → List DetectorHit → Memory
 added s [] = s
 added s (h ∷ b) = added (writtenAt s (cellIn (s .detectors .list) h) h) b
 
--- the empty memory: zero bits, no hits used
+-- the empty memory: zero bits, no hits used; array places beyond the detectors may hold anything
 pub record Empty (s : Memory) : Type 0 where
   pub used : s .used ≡ 0
   pub flux : (p : ℕ) → p < length (s .flux) → getD (s .flux) p nan ≡ #0
   pub hits : (p : ℕ) → p < length (s .hits) → getD (s .hits) p 0 ≡ 0
-  pub totals : (d : ℕ) → d < maxDetectors → detectorAt (s .detectors .list) d .«total_flux_watts» ≡ #0
-  pub counts : (d : ℕ) → d < maxDetectors → detectorAt (s .detectors .list) d .«total_rays_hit» ≡ 0
+  pub totals :
+      (d : ℕ) → d < s .detectors .count → d < maxDetectors
+      → detectorAt (s .detectors .list) d .«total_flux_watts» ≡ #0
+  pub counts :
+      (d : ℕ) → d < s .detectors .count → d < maxDetectors → detectorAt (s .detectors .list) d .«total_rays_hit» ≡ 0
 
 -- ---- one detector's own maps, total and count
 

@@ -1,151 +1,160 @@
--- One call on the memory and in the plain book: the empty memory with the book's hits added goes to the empty memory with the book's hits added. Assumes nothing.
-use Prim.Native.Nat.{ℕ, _≤_, _<_}
-use mathlib.Core.Path.{_≡_, refl, ap, sym, _∙_}
-use mathlib.Core.Bool.{Bool, true, false, cond}
-use mathlib.Core.List.{List}
+-- One wish granted in the memory and in the plain book: the empty memory with the book's hits added goes to the empty memory with the book's hits added. Assumes nothing.
+use Prim.Native.Nat.{ℕ, _<_}
+use mathlib.Core.Path.{_≡_, refl, ap, sym, subst, _∙_}
+use mathlib.Core.Bool.{true}
+use mathlib.Core.List.{List, []}
 use native.Mathlib.Omega.{arith}
 use lib.ListN.{length}
-use borrow.Author.Tests.{le-leb}
-use Rattle.error.specs.Refusals.{Checked, passed, refusedAt, after}
-use Rattle.detector.specs.declared.DetectorNo.{DetectorNo}
-use Rattle.detectors.specs.declared.Detectors.{Detectors}
-use Rattle.detectors.specs.Detectors.{allPixelsOf, checkDetectorsOf, checkAsked, placedOf, findOf}
-use Rattle.detectors.proofs.Passed.{Sound, sound, asked-sound}
+use Rattle.error.specs.Refusals.{Checked, passed, refusedAt}
 use Rattle.detector.specs.declared.DetectorHit.{DetectorHit}
-use Rattle.memory.specs.Memory.{Memory, Outcome, refused, unless, recordOf, hasPixel, areLengthsOf, isMemory, recordHitClassifiedOf}
+use Rattle.detectors.specs.declared.Detectors.{Detectors}
+use Rattle.detector.proofs.Grid.{never}
+use Rattle.memory.specs.Memory.{Memory, Outcome, done, refused, memoryLeft, unless, listed, hitsFrom, recordOf, hasPixel}
 use Rattle.memory.specs.Plain.{Empty, added, bookHit}
-use Rattle.memory.proofs.Plain.{mapOutcome, same-put, used-by}
-use Rattle.memory.proofs.Booked.{holds-checked}
-use Rattle.faces.specs.declared.Faces.{Faces}
-use Rattle.faces.specs.Faces.{newFacesOf, faceCountOf}
-use Rattle.step.specs.Rays.{Scene, listedScene}
-use Rattle.run.specs.Run.{Run, drive}
-use Rattle.trace.specs.Trace.{Batch, raysIn, allSteps, startOf, runOn, checkLengthsOf, checkMemoryOf, checkTraceOf, checkBatch, traceAfter, traceRaysOf}
-use Rattle.theorems_calls.specs.Calls.{withUsed, bare, plainHit, bookTraced, bookRecorded}
-use Rattle.theorems_calls.proofs.Drives.{Brought, map-drive, same-drive}
-use Rattle.theorems_calls.proofs.Sights.{brought-there}
-use Rattle.theorems_calls.proofs.Reached.{added-checks, added-faces, added-all, added-count, added-flux, added-hits, added-values, added-tags}
-use Rattle.theorems_calls.proofs.Checks.{Passes, passes, said, same-lengths}
-use Rattle.theorems_calls.proofs.Bare.{bare-detectors, plain-bare, check-bare, memory-bare}
+use Rattle.memory.proofs.Plain.{mapOutcome, same-put, record-lists}
+use Rattle.memory.proofs.Views.{Fits}
+use Rattle.memory.proofs.Booked.{Booked, empty-booked, record-books, holds-checked}
+use Rattle.theorems_calls.specs.Book.{bareDetectors, bare, withUsed, Wish, granted, checkHit, plainHit, bookGranted}
+use Rattle.theorems_calls.proofs.Bare.{bare-hits, bare-used, bare-detectors, plain-bare}
+use Rattle.theorems_calls.proofs.Wishes.{Lawful, hit-there}
 
--- ---- what the checks read of the detectors
-
-same-all : (B : Batch) (ds es : Detectors) (nf nh nv nt u : ℕ) → checkDetectorsOf es ≡ checkDetectorsOf ds → allPixelsOf es ≡ allPixelsOf ds → checkTraceOf B es nf nh nv nt u ≡ checkTraceOf B ds nf nh nv nt u
-unfolding checkTraceOf checkMemoryOf
-same-all B ds es nf nh nv nt u e f = rw (e, same-lengths ds es nf nh nv nt u f)
-
-same-asked : (ds es : Detectors) (d : DetectorNo) → checkDetectorsOf es ≡ checkDetectorsOf ds → es .count ≡ ds .count → checkAsked es d ≡ checkAsked ds d
-unfolding checkAsked
-same-asked ds es d e f = rw (e, f)
-
-same-memory : (ds es : Detectors) (nf nh nv nt u : ℕ) → allPixelsOf es ≡ allPixelsOf ds → areLengthsOf es nf nh nv nt u ≡ areLengthsOf ds nf nh nv nt u
-unfolding areLengthsOf
-same-memory ds es nf nh nv nt u e = rw e
-
--- only whether a detector was found matters for what follows
-pub found-or : {M : Type 0} (ds : Detectors) (d : DetectorNo) (m : M) (o : Outcome M) → unless (findOf ds d) m o ≡ unless (checkAsked ds d) m o
-unfolding findOf
-found-or ds d m o = go (checkAsked ds d)
-  where
-    go : (c : Checked Unit) → unless (after c (passed (placedOf (ds .list) (d .0)))) m o ≡ unless c m o
-    go (passed u) = refl
-    go (refusedAt n place) = refl
-
-pub shown-all : (n : ℕ) → n ≤ 8 → faceCountOf n ≡ n
-unfolding faceCountOf
-shown-all n k = rw (le-leb n 8 k)
-
--- ---- s is the empty memory, b the book
-
-module _ (s : Memory) (eight : length (s .detectors .list) ≡ 8) (empty : Empty s) (b : List DetectorHit) where
-  abbrev m : Memory
-  m = added s b
-
-  check-added : (B : Batch) → checkBatch B m ≡ checkBatch B (withUsed s b)
-  unfolding checkBatch
-  check-added B =
-      rw (added-flux b s, added-hits b s, added-values b s, added-tags b s, used-by s eight empty b)
-      (same-all B (s .detectors) (m .detectors) (length (s .flux)) (length (s .hits)) (length (s .hitValues)) (length (s .hitTags)) (length b) (added-checks b s) (added-all b s))
-
-  memory-added : isMemory m ≡ isMemory (withUsed s b)
-  unfolding isMemory
-  memory-added =
-      rw (added-flux b s, added-hits b s, added-values b s, added-tags b s, used-by s eight empty b)
-      (same-memory (s .detectors) (m .detectors) (length (s .flux)) (length (s .hits)) (length (s .hitValues)) (length (s .hitTags)) (length b) (added-all b s))
-
-  -- ---- a hit on a detector that is there
-
-  pub holds : (h : DetectorHit) → Sound (s .detectors) → h .detector .0 < s .detectors .count → isMemory (withUsed s b) ≡ true → hasPixel s h ≡ true
-  unfolding hasPixel
-  holds h d k e = holds-checked (withUsed s b) h d k e
+pub left-map : {N M : Type 0} (φ : N → M) (o : Outcome N) → memoryLeft (mapOutcome φ o) ≡ φ (memoryLeft o)
+left-map φ (done n) = refl
+left-map φ (refused k place n) = refl
 
 -- what the book does with a hit that the memory holds
-pub plain-held : (s : Memory) (b : List DetectorHit) (h : DetectorHit) → hasPixel s h ≡ true → bookHit s b h ≡ plainHit s b h
+plain-held : (s : Memory) (b : List DetectorHit) (h : DetectorHit) → hasPixel s h ≡ true → bookHit s b h ≡ plainHit s b h
 unfolding bookHit plainHit
 plain-held s b h e = rw e
 
+held-used : (s : Memory) (n : ℕ) (h : DetectorHit) → hasPixel (withUsed s n) h ≡ true → hasPixel s h ≡ true
+unfolding hasPixel
+held-used s n h e = e
+
+-- ---- s is the empty memory; n hits are used when the checks are made
+
 module _ (s : Memory) (eight : length (s .detectors .list) ≡ 8) (empty : Empty s) where
-  pub plain-put : (b : List DetectorHit) (h : DetectorHit) → hasPixel s h ≡ true → recordOf (added s b) h ≡ mapOutcome (added s) (plainHit s b h)
-  plain-put b h e = same-put s eight empty b h ∙ ap (mapOutcome (added s)) (plain-held s b h e)
+  module _ (n : ℕ) (h : DetectorHit) (e : checkHit h (withUsed s n) ≡ passed tt) where
+    below : h .detector .0 < s .detectors .count
+    below = hit-there (withUsed s n) h e .1
 
-  -- ---- a tracing
+    plain-hit : (b : List DetectorHit) → bookHit s b h ≡ plainHit (bare s) b h
+    plain-hit b =
+        let t = hit-there (withUsed s n) h e in
+        plain-held s b h (held-used s n h (holds-checked (withUsed s n) h (t .0) (t .1) (t .2))) ∙ sym (plain-bare s b h)
 
-  abbrev sceneFor : Batch → Faces → Scene
-  sceneFor B fs = listedScene (B .solidValues) (B .solidTags) (B .solids) fs (B .config)
+    -- a hit that passed the checks goes into both alike
+    pub put-booked : (b : List DetectorHit) → recordOf (added s b) h ≡ mapOutcome (added s) (plainHit (bare s) b h)
+    put-booked b = same-put s eight empty b h below ∙ ap (mapOutcome (added s)) (plain-hit b)
 
-  module _ (B : Batch) (b : List DetectorHit) (p : Passes B (withUsed s b)) where
-    lengths-held : isMemory (withUsed s b) ≡ true
-    unfolding isMemory checkLengthsOf
-    lengths-held = said _ 9 0 (p .lengths)
+    fits : Fits (s .detectors .list) h
+    fits =
+        let t = hit-there (withUsed s n) h e in
+        record { named = omega (arith, t .0 .most, t .1, eight); grid = t .0 .each (h .detector .0) (t .1) }
 
-    pub brought-held : (h : DetectorHit) → Brought (sceneFor B (newFacesOf (s .detectors))) h → hasPixel s h ≡ true
-    unfolding newFacesOf
-    brought-held h r =
-        let d : Sound (s .detectors) = sound (s .detectors) (p .detectors) in
-        holds s eight empty b h d (omega (arith, brought-there _ h r, shown-all (s .detectors .count) (d .most))) lengths-held
+  -- ---- what holds of the book after every call: the list read back is it, and its hits are on detectors that are there
 
-    run-booked : runOn recordOf (added s b .detectors) B (added s b) .outcome ≡ mapOutcome (added s) (runOn (plainHit (bare s)) (bare s .detectors) B b .outcome)
-    unfolding runOn
-    run-booked =
-        let S : Scene = sceneFor B (newFacesOf (s .detectors)) in
-        let start = startOf (raysIn B) (B .rays) in
-        ap (λ fs. drive recordOf (sceneFor B fs) (raysIn B) allSteps (added s b) start .outcome) (added-faces b s)
-        ∙ ap (λ (r : Run Memory). r .outcome) (map-drive (added s) recordOf (bookHit s) S (raysIn B) (λ c h r. same-put s eight empty c h) allSteps b start)
-        ∙ ap (mapOutcome (added s)) (same-drive (bookHit s) (plainHit (bare s)) S (raysIn B) (λ c h r. plain-held s c h (brought-held h r) ∙ sym (plain-bare s eight empty c h)) allSteps b start)
-        ∙ ap (λ (ds : Detectors). mapOutcome (added s) (drive (plainHit (bare s)) (sceneFor B (newFacesOf ds)) (raysIn B) allSteps b start .outcome)) (sym (bare-detectors s eight empty))
+  pub record Sane (b : List DetectorHit) : Type 0 where
+    pub back : listed (added s b) ≡ b
+    pub booked : Booked s eight empty (added s b)
 
-  pub tracing-booked : (B : Batch) (b : List DetectorHit) → traceRaysOf B (added s b) .outcome ≡ mapOutcome (added s) (bookTraced (bare s) B b)
-  unfolding traceRaysOf bookTraced
-  tracing-booked B b =
-      ap (λ c. traceAfter c (added s b) (runOn recordOf (added s b .detectors) B (added s b)) .outcome) (check-added s eight empty b B)
-      ∙ go (checkBatch B (withUsed s b)) refl
-      ∙ ap (λ c. mapOutcome (added s) (traceAfter c b (runOn (plainHit (bare s)) (bare s .detectors) B b) .outcome)) (sym (check-bare s eight empty B b))
+  pub start-sane : Sane []
+  unfolding added hitsFrom
+  start-sane = record { back = ap (λ n. hitsFrom (s .hitValues) (s .hitTags) n 0) (empty .used); booked = empty-booked s eight empty }
+
+  module _ (n : ℕ) (h : DetectorHit) (e : checkHit h (withUsed s n) ≡ passed tt) where
+    left-put : (b : List DetectorHit) → memoryLeft (recordOf (added s b) h) ≡ added s (memoryLeft (bookHit s b h))
+    left-put b = ap memoryLeft (same-put s eight empty b h (below n h e)) ∙ left-map (added s) (bookHit s b h)
+
+    hit-sane : (b : List DetectorHit) → Sane b → Sane (memoryLeft (bookHit s b h))
+    hit-sane b x =
+        record {
+          back =
+              ap listed (sym (left-put b)) ∙ record-lists s eight empty (added s b) h (below n h e) (ap (added s) (x .back)) ∙ ap (λ c. memoryLeft (bookHit s c h)) (x .back);
+          booked = subst (Booked s eight empty) (left-put b) (record-books s eight empty (added s b) h (below n h e) (fits n h e) (x .booked));
+        }
+
+    plain-sane : (b : List DetectorHit) → Sane b → Sane (memoryLeft (plainHit (bare s) b h))
+    plain-sane b x = subst (λ o. Sane (memoryLeft o)) (plain-hit n h e b) (hit-sane b x)
+
+  -- ---- a book that keeps its sanity by refusing every hit whose check does not pass: where these do not come it is the book
+
+  abbrev SaneBook : Type 0
+  SaneBook = (b : List DetectorHit) × Sane b
+
+  abbrev withSane : (o : Outcome (List DetectorHit)) → Sane (memoryLeft o) → Outcome SaneBook
+  withSane (done b) x = done (b, x)
+  withSane (refused k place b) x = refused k place (b, x)
+
+  with-map : (o : Outcome (List DetectorHit)) (x : Sane (memoryLeft o)) → o ≡ mapOutcome (λ (c : SaneBook). c .0) (withSane o x)
+  with-map (done b) x = refl
+  with-map (refused k place b) x = refl
+
+  abbrev guard : (n : ℕ) (c : SaneBook) (h : DetectorHit) (t : Checked Unit) → checkHit h (withUsed s n) ≡ t → Outcome SaneBook
+  guard n c h (passed tt) e = withSane (plainHit (bare s) (c .0) h) (plain-sane n h e (c .0) (c .1))
+  guard n c h (refusedAt k place) e = refused k place c
+
+  abbrev guarded : ℕ → SaneBook → DetectorHit → Outcome SaneBook
+  guarded n c h = guard n c h (checkHit h (withUsed s n)) refl
+
+  guard-map : (n : ℕ) (c : SaneBook) (h : DetectorHit) → checkHit h (withUsed s n) ≡ passed tt
+      → plainHit (bare s) (c .0) h ≡ mapOutcome (λ (c : SaneBook). c .0) (guarded n c h)
+  guard-map n c h p = go (checkHit h (withUsed s n)) refl p
     where
-      go : (c : Checked Unit) → checkBatch B (withUsed s b) ≡ c
-          → traceAfter c (added s b) (runOn recordOf (added s b .detectors) B (added s b)) .outcome ≡ mapOutcome (added s) (traceAfter c b (runOn (plainHit (bare s)) (bare s .detectors) B b) .outcome)
-      go (passed tt) e = run-booked B b (passes B (withUsed s b) e)
-      go (refusedAt n place) e = refl
+      go : (t : Checked Unit) (e : checkHit h (withUsed s n) ≡ t) → t ≡ passed tt → plainHit (bare s) (c .0) h ≡ mapOutcome (λ (c : SaneBook). c .0) (guard n c h t e)
+      go (passed tt) e q = with-map (plainHit (bare s) (c .0) h) (plain-sane n h e (c .0) (c .1))
+      go (refusedAt k place) e q = never k place tt q
 
-  -- ---- a recording
+  -- ---- any lawful wish
 
-  pub recording-booked : (h : DetectorHit) (b : List DetectorHit) → recordHitClassifiedOf (added s b) h ≡ mapOutcome (added s) (bookRecorded (bare s) h b)
-  unfolding recordHitClassifiedOf bookRecorded
-  recording-booked h b =
-      found-or (added s b .detectors) (h .detector) (added s b) _
-      ∙ rw (same-asked (s .detectors) (added s b .detectors) (h .detector) (added-checks b s) (added-count b s), memory-added s eight empty b)
-      (go (checkAsked (s .detectors) (h .detector)) (isMemory (withUsed s b)) refl refl)
-      ∙ ap (mapOutcome (added s)) (sym back)
-    where
-      plain : Outcome (List DetectorHit)
-      plain = unless (checkAsked (s .detectors) (h .detector)) b (cond (isMemory (withUsed s b)) (plainHit s b h) (refused 9 0 b))
+  module _ (w : Wish) (law : Lawful w) (b : List DetectorHit) where
+    pub check-both : w .check (withUsed (bare s) (length b)) ≡ w .check (withUsed s (length b))
+    unfolding bare
+    check-both = law .blind (withUsed s (length b))
 
-      back : unless (findOf (bare s .detectors) (h .detector)) b (cond (isMemory (withUsed (bare s) b)) (plainHit (bare s) b h) (refused 9 0 b)) ≡ plain
-      back =
-          found-or (bare s .detectors) (h .detector) b _
-          ∙ rw (memory-bare s eight empty b, plain-bare s eight empty b h, bare-detectors s eight empty)
+    pub check-added : w .check (added s b) ≡ w .check (withUsed (bare s) (length b))
+    check-added = sym (law .blind (added s b)) ∙ ap (w .check) (bare-used s eight empty b)
 
-      go : (c : Checked Unit) (x : Bool) → checkAsked (s .detectors) (h .detector) ≡ c → isMemory (withUsed s b) ≡ x
-          → unless c (added s b) (cond x (recordOf (added s b) h) (refused 9 0 (added s b))) ≡ mapOutcome (added s) (unless c b (cond x (plainHit s b h) (refused 9 0 b)))
-      go (passed tt) true e f = let d = asked-sound (s .detectors) (h .detector) e in plain-put b h (holds s eight empty b h (d .0) (d .1) f)
-      go (passed tt) false e f = refl
-      go (refusedAt n place) x e f = refl
+    module _ (e : w .check (withUsed (bare s) (length b)) ≡ passed tt) where
+      brought : (h : DetectorHit) → law .Brings (s .detectors) h → checkHit h (withUsed s (length b)) ≡ passed tt
+      brought = law .there (withUsed s (length b)) (sym check-both ∙ e)
+
+      write-booked : w .write Memory recordOf (added s b .detectors) (added s b) ≡ mapOutcome (added s) (w .write (List DetectorHit) (plainHit (bare s)) (bare s .detectors) b)
+      write-booked =
+          sym (law .unseeing Memory recordOf (added s b .detectors) (added s b))
+          ∙ ap (λ (ds : Detectors). w .write Memory recordOf ds (added s b)) (bare-hits b s)
+          ∙ law .unseeing Memory recordOf (s .detectors) (added s b)
+          ∙ law .natural (List DetectorHit) Memory (added s) recordOf (plainHit (bare s)) (s .detectors) (λ c h r. put-booked (length b) h (brought h r) c) b
+          ∙ ap (mapOutcome (added s)) (sym (law .unseeing (List DetectorHit) (plainHit (bare s)) (s .detectors) b))
+          ∙ ap (λ (ds : Detectors). mapOutcome (added s) (w .write (List DetectorHit) (plainHit (bare s)) ds b)) (sym (bare-detectors s))
+
+      write-sane : Sane b → Sane (memoryLeft (w .write (List DetectorHit) (plainHit (bare s)) (bare s .detectors) b))
+      write-sane x =
+          let o : Outcome SaneBook = w .write SaneBook (guarded (length b)) (s .detectors) (b, x) in
+          subst Sane
+          (sym
+          (ap (λ (ds : Detectors). memoryLeft (w .write (List DetectorHit) (plainHit (bare s)) ds b)) (bare-detectors s)
+          ∙ ap memoryLeft (law .unseeing (List DetectorHit) (plainHit (bare s)) (s .detectors) b)
+          ∙ ap memoryLeft (law .natural SaneBook (List DetectorHit) (λ c. c .0) (plainHit (bare s)) (guarded (length b)) (s .detectors) (λ c h r. guard-map (length b) c h (brought h r)) (b, x))
+          ∙ left-map (λ (c : SaneBook). c .0) o))
+          (memoryLeft o .1)
+
+    -- done or refused, with the same number and place, in both
+    pub granted-booked : granted w (added s b) recordOf (added s b) ≡ mapOutcome (added s) (bookGranted (bare s) w b)
+    unfolding granted
+    granted-booked =
+        ap (λ c. unless c (added s b) (w .write Memory recordOf (added s b .detectors) (added s b))) check-added
+        ∙ go (w .check (withUsed (bare s) (length b))) refl
+      where
+        go : (c : Checked Unit) → w .check (withUsed (bare s) (length b)) ≡ c
+            → unless c (added s b) (w .write Memory recordOf (added s b .detectors) (added s b)) ≡ mapOutcome (added s) (unless c b (w .write (List DetectorHit) (plainHit (bare s)) (bare s .detectors) b))
+        go (passed tt) e = write-booked e
+        go (refusedAt n place) e = refl
+
+    pub granted-sane : Sane b → Sane (memoryLeft (bookGranted (bare s) w b))
+    unfolding granted
+    granted-sane x = go (w .check (withUsed (bare s) (length b))) refl
+      where
+        go : (c : Checked Unit) → w .check (withUsed (bare s) (length b)) ≡ c → Sane (memoryLeft (unless c b (w .write (List DetectorHit) (plainHit (bare s)) (bare s .detectors) b)))
+        go (passed tt) e = write-sane e x
+        go (refusedAt n place) e = x

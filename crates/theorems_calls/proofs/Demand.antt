@@ -5,8 +5,7 @@ use mathlib.Core.List.{List, []}
 use lib.ListN.{length}
 use Rattle.error.specs.Refusals.{passed, refusedAt}
 use Rattle.memory.specs.Memory.{Memory, refused}
-use Rattle.memory.specs.Plain.{Empty, added}
-use Rattle.memory.proofs.Plain.{mapOutcome}
+use Rattle.memory.specs.Plain.{Empty}
 use Rattle.trace.specs.Trace.{Batch, checkBatch, traceRaysOf}
 use Rattle.detector.proofs.Detector2D.intersect_ray.Statement.{statement as intersect-ray-meets}
 use Rattle.detector.proofs.Detector2D.intersect_ray.Met as intersect-ray
@@ -23,9 +22,11 @@ use Rattle.filter.proofs.filtered_pixel_flux.Met as filtered-pixel-flux
 use Rattle.trace.proofs.trace_rays.Statement.{statement as trace-rays-meets}
 use Rattle.trace.proofs.trace_rays.Met as trace-rays
 use Rattle.theorems_calls.specs.Parts.{Part, Splits, traceParts}
-use Rattle.theorems_calls.specs.Calls.{Call, Wish, granted, memoryAfter, bare, bookGranted, bookAfter, Told}
+use Rattle.theorems_calls.specs.Calls.{Call, answerIn, memoryAfter}
+use Rattle.theorems_calls.specs.Book.{bare, bookAfter, bookAnswer, Told}
 use Rattle.theorems_calls.proofs.Split as splitting
 use Rattle.theorems_calls.proofs.Lists as lists
+use Rattle.theorems_calls.proofs.Answers.{answers as answers-alike}
 use Rattle.theorems_calls.proofs.Nine.{nine-before}
 
 pub record Demand3 (M : Type 1) : Type 2 where
@@ -41,10 +42,10 @@ pub record Demand3 (M : Type 1) : Type 2 where
   pub split : (B : Batch) (ps : List Part) (s : Memory) → Splits B ps → checkBatch B s ≡ passed tt → traceParts B ps s ≡ traceRaysOf B s .outcome
   -- any list of calls from the empty memory; every list of detectors of the code has eight places
   pub calls : (s : Memory) → length (s .detectors .list) ≡ 8 → Empty s → (cs : List Call) → Told s (memoryAfter cs s) (bookAfter (bare s) cs [])
-  -- and each of them is done, or refused with the same number at the same place, in both
-  pub answers :
-      (s : Memory) (eight : length (s .detectors .list) ≡ 8) (empty : Empty s) (cs : List Call) (w : Wish)
-      → granted w (memoryAfter cs s) ≡ mapOutcome (added s) (bookGranted (bare s) w (bookAfter (bare s) cs []))
+  -- and every call answers after them what it answers in the book
+  pub answers : (s : Memory) → length (s .detectors .list) ≡ 8 → Empty s → (cs : List Call) (c : Call) → answerIn c (memoryAfter cs s) ≡ bookAnswer (bare s) c (bookAfter (bare s) cs [])
+  -- what the book is fed of the memory does not change with them
+  pub fed : (s : Memory) → length (s .detectors .list) ≡ 8 → Empty s → (cs : List Call) → bare (memoryAfter cs s) ≡ bare s
   -- where a detector wins, only 12 and 13 end the run
   pub nine : (B : Batch) (s : Memory) (place : ℕ) (t : Memory) → traceRaysOf B s .outcome ≡ refused 9 place t → checkBatch B s ≡ refusedAt 9 place
 
@@ -60,6 +61,7 @@ demand-3 =
       pixel-area-m2 = pixel-area-m2.met;
       split = splitting.split;
       calls = lists.told;
-      answers = lists.answered;
+      answers = answers-alike;
+      fed = lists.fed;
       nine = nine-before;
     }

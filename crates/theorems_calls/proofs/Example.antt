@@ -1,5 +1,5 @@
 -- A memory, a detector and a list of calls that meet every hypothesis and have hits in them: document 01's scene traced, a hit recorded, a filter, and the scene again, for which the list has no room.
-use mathlib.Core.Path.{_≡_, refl, ap, subst}
+use mathlib.Core.Path.{_≡_, refl, ap, subst, _∙_}
 use mathlib.Core.List.{List, [], _∷_}
 use lib.Ieee.{Float, nan, binary64, add, sub, mul, div, neg, lt, le, ofBits, toBits, ofInt, toUnsigned}
 use lib.ListN.{length, replicate, getD-replicate}
@@ -18,7 +18,7 @@ use Rattle.detector.specs.Faces.{orthogonalOf, faceOf, acrossOf, faceIntersectR
 use Rattle.detector.specs.Pixels.{indexAlongOf, pixelsOf, pixelAtOf}
 use Rattle.detectors.specs.Detectors.{noDetector, firstPixelOf, allPixelsOf, checkListOf, checkDetectorsOf, checkAsked, placedOf, findOf}
 use Rattle.detector.specs.declared.DetectorHit.{DetectorHit}
-use Rattle.memory.specs.Memory.{Memory, done, refused, judged, cellOf, cellIn, capacity, areHitsOf, isHitListOf, areLengthsOf, isMemory}
+use Rattle.memory.specs.Memory.{Memory, done, refused, memoryLeft, judged, cellOf, cellIn, capacity, isHitListOf, areHitsOf, areLengthsOf, isMemory}
 use Rattle.memory.specs.Plain.{Empty, sharing}
 use Rattle.filter.specs.declared.RayPathFilter.the-variants.{GhostsOnly}
 use Rattle.faces.specs.Faces.{newFacesOf, sightFrom, faceCountOf, nearestDetectorOf}
@@ -28,7 +28,8 @@ use Rattle.run.specs.Stack.{emptyStackOf, loadOf, takenFrom, pushedIf, popped, 
 use Rattle.run.specs.Run.{hitInOf, refusalInOf, isLeft, stepOn, drive}
 use Rattle.trace.specs.Trace.{Batch, checkFlatOf, checkConfigOf, checkCountsOf, checkRulesOf, checkLengthsOf, checkMemoryOf, checkTraceOf, checkBatch, startOf, runOn, traceRaysOf}
 use Rattle.theorems_calls.specs.Parts.{Part, AllExact, noRays, joinedAll, Splits, traceParts}
-use Rattle.theorems_calls.specs.Calls.{Call, tracing, recording, refilter, rays, wishIn, memoryAfter, bare, plainHit, bookTraced, bookRecorded, bookGranted, bookAfter, Told}
+use Rattle.theorems_calls.specs.Calls.{Call, tracing, recording, refilter, memoryAfter}
+use Rattle.theorems_calls.specs.Book.{granted, checkHit, wishIn, bare, plainHit, bookGranted, bookAfter, Told}
 use Rattle.theorems_calls.proofs.Split.{split}
 use Rattle.theorems_calls.proofs.Lists.{told}
 
@@ -70,8 +71,8 @@ empty =
       used = refl;
       flux = λ p k. getD-replicate 4 p #0 nan k;
       hits = λ p k. getD-replicate 4 p 0 0 k;
-      totals = λ d k. ap (λ (e : Detector2D). e .«total_flux_watts») (getD-replicate 8 d detector noDetector k);
-      counts = λ d k. ap (λ (e : Detector2D). e .«total_rays_hit») (getD-replicate 8 d detector noDetector k);
+      totals = λ d n k. ap (λ (e : Detector2D). e .«total_flux_watts») (getD-replicate 8 d detector noDetector k);
+      counts = λ d n k. ap (λ (e : Detector2D). e .«total_rays_hit») (getD-replicate 8 d detector noDetector k);
     }
 
 -- no solids, one ray from (1, 1, 0) along z
@@ -95,31 +96,37 @@ abbrev recorded : DetectorHit
 recorded =
     record { «local_x» = #0; «local_y» = #0; «flux_watts» = #4; «wavelength_nm» = #550; detector = record { 0 = 0 }; «bounce_count» = 1; «reflection_count» = 1; «tir_count» = 0 }
 
-abbrev pub calls : List Call
-calls =
-    tracing batch
-    ∷ recording recorded
-    ∷ refilter (record { 0 = 0 }) GhostsOnly (replicate 4 #1)
-    ∷ tracing batch
-    ∷ []
+abbrev sifting : Call
+sifting = refilter (record { 0 = 0 }) GhostsOnly (replicate 4 #1)
 
-one : bookTraced (bare memory) batch [] ≡ done (traced ∷ [])
-unfolding bookTraced bare runOn drive startOf emptyStackOf launchedOf launchedFrom givenAtOf readRayOf readMediaOf isLeft stepOn takenFrom loadOf takeStepOf interactOf nearestDetectorOf nearestAmong nearestFrom nearerOf isNearerOf sightFrom faceCountOf newFacesOf faceOf orthogonalOf faceIntersectRayOf acrossOf normalizeOf normOf dotOf crossOf minusOf plusOf scaleOf divideOf atOf closestObjectOf firstAheadOf meetsWith hitInOf refusalInOf stackAfter popped pushedIf plainHit judged cellIn cellOf placedOf firstPixelOf pixelsOf pixelAtOf indexAlongOf clampOf ofInt toUnsigned sharing capacity checkBatch checkTraceOf checkFlatOf checkSolidsOf checkTagsOf checkListsOf checkRulesOf checkConfigOf checkCountsOf checkMemoryOf checkDetectorsOf checkListOf checkDetectorOf checkGridOf isSizeOf isParallelOf checkLengthsOf areLengthsOf isHitListOf areHitsOf allPixelsOf isMemory findOf checkAsked checkRaysOf checkRayOf isValidRayOf validMediaOf allSolidsOf isFiniteRayOf isFiniteVecOf isFiniteOf absOf sqrtOf ofBits toBits add sub mul div neg lt le
+abbrev pub calls : List Call
+calls = tracing batch ∷ recording recorded ∷ sifting ∷ tracing batch ∷ []
+
+one : bookGranted (bare memory) (wishIn (tracing batch)) [] ≡ done (traced ∷ [])
+unfolding granted wishIn bare runOn drive startOf emptyStackOf launchedOf launchedFrom givenAtOf readRayOf readMediaOf isLeft stepOn takenFrom loadOf takeStepOf interactOf nearestDetectorOf nearestAmong nearestFrom nearerOf isNearerOf sightFrom faceCountOf newFacesOf faceOf orthogonalOf faceIntersectRayOf acrossOf normalizeOf normOf dotOf crossOf minusOf plusOf scaleOf divideOf atOf closestObjectOf firstAheadOf meetsWith hitInOf refusalInOf stackAfter popped pushedIf plainHit judged cellIn cellOf placedOf firstPixelOf pixelsOf pixelAtOf indexAlongOf clampOf ofInt toUnsigned sharing capacity checkBatch checkTraceOf checkFlatOf checkSolidsOf checkTagsOf checkListsOf checkRulesOf checkConfigOf checkCountsOf checkMemoryOf checkDetectorsOf checkListOf checkDetectorOf checkGridOf isSizeOf isParallelOf checkLengthsOf areLengthsOf isHitListOf areHitsOf allPixelsOf isMemory findOf checkAsked checkRaysOf checkRayOf isValidRayOf validMediaOf allSolidsOf isFiniteRayOf isFiniteVecOf isFiniteOf absOf sqrtOf ofBits toBits add sub mul div neg lt le
 one = refl
 
-two : bookRecorded (bare memory) recorded (traced ∷ []) ≡ done (traced ∷ recorded ∷ [])
-unfolding bookRecorded bare findOf checkAsked placedOf checkDetectorsOf checkListOf checkDetectorOf checkGridOf isSizeOf isParallelOf isMemory areLengthsOf isHitListOf areHitsOf allPixelsOf firstPixelOf pixelsOf plainHit judged cellIn cellOf pixelAtOf indexAlongOf clampOf ofInt toUnsigned sharing capacity normalizeOf normOf dotOf divideOf isFiniteOf absOf sqrtOf ofBits toBits add sub mul div neg lt le
+two : bookGranted (bare memory) (wishIn (recording recorded)) (traced ∷ []) ≡ done (traced ∷ recorded ∷ [])
+unfolding granted wishIn checkHit bare checkAsked placedOf checkDetectorsOf checkListOf checkDetectorOf checkGridOf isSizeOf isParallelOf isMemory areLengthsOf isHitListOf areHitsOf allPixelsOf firstPixelOf pixelsOf plainHit judged cellIn cellOf pixelAtOf indexAlongOf clampOf ofInt toUnsigned sharing capacity normalizeOf normOf dotOf divideOf isFiniteOf absOf sqrtOf ofBits toBits add sub mul div neg lt le
 two = refl
 
+unasked : bookGranted (bare memory) (wishIn sifting) (traced ∷ recorded ∷ []) ≡ done (traced ∷ recorded ∷ [])
+unfolding granted wishIn
+unasked = refl
+
 -- the last call ends because the list is full
-pub full : bookTraced (bare memory) batch (traced ∷ recorded ∷ []) ≡ refused 12 0 (traced ∷ recorded ∷ [])
-unfolding bookTraced bare runOn drive startOf emptyStackOf launchedOf launchedFrom givenAtOf readRayOf readMediaOf isLeft stepOn takenFrom loadOf takeStepOf interactOf nearestDetectorOf nearestAmong nearestFrom nearerOf isNearerOf sightFrom faceCountOf newFacesOf faceOf orthogonalOf faceIntersectRayOf acrossOf normalizeOf normOf dotOf crossOf minusOf plusOf scaleOf divideOf atOf closestObjectOf firstAheadOf meetsWith hitInOf refusalInOf stackAfter popped pushedIf plainHit judged cellIn cellOf placedOf firstPixelOf pixelsOf pixelAtOf indexAlongOf clampOf ofInt toUnsigned sharing capacity checkBatch checkTraceOf checkFlatOf checkSolidsOf checkTagsOf checkListsOf checkRulesOf checkConfigOf checkCountsOf checkMemoryOf checkDetectorsOf checkListOf checkDetectorOf checkGridOf isSizeOf isParallelOf checkLengthsOf areLengthsOf isHitListOf areHitsOf allPixelsOf isMemory findOf checkAsked checkRaysOf checkRayOf isValidRayOf validMediaOf allSolidsOf isFiniteRayOf isFiniteVecOf isFiniteOf absOf sqrtOf ofBits toBits add sub mul div neg lt le
+pub full : bookGranted (bare memory) (wishIn (tracing batch)) (traced ∷ recorded ∷ []) ≡ refused 12 0 (traced ∷ recorded ∷ [])
+unfolding granted wishIn bare runOn drive startOf emptyStackOf launchedOf launchedFrom givenAtOf readRayOf readMediaOf isLeft stepOn takenFrom loadOf takeStepOf interactOf nearestDetectorOf nearestAmong nearestFrom nearerOf isNearerOf sightFrom faceCountOf newFacesOf faceOf orthogonalOf faceIntersectRayOf acrossOf normalizeOf normOf dotOf crossOf minusOf plusOf scaleOf divideOf atOf closestObjectOf firstAheadOf meetsWith hitInOf refusalInOf stackAfter popped pushedIf plainHit judged cellIn cellOf placedOf firstPixelOf pixelsOf pixelAtOf indexAlongOf clampOf ofInt toUnsigned sharing capacity checkBatch checkTraceOf checkFlatOf checkSolidsOf checkTagsOf checkListsOf checkRulesOf checkConfigOf checkCountsOf checkMemoryOf checkDetectorsOf checkListOf checkDetectorOf checkGridOf isSizeOf isParallelOf checkLengthsOf areLengthsOf isHitListOf areHitsOf allPixelsOf isMemory findOf checkAsked checkRaysOf checkRayOf isValidRayOf validMediaOf allSolidsOf isFiniteRayOf isFiniteVecOf isFiniteOf absOf sqrtOf ofBits toBits add sub mul div neg lt le
 full = refl
 
 -- the book has both hits
 pub listed : bookAfter (bare memory) calls [] ≡ traced ∷ recorded ∷ []
-unfolding bookAfter bookGranted wishIn
-listed = rw (one, two, full)
+unfolding bookAfter
+listed =
+    ap (λ o. bookAfter (bare memory) (recording recorded ∷ sifting ∷ tracing batch ∷ []) (memoryLeft o)) one
+    ∙ ap (λ o. bookAfter (bare memory) (sifting ∷ tracing batch ∷ []) (memoryLeft o)) two
+    ∙ ap (λ o. bookAfter (bare memory) (tracing batch ∷ []) (memoryLeft o)) unasked
+    ∙ ap memoryLeft full
 
 -- so the theorem speaks of this memory: two hits used, and what they make of it
 pub example : Told memory (memoryAfter calls memory) (traced ∷ recorded ∷ [])

@@ -3,14 +3,16 @@ pub mod Drives
 pub mod Sights
 pub mod Stacks
 pub mod Later
+pub mod Bare
 pub mod Reached
 pub mod Joined
 pub mod Checks
 pub mod Split
 pub mod Places
-pub mod Bare
+pub mod Wishes
 pub mod Booked
 pub mod Lists
+pub mod Answers
 pub mod Nine
 pub mod Demand
 pub mod Example

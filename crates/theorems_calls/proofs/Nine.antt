@@ -20,7 +20,7 @@ use Rattle.theorems_calls.proofs.Drives.{Brought, drive-keeps}
 use Rattle.theorems_calls.proofs.Sights.{brought-there}
 use Rattle.theorems_calls.proofs.Reached.{Reached, reached-itself, reached-record, added-count}
 use Rattle.theorems_calls.proofs.Checks.{Passes, passes, said, used-room, reached-lengths, reached-checks}
-use Rattle.theorems_calls.proofs.Booked.{shown-all}
+use Rattle.theorems_calls.proofs.Wishes.{shown-all}
 
 -- every memory of a run holds every hit that a step can bring
 module _ (B : Batch) (s : Memory) (p : Passes B s) where

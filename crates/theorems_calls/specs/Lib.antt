@@ -1,3 +1,4 @@
--- Demand 3: split batches, and what a list of calls leaves.
+-- Demand 3: split batches, and what a list of calls answers and leaves.
 pub mod Parts
 pub mod Calls
+pub mod Book
