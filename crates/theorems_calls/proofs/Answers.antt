@@ -271,7 +271,7 @@ module _ (s : Memory) (eight : length (s .detectors .list) ≡ 8) (empty : Empty
   unfolding answerIn bookAnswer outcomeIn
   recording-same h = ap (λ o. recordSaid (verdict o)) (call-booked s eight empty (recording h) b) ∙ ap recordSaid (verdict-map (added s) (bookGranted (bare s) (wishIn (recording h)) b))
 
-  answer-same : (c : Call) → answerIn c m ≡ bookAnswer (bare s) c b
+  pub answer-same : (c : Call) → answerIn c m ≡ bookAnswer (bare s) c b
   unfolding answerIn bookAnswer
   answer-same (tracing B) = tracing-same B
   answer-same (recording h) = recording-same h

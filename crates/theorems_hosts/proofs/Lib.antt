@@ -1,0 +1,4 @@
+-- Demand 3 as hosts meet it.
+pub mod Lists
+pub mod Answers
+pub mod Demand

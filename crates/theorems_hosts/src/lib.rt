@@ -1,0 +1,1 @@
+// Theorems about lists of the calls that hosts make.
