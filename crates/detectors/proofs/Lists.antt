@@ -6,8 +6,8 @@ use mathlib.Core.List.{List}
 use mathlib.Core.Option.{Option, none, some}
 use native.Mathlib.Omega.{arith}
 use native.Mathlib.Numerals.{add-one}
-use lib.Dec.{leb, ltb}
-use borrow.Author.Tests.{leb-true, ltb-true}
+use lib.Dec.{ltb}
+use borrow.Author.Tests.{ltb-true}
 use Rattle.error.specs.declared.Check.{Check}
 use Rattle.error.specs.declared.Check.the-variants.{Passed, Refused}
 use Rattle.error.specs.declared.NonSeqError.{NonSeqError}
@@ -16,12 +16,12 @@ use Rattle.detector.specs.declared.DetectorNo.{DetectorNo}
 use Rattle.detector.specs.declared.Detector2D.{Detector2D}
 use Rattle.detector.specs.Checks.{checkDetectorOf}
 use Rattle.detector.specs.Pixels.{pixelsOf}
-use Rattle.detector.proofs.Grid.{never, pixels-most}
+use Rattle.detector.proofs.Grid.{pixels-most}
 use Rattle.detectors.specs.declared.Detectors.{Detectors}
 use Rattle.detectors.specs.declared.Placed.{Placed}
 use Rattle.detectors.specs.declared.Spot.{Spot}
 use Rattle.detectors.specs.declared.Spot.the-variants as Spot
-use Rattle.detectors.specs.Detectors.{detectorAt, firstPixelOf, placedOf, atOf, asSpot, checkListOf, checkDetectorsOf}
+use Rattle.detectors.specs.Detectors.{detectorAt, firstPixelOf, placedOf, atOf, asSpot, checkCountOf, checkListOf, checkEachOf, checkDetectorsOf}
 
 -- ---- the check; r is what the check of detector i answered
 
@@ -39,6 +39,22 @@ module _ (l : List Detector2D) (n i : ℕ) (r : Check) (z : Checked Unit) (p : i
 pub check-end : (l : List Detector2D) (n i : ℕ) (z : Checked Unit) → n ≤ i → checkListOf l (n - i) i ≡ z → passed tt ≡ z
 unfolding checkListOf
 check-end l n i z p e = let q : n - i ≡ 0 = omega arith in rw q at e
+
+-- ---- lists of which each detector is checked as the other's
+
+list-same : (l k : List Detector2D) → ((i : ℕ) → checkDetectorOf (detectorAt k i) i ≡ checkDetectorOf (detectorAt l i) i) → (n i : ℕ) → checkListOf k n i ≡ checkListOf l n i
+unfolding checkListOf
+list-same l k same zero i = refl
+list-same l k same (suc n) i = rw (same i, list-same l k same n (i + 1))
+
+module _ (ds es : Detectors) (count : es .count ≡ ds .count) where
+  pub each-same : ((i : ℕ) → checkDetectorOf (detectorAt (es .list) i) i ≡ checkDetectorOf (detectorAt (ds .list) i) i) → checkEachOf es ≡ checkEachOf ds
+  unfolding checkEachOf
+  each-same same = rw (count, list-same (ds .list) (es .list) same (ds .count) 0)
+
+  pub all-same : checkEachOf es ≡ checkEachOf ds → checkDetectorsOf es ≡ checkDetectorsOf ds
+  unfolding checkDetectorsOf
+  all-same same = ap (λ n. after (checkCountOf n) (checkEachOf es)) count ∙ ap (after (checkCountOf (ds .count))) same
 
 -- ---- pixels
 
@@ -60,16 +76,6 @@ turn-most d m e = omega (arith, e, pixels-most d)
 
 pub first-end : (l : List Detector2D) (n i sum : ℕ) → i ≤ n → n ≤ i → sum ≡ firstPixelOf l i → sum ≡ firstPixelOf l n
 first-end l n i sum a b e = let q : i ≡ n = omega arith in rw q at e
-
--- ---- a list that passed has at most 8
-
-pub count-most : (ds : Detectors) (r : Check) → asChecked r ≡ checkDetectorsOf ds → r ≡ Passed → ds .count ≤ 8
-unfolding checkDetectorsOf
-count-most ds r f g = go (leb (ds .count) 8) refl (sym f ∙ ap asChecked g)
-  where
-    go : (b : Bool) → leb (ds .count) 8 ≡ b → cond b (checkListOf (ds .list) (ds .count) 0) (refusedAt 3 0) ≡ passed tt → ds .count ≤ 8
-    go true e k = leb-true _ _ e
-    go false e k = never 3 0 tt k
 
 -- ---- detector d of the list
 

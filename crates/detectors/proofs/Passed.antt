@@ -10,7 +10,9 @@ use native.Mathlib.Nat.{add-zero, zero-add}
 use native.Mathlib.Decide.{ℕ-discrete, decLe}
 use lib.Dec.{leb, ltb}
 use borrow.Author.Tests.{leb-true, ltb-true, le-leb}
-use Rattle.error.specs.Refusals.{Checked, passed, refusedAt, after}
+use Rattle.error.specs.declared.Check.{Check}
+use Rattle.error.specs.declared.Check.the-variants.{Passed}
+use Rattle.error.specs.Refusals.{Checked, passed, refusedAt, asChecked, after}
 use Rattle.detector.specs.declared.DetectorNo.{DetectorNo}
 use Rattle.detector.specs.declared.Detector2D.{Detector2D}
 use Rattle.detector.specs.Checks.{checkDetectorOf}
@@ -18,7 +20,7 @@ use Rattle.detector.specs.Pixels.{pixelsOf}
 use Rattle.detector.proofs.Grid.{never, Gridded, passed-grid, pixels-are, in-grid}
 use Rattle.detectors.specs.declared.Detectors.{Detectors}
 use Rattle.detectors.specs.declared.Placed.{Placed}
-use Rattle.detectors.specs.Detectors.{maxDetectors, detectorAt, firstPixelOf, allPixelsOf, checkListOf, checkDetectorsOf, checkAsked, placedOf, findOf}
+use Rattle.detectors.specs.Detectors.{maxDetectors, detectorAt, firstPixelOf, allPixelsOf, checkCountOf, checkListOf, checkEachOf, checkDetectorsOf, checkAsked, placedOf, findOf}
 
 -- ---- what passed
 
@@ -26,9 +28,38 @@ pub record Sound (ds : Detectors) : Type 0 where
   pub most : ds .count ≤ maxDetectors
   pub each : (i : ℕ) → i < ds .count → Gridded (detectorAt (ds .list) i)
 
+pub counted : (n : ℕ) → checkCountOf n ≡ passed tt → n ≤ maxDetectors
+unfolding checkCountOf
+counted n = go (leb n maxDetectors) refl
+  where
+    go : (b : Bool) → leb n maxDetectors ≡ b → _≡_ {A = Checked Unit} (cond b (passed tt) (refusedAt 3 0)) (passed tt) → n ≤ maxDetectors
+    go true e k = leb-true _ _ e
+    go false e k = never 3 0 tt k
+
+pub count-passes : (n : ℕ) → n ≤ maxDetectors → checkCountOf n ≡ passed tt
+unfolding checkCountOf
+count-passes n k = rw (le-leb n maxDetectors k)
+
 pub both-passed : {A : Type 0} (a : A) (c : Checked Unit) (x : Checked A) → after c x ≡ passed a → (c ≡ passed tt) × (x ≡ passed a)
 both-passed a (passed tt) x e = (refl, e)
 both-passed a (refusedAt n p) x e = never n p a e
+
+pub pieces : (ds : Detectors) → checkDetectorsOf ds ≡ passed tt → (ds .count ≤ maxDetectors) × (checkEachOf ds ≡ passed tt)
+unfolding checkDetectorsOf
+pieces ds e =
+    let p = both-passed tt (checkCountOf (ds .count)) (checkEachOf ds) e in
+    (counted (ds .count) (p .0), p .1)
+
+pub whole : (ds : Detectors) → ds .count ≤ maxDetectors → checkEachOf ds ≡ passed tt → checkDetectorsOf ds ≡ passed tt
+unfolding checkDetectorsOf
+whole ds k e = rw (count-passes (ds .count) k, e)
+
+pub each-is : (ds : Detectors) → ds .count ≤ maxDetectors → checkEachOf ds ≡ checkListOf (ds .list) (ds .count) 0
+unfolding checkEachOf
+each-is ds k = rw (le-leb (ds .count) maxDetectors k)
+
+pub count-most : (ds : Detectors) (r : Check) → asChecked r ≡ checkDetectorsOf ds → r ≡ Passed → ds .count ≤ 8
+count-most ds r f g = pieces ds (sym f ∙ ap asChecked g) .0
 
 each-passed : (l : List Detector2D) (n i j : ℕ) → checkListOf l n i ≡ passed tt → j < n → Gridded (detectorAt l (i + j))
 unfolding checkListOf
@@ -39,12 +70,9 @@ each-passed l (suc n) i (suc j) e k =
     rw q (each-passed l n (i + 1) j (both-passed tt (checkDetectorOf (detectorAt l i) i) (checkListOf l n (i + 1)) e .1) (omega arith))
 
 pub sound : (ds : Detectors) → checkDetectorsOf ds ≡ passed tt → Sound ds
-unfolding checkDetectorsOf
-sound ds e = go (leb (ds .count) maxDetectors) refl e
-  where
-    go : (b : Bool) → leb (ds .count) maxDetectors ≡ b → cond b (checkListOf (ds .list) (ds .count) 0) (refusedAt 3 0) ≡ passed tt → Sound ds
-    go true t e = record { most = leb-true _ _ t; each = λ i k. rw zero-add at (each-passed (ds .list) (ds .count) 0 i e k) }
-    go false t e = never 3 0 tt e
+sound ds e =
+    let p = pieces ds e in
+    record { most = p .0; each = λ i k. rw zero-add at (each-passed (ds .list) (ds .count) 0 i (sym (each-is ds (p .0)) ∙ p .1) k) }
 
 pub asked-sound : (ds : Detectors) (d : DetectorNo) → checkAsked ds d ≡ passed tt → Sound ds × (d .0 < ds .count)
 unfolding checkAsked

@@ -50,14 +50,22 @@ firstPixelOf l (suc i) = firstPixelOf l i + pixelsOf (detectorAt l i)
 unfoldable pub allPixelsOf : Detectors → ℕ
 allPixelsOf ds = cond (leb (ds .count) maxDetectors) (firstPixelOf (ds .list) (ds .count)) 0
 
+-- 3 for more than 8
+unfoldable pub checkCountOf : ℕ → Checked Unit
+checkCountOf n = cond (leb n maxDetectors) (passed tt) (refusedAt 3 0)
+
 -- the n detectors from place i on, in list order
 unfoldable pub checkListOf : List Detector2D → ℕ → ℕ → Checked Unit
 checkListOf l zero i = passed tt
 checkListOf l (suc n) i = after (checkDetectorOf (detectorAt l i) i) (checkListOf l n (i + 1))
 
+-- 5 to 8 of each; a list that 3 refuses has none
+unfoldable pub checkEachOf : Detectors → Checked Unit
+checkEachOf ds = cond (leb (ds .count) maxDetectors) (checkListOf (ds .list) (ds .count) 0) (passed tt)
+
 -- 3, then 5 to 8 of each
 unfoldable pub checkDetectorsOf : Detectors → Checked Unit
-checkDetectorsOf ds = cond (leb (ds .count) maxDetectors) (checkListOf (ds .list) (ds .count) 0) (refusedAt 3 0)
+checkDetectorsOf ds = after (checkCountOf (ds .count)) (checkEachOf ds)
 
 -- these, then 4
 unfoldable pub checkAsked : Detectors → DetectorNo → Checked Unit

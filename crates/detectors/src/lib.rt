@@ -10,7 +10,7 @@ pub use reading::irradiance_at;
 ghost use mathlib.Core.Path.{_≡_};
 ghost use Prim.Native.Nat.{_≤_, _<_};
 ghost use Rattle.error.specs.Refusals.{asChecked};
-ghost use Rattle.detectors.specs.Detectors.{firstPixelOf, allPixelsOf, placedOf, checkListOf, checkDetectorsOf, findOf, asFound, atOf, asSpot, maxDetectors};
+ghost use Rattle.detectors.specs.Detectors.{firstPixelOf, allPixelsOf, placedOf, checkCountOf, checkListOf, checkEachOf, checkDetectorsOf, findOf, asFound, atOf, asSpot, maxDetectors};
 
 // Places of a list of detectors.
 pub const MAX_DETECTORS: usize = 8;
@@ -77,17 +77,37 @@ impl Detectors {
     // The most detectors.
     pub const MAX: u32 = MAX_DETECTORS as u32;
 
-    // 3 for more than 8, then 5 to 8 of each in list order.
-    pub fn check(self) -> Check
-        ensures { λ r. ⌜ asChecked r ≡ checkDetectorsOf self ⌝ }
+    // 3 for more than 8.
+    pub fn check_count(count: u32) -> Check
+        ensures { λ r. ⌜ asChecked r ≡ checkCountOf count ⌝ }
+    {
+        if count <= Detectors::MAX {
+            return Check::Passed;
+        }
+        Check::Refused {
+            error: NonSeqError::ListTooLong,
+            place: 0,
+        }
+    }
+
+    // 5 to 8 of each in list order; none of a list that is refused by 3.
+    pub fn check_each(self) -> Check
+        ensures { λ r. ⌜ asChecked r ≡ checkEachOf self ⌝ }
     {
         if self.count <= Detectors::MAX {
             let list = self.list;
             return check_list(list, self.count);
         }
-        Check::Refused {
-            error: NonSeqError::ListTooLong,
-            place: 0,
+        Check::Passed
+    }
+
+    // 3, then 5 to 8 of each.
+    pub fn check(self) -> Check
+        ensures { λ r. ⌜ asChecked r ≡ checkDetectorsOf self ⌝ }
+    {
+        match Detectors::check_count(self.count) {
+            Check::Passed => self.check_each(),
+            Check::Refused { error, place } => Check::Refused { error, place },
         }
     }
 

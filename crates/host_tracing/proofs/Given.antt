@@ -1,6 +1,6 @@
 -- Rays that were laid out flat are traced as they were given: the first 4,097 of them have the answer of all. Assumes nothing.
 use mathlib.Core.Path.{_≡_, refl, sym, ap, _∙_, subst}
-use mathlib.Core.Bool.{Bool, true, false, _&&_}
+use mathlib.Core.Bool.{Bool, true, false}
 use mathlib.Core.List.{List, [], _∷_}
 use mathlib.Core.Option.{Option, none, some}
 use Prim.Native.Nat.{ℕ, _*_, _≤_, _<_}
@@ -9,7 +9,7 @@ use lib.Dec.{leb}
 use lib.Ieee.{Float}
 use lib.ListN.{length, take, length-append, length-take}
 use lib.Seq.{take-all, length-take-le}
-use borrow.Author.Tests.{le-leb, lt-leb, eq-eqb, leb-true, leb-false}
+use borrow.Author.Tests.{le-leb, eq-eqb, leb-true, leb-false}
 use Rattle.error.specs.Refusals.{Checked, passed, refusedAt, after}
 use Rattle.material.specs.declared.OpticalMedium.{OpticalMedium}
 use Rattle.scene.specs.Solids.{checkSolidsOf}
@@ -17,7 +17,8 @@ use Rattle.memory.specs.Memory.{Memory, recordOf}
 use Rattle.step.specs.declared.NonSeqTraceConfig.{NonSeqTraceConfig}
 use Rattle.given_rays.specs.Given.{checkListsOf}
 use Rattle.run.specs.Run.{Run}
-use Rattle.trace.specs.Trace.{Batch, lentBatch, checkFlatOf, checkConfigOf, checkCountsOf, checkRulesOf, checkTraceOf, checkBatch, runOn, traceAfter, traceRaysOf}
+use Rattle.trace.specs.Trace.{Batch, lentBatch, checkFlatOf, checkConfigOf, checkBatch, runOn, traceAfter, traceRaysOf}
+use Rattle.trace.proofs.Pieces.{too-many, over-limit}
 use Rattle.host_tracing.specs.declared.answers.HostConfig.{HostConfig}
 use Rattle.host_tracing.specs.declared.slices.GivenRay.{GivenRay}
 use Rattle.host_tracing.specs.Tracing.{traceConfigOf, Left, leftBy, tracedIn, hostTraceRaysOf}
@@ -43,21 +44,8 @@ lists-fit ys = simp (values-length ys, marks-length ys, eq-eqb (length ys * 8) _
 
 -- ---- more than 4,096 rays are refused, and nothing but their number is looked at
 
-and-none : (a : Bool) → (a && false) ≡ false
-and-none true = refl
-and-none false = refl
-
-over : (c n : ℕ) → 4096 < n → checkCountsOf c n ≡ refusedAt 3 0
-unfolding checkCountsOf
-over c n h = rw (lt-leb n 4096 h, and-none (leb c 32)) refl
-
 abbrev three : Checked Unit → Checked Unit → Checked Unit
 three p q = after p (after q (refusedAt 3 0))
-
-early : (p q rest : Checked Unit) → after (after p (passed tt)) (after (after q (refusedAt 3 0)) rest) ≡ three p q
-early (passed u) (passed w) rest = refl
-early (passed u) (refusedAt n i) rest = refl
-early (refusedAt n i) q rest = refl
 
 no-run : (p q : Checked Unit) (s : Memory) (r r2 : Run Memory) → traceAfter (three p q) s r ≡ traceAfter (three p q) s r2
 no-run (passed u) (passed w) s r r2 = refl
@@ -69,8 +57,15 @@ module _ (c : NonSeqTraceConfig) (x : List Float) (k : List ℕ) (n : ℕ) (s : 
   batch ys = lentBatch c x k n (flatValues ys) (flatTags ys) (length ys)
 
   many : (ys : List GivenRay) → 4096 < length ys → checkBatch (batch ys) s ≡ three (checkSolidsOf x k n) (checkConfigOf c)
-  unfolding checkBatch checkTraceOf checkFlatOf checkRulesOf
-  many ys h = rw (lists-fit ys, over n (length ys) h) (early (checkSolidsOf x k n) (checkConfigOf c) _)
+  unfolding checkFlatOf
+  many ys h =
+      over-limit (batch ys) s (too-many n (length ys) (s .detectors .count) h)
+      ∙ ap (λ l. after (after (checkSolidsOf x k n) l) (after (checkConfigOf c) (refusedAt 3 0))) (lists-fit ys)
+      ∙ go (checkSolidsOf x k n)
+    where
+      go : (p : Checked Unit) → after (after p (passed tt)) (after (checkConfigOf c) (refusedAt 3 0)) ≡ three p (checkConfigOf c)
+      go (passed u) = refl
+      go (refusedAt n i) = refl
 
   same-refusal : (ys zs : List GivenRay) → 4096 < length ys → 4096 < length zs → traceRaysOf (batch ys) s ≡ traceRaysOf (batch zs) s
   unfolding traceRaysOf

@@ -13,7 +13,7 @@ use Rattle.detector.specs.Checks.{checkGridOf, checkDetectorOf}
 use Rattle.detector.specs.Faces.{faceOf}
 use Rattle.detector.specs.Pixels.{pixelsOf, pixelAtOf, areaOf, irradianceOf}
 use Rattle.detectors.specs.declared.Detectors.{Detectors}
-use Rattle.detectors.specs.Detectors.{detectorAt, firstPixelOf, allPixelsOf, checkListOf, checkDetectorsOf, checkAsked, placedOf}
+use Rattle.detectors.specs.Detectors.{detectorAt, firstPixelOf, allPixelsOf, checkListOf, checkEachOf, checkDetectorsOf, checkAsked, placedOf}
 use Rattle.memory.specs.Memory.{Memory, raised, cellOf, cellIn, capacity, areLengthsOf, isMemory, writtenAt}
 use Rattle.memory.specs.Plain.{Empty, added, viewIn, partIn}
 use Rattle.memory.proofs.Keeps.{added-keeps, written-flux, written-hits, written-values, written-tags}
@@ -74,9 +74,13 @@ unfolding checkListOf
 bare-list l zero i = refl
 bare-list l (suc n) i = rw (bare-at (λ d. checkDetectorOf d i) (bare-check i) l i, bare-list l n (i + 1))
 
+pub bare-each : (ds : Detectors) → checkEachOf (bareDetectors ds) ≡ checkEachOf ds
+unfolding checkEachOf
+bare-each ds = rw (bare-list (ds .list) (ds .count) 0)
+
 pub bare-checks : (ds : Detectors) → checkDetectorsOf (bareDetectors ds) ≡ checkDetectorsOf ds
 unfolding checkDetectorsOf
-bare-checks ds = rw (bare-list (ds .list) (ds .count) 0)
+bare-checks ds = rw (bare-each ds)
 
 pub bare-asked : (d : DetectorNo) (ds : Detectors) → checkAsked (bareDetectors ds) d ≡ checkAsked ds d
 unfolding checkAsked

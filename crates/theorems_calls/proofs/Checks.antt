@@ -1,55 +1,29 @@
--- What the checks before a run say of a batch and a memory, part by part, and that parts of a batch that passed pass. Assumes nothing.
+-- What the checks before a run say of a batch and a memory, and that parts of a batch that passed pass. Assumes nothing.
 use Prim.Native.Nat.{ℕ, zero, suc, _+_, _*_, _/_, _≤_, _<_}
 use mathlib.Core.Path.{_≡_, refl, ap, _∙_}
 use mathlib.Core.Bool.{Bool, true, false, cond, _&&_}
 use native.Mathlib.Omega.{arith}
 use native.Mathlib.Nat.{add-zero, zero-add}
-use lib.Dec.{leb, eqb}
+use lib.Dec.{eqb}
 use lib.ListN.{length}
-use borrow.Author.Tests.{leb-true, le-leb, eq-eqb, eqb-true}
-use Rattle.error.specs.Refusals.{Checked, passed, refusedAt, after}
+use borrow.Author.Tests.{eq-eqb, eqb-true}
+use Rattle.error.specs.Refusals.{Checked, passed, refusedAt}
 use Rattle.rays.specs.Rays.{isValidRayOf}
-use Rattle.scene.specs.Solids.{checkSolidsOf}
 use Rattle.detectors.specs.declared.Detectors.{Detectors}
-use Rattle.detectors.specs.Detectors.{allPixelsOf, checkDetectorsOf}
-use Rattle.memory.specs.Memory.{Memory, hitDoubles, capacity, areLengthsOf}
+use Rattle.detectors.specs.Detectors.{checkDetectorsOf}
+use Rattle.memory.specs.Memory.{Memory, hitDoubles, capacity}
 use Rattle.memory.proofs.Lengths.{long, long-enough}
 use Rattle.step.specs.declared.ActiveRay.{ActiveRay}
 use Rattle.given_rays.specs.Given.{validMediaOf, checkListsOf, checkRayOf, checkRaysOf}
-use Rattle.trace.specs.Trace.{Batch, raysIn, checkFlatOf, checkConfigOf, checkCountsOf, checkRulesOf, checkLengthsOf, checkMemoryOf, checkTraceOf, checkBatch}
+use Rattle.trace.specs.Trace.{Batch, raysIn, checkLengthsOf}
+use Rattle.trace.proofs.Pieces.{checkLengthsIn, same-lengths}
+pub use Rattle.trace.proofs.Pieces.{Passes, passes, all-pass}
 use Rattle.theorems_runs.proofs.Bred.{false-true}
 use Rattle.theorems_calls.specs.Parts.{Part, Exact, joined, withRays}
 use Rattle.theorems_calls.proofs.Reached.{Reached, added-checks, added-all, added-flux, added-hits, added-values, added-tags}
 use Rattle.theorems_calls.proofs.Joined.{former-given, later-given}
 use Rattle.doubles.proofs.Floats.{and-left, and-right}
 use Rattle.detectors.proofs.Passed.{both-passed}
-
-abbrev checkLengthsIn : Memory → Checked Unit
-checkLengthsIn s = checkLengthsOf (s .detectors) (length (s .flux)) (length (s .hits)) (length (s .hitValues)) (length (s .hitTags)) (s .used)
-
-pub record Passes (B : Batch) (s : Memory) : Type 0 where
-  pub solids : checkSolidsOf (B .solidValues) (B .solidTags) (B .solids) ≡ passed tt
-  pub lists : checkListsOf (length (B .rayValues)) (length (B .rayTags)) (B .rays) ≡ passed tt
-  pub config : checkConfigOf (B .config) ≡ passed tt
-  pub counts : checkCountsOf (B .solids) (B .rays) ≡ passed tt
-  pub detectors : checkDetectorsOf (s .detectors) ≡ passed tt
-  pub lengths : checkLengthsIn s ≡ passed tt
-  pub rays : checkRaysOf (raysIn B) (B .solids) (B .rays) 0 ≡ passed tt
-
-pub passes : (B : Batch) (s : Memory) → checkBatch B s ≡ passed tt → Passes B s
-unfolding checkBatch checkTraceOf checkFlatOf checkRulesOf checkMemoryOf
-passes B s e =
-    let e1 = both-passed tt (checkFlatOf B) _ e in
-    let e2 = both-passed tt (checkRulesOf (B .config) (B .solids) (B .rays)) _ (e1 .1) in
-    let e3 = both-passed tt (after (checkDetectorsOf (s .detectors)) (checkLengthsIn s)) _ (e2 .1) in
-    let f = both-passed tt (checkSolidsOf (B .solidValues) (B .solidTags) (B .solids)) _ (e1 .0) in
-    let g = both-passed tt (checkConfigOf (B .config)) _ (e2 .0) in
-    let h = both-passed tt (checkDetectorsOf (s .detectors)) _ (e3 .0) in
-    record { solids = f .0; lists = f .1; config = g .0; counts = g .1; detectors = h .0; lengths = h .1; rays = e3 .1 }
-
-pub all-pass : (B : Batch) (s : Memory) → Passes B s → checkBatch B s ≡ passed tt
-unfolding checkBatch checkTraceOf checkFlatOf checkRulesOf checkMemoryOf
-all-pass B s p = rw (p .solids, p .lists, p .config, p .counts, p .detectors, p .lengths, p .rays)
 
 -- ---- fewer rays
 
@@ -61,12 +35,6 @@ isPassed (refusedAt n place) = false
 pub said : (t : Bool) (n place : ℕ) → _≡_ {A = Checked Unit} (cond t (passed tt) (refusedAt n place)) (passed tt) → t ≡ true
 said true n place e = refl
 said false n place e = false-true (ap isPassed e)
-
-counts-less : (k n m : ℕ) → m ≤ n → checkCountsOf k n ≡ passed tt → checkCountsOf k m ≡ passed tt
-unfolding checkCountsOf
-counts-less k n m l e =
-    let t = said (leb k 32 && leb n 4096) 3 0 e in
-    rw (and-left (leb k 32) (leb n 4096) t, le-leb m 4096 (omega (arith, leb-true n 4096 (and-right (leb k 32) (leb n 4096) t))))
 
 pub exact-lists : (p : Part) → Exact p → checkListsOf (length (p .rayValues)) (length (p .rayTags)) (p .rays) ≡ passed tt
 unfolding checkListsOf
@@ -121,11 +89,6 @@ more-used : (ds : Detectors) (nf nh nv nt u v : ℕ) → v ≤ nv / hitDoubles �
 unfolding checkLengthsOf
 more-used ds nf nh nv nt u v k e = rw (long-enough ds nf nh nv nt u v k (said _ 9 0 e))
 
--- by pixels and lengths alone
-pub same-lengths : (ds es : Detectors) (nf nh nv nt u : ℕ) → allPixelsOf es ≡ allPixelsOf ds → checkLengthsOf es nf nh nv nt u ≡ checkLengthsOf ds nf nh nv nt u
-unfolding checkLengthsOf areLengthsOf
-same-lengths ds es nf nh nv nt u e = rw e
-
 pub reached-lengths : (s m : Memory) → Reached s m → checkLengthsIn s ≡ passed tt → checkLengthsIn m ≡ passed tt
 unfolding capacity
 reached-lengths s m r e =
@@ -146,7 +109,8 @@ module _ (B : Batch) (p q : Part) (s : Memory) (ep : Exact p) (eq : Exact q) (w 
         solids = w .solids;
         lists = exact-lists p ep;
         config = w .config;
-        counts = counts-less (B .solids) (p .rays + q .rays) (p .rays) (omega arith) (w .counts);
+        few-solids = w .few-solids;
+        few-rays = omega (arith, w .few-rays);
         detectors = reached-checks s m r (w .detectors);
         lengths = reached-lengths s m r (w .lengths);
         rays =
@@ -160,7 +124,8 @@ module _ (B : Batch) (p q : Part) (s : Memory) (ep : Exact p) (eq : Exact q) (w 
         solids = w .solids;
         lists = exact-lists q eq;
         config = w .config;
-        counts = counts-less (B .solids) (p .rays + q .rays) (q .rays) (omega arith) (w .counts);
+        few-solids = w .few-solids;
+        few-rays = omega (arith, w .few-rays);
         detectors = w .detectors;
         lengths = w .lengths;
         rays =

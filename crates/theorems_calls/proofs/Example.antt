@@ -16,7 +16,7 @@ use Rattle.detector.specs.declared.Detector2D.{Detector2D}
 use Rattle.detector.specs.Checks.{isSizeOf, isParallelOf, checkGridOf, checkDetectorOf}
 use Rattle.detector.specs.Faces.{orthogonalOf, faceOf, acrossOf, faceIntersectRayOf}
 use Rattle.detector.specs.Pixels.{indexAlongOf, pixelsOf, pixelAtOf}
-use Rattle.detectors.specs.Detectors.{noDetector, firstPixelOf, allPixelsOf, checkListOf, checkDetectorsOf, checkAsked, placedOf, findOf}
+use Rattle.detectors.specs.Detectors.{noDetector, firstPixelOf, allPixelsOf, checkCountOf, checkListOf, checkEachOf, checkDetectorsOf, checkCountOf, checkEachOf, checkAsked, placedOf, findOf}
 use Rattle.detector.specs.declared.DetectorHit.{DetectorHit}
 use Rattle.memory.specs.Memory.{Memory, done, refused, memoryLeft, judged, cellOf, cellIn, capacity, isHitListOf, areHitsOf, areLengthsOf, isMemory}
 use Rattle.memory.specs.Plain.{Empty, sharing}
@@ -26,7 +26,7 @@ use Rattle.step.specs.Steps.{firstAheadOf, meetsWith, interactOf, takeStepOf}
 use Rattle.given_rays.specs.Given.{readRayOf, readMediaOf, givenAtOf, checkListsOf, allSolidsOf, validMediaOf, checkRayOf, checkRaysOf, launchedFrom, launchedOf}
 use Rattle.run.specs.Stack.{emptyStackOf, loadOf, takenFrom, pushedIf, popped, stackAfter}
 use Rattle.run.specs.Run.{hitInOf, refusalInOf, isLeft, stepOn, drive}
-use Rattle.trace.specs.Trace.{Batch, checkFlatOf, checkConfigOf, checkCountsOf, checkRulesOf, checkLengthsOf, checkMemoryOf, checkTraceOf, checkBatch, startOf, runOn, traceRaysOf}
+use Rattle.trace.specs.Trace.{Batch, checkFlatOf, checkConfigOf, checkCountsOf, checkRulesOf, checkSceneOf, checkLengthsOf, checksWith, checkTraceOf, checkBatch, startOf, runOn, traceRaysOf}
 use Rattle.theorems_calls.specs.Parts.{Part, AllExact, noRays, joinedAll, Splits, traceParts}
 use Rattle.theorems_calls.specs.Calls.{Call, tracing, recording, refilter, memoryAfter}
 use Rattle.theorems_calls.specs.Book.{granted, checkHit, wishIn, bare, plainHit, bookGranted, bookAfter, Told}
@@ -103,11 +103,11 @@ abbrev pub calls : List Call
 calls = tracing batch ∷ recording recorded ∷ sifting ∷ tracing batch ∷ []
 
 one : bookGranted (bare memory) (wishIn (tracing batch)) [] ≡ done (traced ∷ [])
-unfolding granted wishIn bare runOn drive startOf emptyStackOf launchedOf launchedFrom givenAtOf readRayOf readMediaOf isLeft stepOn takenFrom loadOf takeStepOf interactOf nearestDetectorOf nearestAmong nearestFrom nearerOf isNearerOf sightFrom faceCountOf newFacesOf faceOf orthogonalOf faceIntersectRayOf acrossOf normalizeOf normOf dotOf crossOf minusOf plusOf scaleOf divideOf atOf closestObjectOf firstAheadOf meetsWith hitInOf refusalInOf stackAfter popped pushedIf plainHit judged cellIn cellOf placedOf firstPixelOf pixelsOf pixelAtOf indexAlongOf clampOf ofInt toUnsigned sharing capacity checkBatch checkTraceOf checkFlatOf checkSolidsOf checkTagsOf checkListsOf checkRulesOf checkConfigOf checkCountsOf checkMemoryOf checkDetectorsOf checkListOf checkDetectorOf checkGridOf isSizeOf isParallelOf checkLengthsOf areLengthsOf isHitListOf areHitsOf allPixelsOf isMemory findOf checkAsked checkRaysOf checkRayOf isValidRayOf validMediaOf allSolidsOf isFiniteRayOf isFiniteVecOf isFiniteOf absOf sqrtOf ofBits toBits add sub mul div neg lt le
+unfolding granted wishIn bare runOn drive startOf emptyStackOf launchedOf launchedFrom givenAtOf readRayOf readMediaOf isLeft stepOn takenFrom loadOf takeStepOf interactOf nearestDetectorOf nearestAmong nearestFrom nearerOf isNearerOf sightFrom faceCountOf newFacesOf faceOf orthogonalOf faceIntersectRayOf acrossOf normalizeOf normOf dotOf crossOf minusOf plusOf scaleOf divideOf atOf closestObjectOf firstAheadOf meetsWith hitInOf refusalInOf stackAfter popped pushedIf plainHit judged cellIn cellOf placedOf firstPixelOf pixelsOf pixelAtOf indexAlongOf clampOf ofInt toUnsigned sharing capacity checkBatch checkTraceOf checkFlatOf checkSolidsOf checkTagsOf checkListsOf checkRulesOf checkConfigOf checkCountsOf checkSceneOf checksWith checkDetectorsOf checkCountOf checkEachOf checkListOf checkDetectorOf checkGridOf isSizeOf isParallelOf checkLengthsOf areLengthsOf isHitListOf areHitsOf allPixelsOf isMemory findOf checkAsked checkRaysOf checkRayOf isValidRayOf validMediaOf allSolidsOf isFiniteRayOf isFiniteVecOf isFiniteOf absOf sqrtOf ofBits toBits add sub mul div neg lt le
 one = refl
 
 two : bookGranted (bare memory) (wishIn (recording recorded)) (traced ∷ []) ≡ done (traced ∷ recorded ∷ [])
-unfolding granted wishIn checkHit bare checkAsked placedOf checkDetectorsOf checkListOf checkDetectorOf checkGridOf isSizeOf isParallelOf isMemory areLengthsOf isHitListOf areHitsOf allPixelsOf firstPixelOf pixelsOf plainHit judged cellIn cellOf pixelAtOf indexAlongOf clampOf ofInt toUnsigned sharing capacity normalizeOf normOf dotOf divideOf isFiniteOf absOf sqrtOf ofBits toBits add sub mul div neg lt le
+unfolding granted wishIn checkHit bare checkAsked placedOf checkDetectorsOf checkCountOf checkEachOf checkListOf checkDetectorOf checkGridOf isSizeOf isParallelOf isMemory areLengthsOf isHitListOf areHitsOf allPixelsOf firstPixelOf pixelsOf plainHit judged cellIn cellOf pixelAtOf indexAlongOf clampOf ofInt toUnsigned sharing capacity normalizeOf normOf dotOf divideOf isFiniteOf absOf sqrtOf ofBits toBits add sub mul div neg lt le
 two = refl
 
 unasked : bookGranted (bare memory) (wishIn sifting) (traced ∷ recorded ∷ []) ≡ done (traced ∷ recorded ∷ [])
@@ -116,7 +116,7 @@ unasked = refl
 
 -- the last call ends because the list is full
 pub full : bookGranted (bare memory) (wishIn (tracing batch)) (traced ∷ recorded ∷ []) ≡ refused 12 0 (traced ∷ recorded ∷ [])
-unfolding granted wishIn bare runOn drive startOf emptyStackOf launchedOf launchedFrom givenAtOf readRayOf readMediaOf isLeft stepOn takenFrom loadOf takeStepOf interactOf nearestDetectorOf nearestAmong nearestFrom nearerOf isNearerOf sightFrom faceCountOf newFacesOf faceOf orthogonalOf faceIntersectRayOf acrossOf normalizeOf normOf dotOf crossOf minusOf plusOf scaleOf divideOf atOf closestObjectOf firstAheadOf meetsWith hitInOf refusalInOf stackAfter popped pushedIf plainHit judged cellIn cellOf placedOf firstPixelOf pixelsOf pixelAtOf indexAlongOf clampOf ofInt toUnsigned sharing capacity checkBatch checkTraceOf checkFlatOf checkSolidsOf checkTagsOf checkListsOf checkRulesOf checkConfigOf checkCountsOf checkMemoryOf checkDetectorsOf checkListOf checkDetectorOf checkGridOf isSizeOf isParallelOf checkLengthsOf areLengthsOf isHitListOf areHitsOf allPixelsOf isMemory findOf checkAsked checkRaysOf checkRayOf isValidRayOf validMediaOf allSolidsOf isFiniteRayOf isFiniteVecOf isFiniteOf absOf sqrtOf ofBits toBits add sub mul div neg lt le
+unfolding granted wishIn bare runOn drive startOf emptyStackOf launchedOf launchedFrom givenAtOf readRayOf readMediaOf isLeft stepOn takenFrom loadOf takeStepOf interactOf nearestDetectorOf nearestAmong nearestFrom nearerOf isNearerOf sightFrom faceCountOf newFacesOf faceOf orthogonalOf faceIntersectRayOf acrossOf normalizeOf normOf dotOf crossOf minusOf plusOf scaleOf divideOf atOf closestObjectOf firstAheadOf meetsWith hitInOf refusalInOf stackAfter popped pushedIf plainHit judged cellIn cellOf placedOf firstPixelOf pixelsOf pixelAtOf indexAlongOf clampOf ofInt toUnsigned sharing capacity checkBatch checkTraceOf checkFlatOf checkSolidsOf checkTagsOf checkListsOf checkRulesOf checkConfigOf checkCountsOf checkSceneOf checksWith checkDetectorsOf checkCountOf checkEachOf checkListOf checkDetectorOf checkGridOf isSizeOf isParallelOf checkLengthsOf areLengthsOf isHitListOf areHitsOf allPixelsOf isMemory findOf checkAsked checkRaysOf checkRayOf isValidRayOf validMediaOf allSolidsOf isFiniteRayOf isFiniteVecOf isFiniteOf absOf sqrtOf ofBits toBits add sub mul div neg lt le
 full = refl
 
 -- the book has both hits
@@ -146,7 +146,7 @@ splits =
     }
 
 passes : checkBatch batch memory ≡ passed tt
-unfolding checkBatch checkTraceOf checkFlatOf checkSolidsOf checkTagsOf checkListsOf checkRulesOf checkConfigOf checkCountsOf checkMemoryOf checkDetectorsOf checkListOf checkDetectorOf checkGridOf isSizeOf isParallelOf checkLengthsOf areLengthsOf isHitListOf areHitsOf allPixelsOf firstPixelOf pixelsOf checkRaysOf checkRayOf givenAtOf readRayOf readMediaOf isValidRayOf validMediaOf allSolidsOf isFiniteRayOf isFiniteVecOf isFiniteOf absOf sqrtOf normalizeOf normOf dotOf divideOf ofBits toBits add sub mul div neg lt le
+unfolding checkBatch checkTraceOf checkFlatOf checkSolidsOf checkTagsOf checkListsOf checkRulesOf checkConfigOf checkCountsOf checkSceneOf checksWith checkDetectorsOf checkCountOf checkEachOf checkListOf checkDetectorOf checkGridOf isSizeOf isParallelOf checkLengthsOf areLengthsOf isHitListOf areHitsOf allPixelsOf firstPixelOf pixelsOf checkRaysOf checkRayOf givenAtOf readRayOf readMediaOf isValidRayOf validMediaOf allSolidsOf isFiniteRayOf isFiniteVecOf isFiniteOf absOf sqrtOf normalizeOf normOf dotOf divideOf ofBits toBits add sub mul div neg lt le
 passes = refl
 
 pub split-example : traceParts batch parts memory ≡ traceRaysOf batch memory .outcome

@@ -17,13 +17,14 @@ use Rattle.faces.specs.declared.Faces.{Faces}
 use Rattle.faces.specs.Faces.{newFacesOf, faceCountOf}
 use Rattle.step.specs.Rays.{listedScene}
 use Rattle.run.specs.Run.{Run, drive}
-use Rattle.trace.specs.Trace.{Batch, raysIn, allSteps, startOf, sceneIn, runOn, checkLengthsOf, checkMemoryOf, checkTraceOf, checkBatch, traceAfter, traceRaysOf}
+use Rattle.trace.specs.Trace.{Batch, raysIn, allSteps, startOf, sceneIn, runOn, checkLengthsOf, checkBatch, traceAfter, traceRaysOf}
+use Rattle.trace.proofs.Pieces.{same-checks}
 use Rattle.theorems_calls.specs.Calls.{Call, tracing, recording, refilter, part, irradiance, crossing, area, outcomeIn}
 use Rattle.theorems_calls.specs.Book.{bareDetectors, bare, withUsed, Wish, granted, checkHit, noWish, wishIn}
 use Rattle.theorems_calls.proofs.Drives.{Brought, mapRun, map-drive}
 use Rattle.theorems_calls.proofs.Sights.{brought-there}
-use Rattle.theorems_calls.proofs.Checks.{Passes, passes, said, same-lengths}
-use Rattle.theorems_calls.proofs.Bare.{bare-checks, bare-asked, bare-all, bare-faces, bare-flux, bare-counts, bare-values, bare-tags, bare-detectors, bare-memory}
+use Rattle.theorems_calls.proofs.Checks.{Passes, passes, said}
+use Rattle.theorems_calls.proofs.Bare.{bare-each, bare-asked, bare-all, bare-faces, bare-flux, bare-counts, bare-values, bare-tags, bare-detectors, bare-memory}
 
 pub record Lawful (w : Wish) : Type 1 where
   -- the hits that it can bring with these detectors
@@ -54,10 +55,6 @@ shown-all n k = rw (le-leb n 8 k)
 
 -- ---- a tracing
 
-same-all : (B : Batch) (ds es : Detectors) (nf nh nv nt u : ℕ) → checkDetectorsOf es ≡ checkDetectorsOf ds → allPixelsOf es ≡ allPixelsOf ds → checkTraceOf B es nf nh nv nt u ≡ checkTraceOf B ds nf nh nv nt u
-unfolding checkTraceOf checkMemoryOf
-same-all B ds es nf nh nv nt u e f = rw (e, same-lengths ds es nf nh nv nt u f)
-
 lengths-held : (m : Memory) → checkLengthsOf (m .detectors) (length (m .flux)) (length (m .hits)) (length (m .hitValues)) (length (m .hitTags)) (m .used) ≡ passed tt → isMemory m ≡ true
 unfolding isMemory checkLengthsOf
 lengths-held m e = said _ 9 0 e
@@ -67,7 +64,7 @@ module _ (B : Batch) where
   unfolding checkBatch
   batch-blind m =
       rw (bare-detectors m, bare-flux m, bare-counts m, bare-values m, bare-tags m)
-      (same-all B (m .detectors) (bareDetectors (m .detectors)) (length (m .flux)) (length (m .hits)) (length (m .hitValues)) (length (m .hitTags)) (m .used) (bare-checks (m .detectors)) (bare-all (m .detectors)))
+      (same-checks B (m .detectors) (bareDetectors (m .detectors)) (length (m .flux)) (length (m .hits)) (length (m .hitValues)) (length (m .hitTags)) (m .used) refl (bare-each (m .detectors)) (bare-all (m .detectors)))
 
   abbrev ranWith : {M : Type 0} → (M → DetectorHit → Outcome M) → M → Faces → Run M
   ranWith put m fs = drive put (listedScene (B .solidValues) (B .solidTags) (B .solids) fs (B .config)) (raysIn B) allSteps m (startOf (raysIn B) (B .rays))

@@ -13,12 +13,13 @@ use Rattle.scene.specs.Solids.{tagsFitOf, checkTagsOf, checkSolidsOf}
 use Rattle.detector.specs.declared.Detector2D.{Detector2D}
 use Rattle.detector.specs.Checks.{maxRes, isSizeOf, isParallelOf, checkGridOf, checkDetectorOf}
 use Rattle.detectors.specs.declared.Detectors.{Detectors}
-use Rattle.detectors.specs.Detectors.{maxDetectors, detectorAt, checkListOf, checkDetectorsOf}
+use Rattle.detectors.specs.Detectors.{maxDetectors, detectorAt, checkCountOf, checkListOf, checkEachOf}
 use Rattle.memory.specs.Memory.{Memory, areLengthsOf}
 use Rattle.step.specs.declared.NonSeqTraceConfig.{NonSeqTraceConfig}
 use Rattle.step.specs.declared.ActiveRay.{ActiveRay}
 use Rattle.given_rays.specs.Given.{validMediaOf, checkListsOf, checkRayOf, checkRaysOf}
-use Rattle.trace.specs.Trace.{Batch, raysIn, checkFlatOf, checkConfigOf, checkCountsOf, checkRulesOf, checkLengthsOf, checkMemoryOf, checkTraceOf, checkBatch}
+use Rattle.trace.specs.Trace.{Batch, raysIn, checkFlatOf, checkConfigOf, checkCountsOf, checkLengthsOf, checkBatch}
+use Rattle.trace.proofs.Pieces.{of-all}
 
 -- 1 to 11 and 17
 abbrev pub isEarly : ℕ → Bool
@@ -61,9 +62,9 @@ config-early : (g : NonSeqTraceConfig) → early (checkConfigOf g) ≡ true
 unfolding checkConfigOf
 config-early g = if-early (isFiniteOf (g .«min_power_threshold») && le #0 (g .«min_power_threshold»)) _ _ (if-early (leb (g .«max_bounces») 16) _ _ well (bad 2 0 refl)) (bad 1 0 refl)
 
-counts-early : (solids rays : ℕ) → early (checkCountsOf solids rays) ≡ true
-unfolding checkCountsOf
-counts-early solids rays = if-early (leb solids 32 && leb rays 4096) _ _ well (bad 3 0 refl)
+counts-early : (solids rays detectors : ℕ) → early (checkCountsOf solids rays detectors) ≡ true
+unfolding checkCountsOf checkCountOf
+counts-early solids rays detectors = if-early (leb solids 32 && leb rays 4096) _ _ (if-early (leb detectors maxDetectors) _ _ well (bad 3 0 refl)) (bad 3 0 refl)
 
 detector-early : (d : Detector2D) (place : ℕ) → early (checkDetectorOf d place) ≡ true
 unfolding checkDetectorOf checkGridOf
@@ -78,9 +79,9 @@ unfolding checkListOf
 from-early l zero i = well
 from-early l (suc n) i = after-early _ _ (detector-early (detectorAt l i) i) (from-early l n (i + 1))
 
-detectors-early : (ds : Detectors) → early (checkDetectorsOf ds) ≡ true
-unfolding checkDetectorsOf
-detectors-early ds = if-early (leb (ds .count) maxDetectors) _ _ (from-early (ds .list) (ds .count) 0) (bad 3 0 refl)
+each-early : (ds : Detectors) → early (checkEachOf ds) ≡ true
+unfolding checkEachOf
+each-early ds = if-early (leb (ds .count) maxDetectors) _ _ (from-early (ds .list) (ds .count) 0) well
 
 lengths-early : (ds : Detectors) (nf nh nv nt used : ℕ) → early (checkLengthsOf ds nf nh nv nt used) ≡ true
 unfolding checkLengthsOf
@@ -92,11 +93,9 @@ rays-early given solids zero i = well
 rays-early given solids (suc n) i = after-early _ _ (if-early (isValidRayOf (given i .ray)) _ _ (if-early (validMediaOf (given i .media) solids) _ _ well (bad 11 i refl)) (bad 10 i refl)) (rays-early given solids n (i + 1))
 
 all-early : (B : Batch) (s : Memory) → early (checkBatch B s) ≡ true
-unfolding checkBatch checkTraceOf checkRulesOf checkMemoryOf
 all-early B s =
-    after-early _ _ (flat-early B)
-    (after-early _ _ (after-early _ _ (config-early (B .config)) (counts-early (B .solids) (B .rays)))
-    (after-early _ _ (after-early _ _ (detectors-early (s .detectors)) (lengths-early (s .detectors) _ _ _ _ _)) (rays-early (raysIn B) (B .solids) (B .rays) 0)))
+    of-all (λ (c : Checked Unit). early c ≡ true) after-early B s (flat-early B) (config-early (B .config)) (counts-early (B .solids) (B .rays) (s .detectors .count))
+    (each-early (s .detectors)) (lengths-early (s .detectors) _ _ _ _ _) (rays-early (raysIn B) (B .solids) (B .rays) 0)
 
 pub check-refuses : (B : Batch) (s : Memory) (n place : ℕ) → checkBatch B s ≡ refusedAt n place → isEarly n ≡ true
 unfolding early

@@ -7,11 +7,9 @@ use native.Mathlib.Nat.{add-zero, zero-add}
 use lib.Dec.{leb}
 use borrow.Author.Tests.{leb-true}
 use lib.Ieee.{le}
-use lib.ListN.{length}
 use Rattle.doubles.specs.Doubles.{isFiniteOf, #0}
-use Rattle.error.specs.Refusals.{Checked, passed, refusedAt, after}
+use Rattle.error.specs.Refusals.{Checked, passed, refusedAt}
 use Rattle.rays.specs.Rays.{isValidRayOf}
-use Rattle.detectors.specs.Detectors.{checkDetectorsOf}
 use Rattle.media.specs.declared.Media.{Media}
 use Rattle.memory.specs.Memory.{Memory, Outcome, done, refused, recordOf}
 use Rattle.step.specs.declared.ActiveRay.{ActiveRay}
@@ -20,11 +18,11 @@ use Rattle.report.specs.declared.tallies.Tallies.{Tallies}
 use Rattle.report.specs.Report.{startReportOf}
 use Rattle.given_rays.specs.Given.{validMediaOf, checkRayOf, checkRaysOf}
 use Rattle.run.specs.Run.{isLeft}
-use Rattle.trace.specs.Trace.{Batch, raysIn, checkFlatOf, checkConfigOf, checkCountsOf, checkRulesOf, checkMemoryOf, checkTraceOf, checkBatch, runOn, traceAfter, traceRaysOf}
+use Rattle.trace.specs.Trace.{Batch, raysIn, checkConfigOf, checkBatch, runOn, traceAfter, traceRaysOf}
+use Rattle.trace.proofs.Pieces.{passes as pieces-of}
 use Rattle.theorems_runs.proofs.Bred.{pick, false-true}
 use Rattle.theorems_runs.proofs.Tracings.{enough, bound}
 use Rattle.theorems_runs.proofs.Balance.{balance, balance-met}
-use Rattle.doubles.proofs.Floats.{and-right}
 use Rattle.detectors.proofs.Passed.{both-passed}
 
 abbrev isPassed : {A : Type 0} → Checked A → Bool
@@ -40,12 +38,6 @@ config-lim g =
     pick (λ (c : Checked Unit). (c ≡ passed tt → g .«max_bounces» ≤ 16)) (isFiniteOf (g .«min_power_threshold») && le #0 (g .«min_power_threshold»))
     (λ q. pick (λ (c : Checked Unit). (c ≡ passed tt → g .«max_bounces» ≤ 16)) (leb (g .«max_bounces») 16) (λ z e. leb-true (g .«max_bounces») 16 z) (λ z e. not-passed 2 0 tt e))
     (λ q e. not-passed 1 0 tt e)
-
-pub counts-few : (solids rays : ℕ) → checkCountsOf solids rays ≡ passed tt → rays ≤ 4096
-unfolding checkCountsOf
-counts-few solids rays =
-    pick (λ (c : Checked Unit). (c ≡ passed tt → rays ≤ 4096)) (leb solids 32 && leb rays 4096)
-    (λ q e. leb-true rays 4096 (and-right (leb solids 32) (leb rays 4096) q)) (λ q e. not-passed 3 0 tt e)
 
 media-deep : (m : Media) (solids : ℕ) → validMediaOf m solids ≡ true → m .depth ≤ 8
 unfolding validMediaOf
@@ -75,16 +67,12 @@ pub record Fit (B : Batch) : Type 0 where
   pub deep : (i : ℕ) → i < B .rays → raysIn B i .media .depth ≤ 8
 
 pub fit : (B : Batch) (s : Memory) → checkBatch B s ≡ passed tt → Fit B
-unfolding checkBatch checkTraceOf checkRulesOf
 fit B s e =
-    let e1 = both-passed tt (checkFlatOf B) _ e in
-    let e2 = both-passed tt (checkRulesOf (B .config) (B .solids) (B .rays)) _ (e1 .1) in
-    let e3 = both-passed tt (checkConfigOf (B .config)) (checkCountsOf (B .solids) (B .rays)) (e2 .0) in
-    let e4 = both-passed tt (checkMemoryOf (s .detectors) (length (s .flux)) (length (s .hits)) (length (s .hitValues)) (length (s .hitTags)) (s .used)) (checkRaysOf (raysIn B) (B .solids) (B .rays) 0) (e2 .1) in
+    let p = pieces-of B s e in
     record {
-      limit = config-lim (B .config) (e3 .0);
-      few = counts-few (B .solids) (B .rays) (e3 .1);
-      deep = λ i q. rw zero-add at (rays-deep (raysIn B) (B .solids) (B .rays) 0 i (e4 .1) q);
+      limit = config-lim (B .config) (p .config);
+      few = p .few-rays;
+      deep = λ i q. rw zero-add at (rays-deep (raysIn B) (B .solids) (B .rays) 0 i (p .rays) q);
     }
 
 -- ---- every tracing

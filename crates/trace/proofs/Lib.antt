@@ -1,2 +1,3 @@
 -- What holds of the definitions.
+pub mod Pieces
 pub mod Calls

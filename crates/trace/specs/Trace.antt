@@ -9,7 +9,7 @@ use Rattle.doubles.specs.Doubles.{isFiniteOf, #0}
 use Rattle.error.specs.Refusals.{Checked, passed, refusedAt, after}
 use Rattle.scene.specs.Solids.{checkSolidsOf, maxSolids}
 use Rattle.detectors.specs.declared.Detectors.{Detectors}
-use Rattle.detectors.specs.Detectors.{checkDetectorsOf}
+use Rattle.detectors.specs.Detectors.{checkCountOf, checkEachOf}
 use Rattle.detector.specs.declared.DetectorHit.{DetectorHit}
 use Rattle.memory.specs.Memory.{Memory, lentMemory, Outcome, refused, asOutcome, areLengthsOf, recordOf}
 use Rattle.faces.specs.Faces.{newFacesOf}
@@ -60,27 +60,32 @@ checkConfigOf g =
     (cond (leb (g .«max_bounces») maxBounces) (passed tt) (refusedAt 2 0))
     (refusedAt 1 0)
 
--- 3 for solids and rays
-unfoldable pub checkCountsOf : ℕ → ℕ → Checked Unit
-checkCountsOf solids rays = cond (leb solids maxSolids && leb rays maxRays) (passed tt) (refusedAt 3 0)
+-- 3 for solids, rays and detectors
+unfoldable pub checkCountsOf : ℕ → ℕ → ℕ → Checked Unit
+checkCountsOf solids rays detectors =
+    cond (leb solids maxSolids && leb rays maxRays) (checkCountOf detectors) (refusedAt 3 0)
 
-unfoldable pub checkRulesOf : NonSeqTraceConfig → ℕ → ℕ → Checked Unit
-checkRulesOf g solids rays = after (checkConfigOf g) (checkCountsOf solids rays)
+-- 1, 2, 3
+unfoldable pub checkRulesOf : NonSeqTraceConfig → ℕ → ℕ → ℕ → Checked Unit
+checkRulesOf g solids rays detectors = after (checkConfigOf g) (checkCountsOf solids rays detectors)
+
+-- what comes before 9: 17, 1, 2, 3, then 5 to 8 of each detector
+unfoldable pub checkSceneOf : Batch → Detectors → Checked Unit
+checkSceneOf B ds =
+    after (checkFlatOf B) (after (checkRulesOf (B .config) (B .solids) (B .rays) (ds .count)) (checkEachOf ds))
 
 -- 9; nf, nh, nv and nt are the lengths of the memory's slices
 unfoldable pub checkLengthsOf : Detectors → ℕ → ℕ → ℕ → ℕ → ℕ → Checked Unit
 checkLengthsOf ds nf nh nv nt used = cond (areLengthsOf ds nf nh nv nt used) (passed tt) (refusedAt 9 0)
 
--- 3 for detectors, 5 to 8 of each, then 9
-unfoldable pub checkMemoryOf : Detectors → ℕ → ℕ → ℕ → ℕ → ℕ → Checked Unit
-checkMemoryOf ds nf nh nv nt used = after (checkDetectorsOf ds) (checkLengthsOf ds nf nh nv nt used)
+-- all, the rays in list order (10, 11) last; `nine` stands in the place of 9: passed where no memory is lent
+unfoldable pub checksWith : Checked Unit → Batch → Detectors → Checked Unit
+checksWith nine B ds =
+    after (checkSceneOf B ds) (after nine (checkRaysOf (raysIn B) (B .solids) (B .rays) 0))
 
--- 17, 1, 2, 3, the detectors, 9, the rays in list order (10, 11)
+-- 17, 1, 2, 3, the detectors, 9, the rays
 unfoldable pub checkTraceOf : Batch → Detectors → ℕ → ℕ → ℕ → ℕ → ℕ → Checked Unit
-checkTraceOf B ds nf nh nv nt used =
-    after (checkFlatOf B)
-    (after (checkRulesOf (B .config) (B .solids) (B .rays))
-    (after (checkMemoryOf ds nf nh nv nt used) (checkRaysOf (raysIn B) (B .solids) (B .rays) 0)))
+checkTraceOf B ds nf nh nv nt used = checksWith (checkLengthsOf ds nf nh nv nt used) B ds
 
 unfoldable pub checkBatch : Batch → Memory → Checked Unit
 checkBatch B s =

@@ -7,7 +7,7 @@ use scene::MAX_SOLIDS;
 use step::NonSeqTraceConfig;
 ghost use mathlib.Core.Path.{_≡_};
 ghost use Rattle.error.specs.Refusals.{asChecked};
-ghost use Rattle.trace.specs.Trace.{lentBatch, checkFlatOf, checkConfigOf, checkCountsOf, checkRulesOf, checkLengthsOf, checkMemoryOf, checkTraceOf};
+ghost use Rattle.trace.specs.Trace.{lentBatch, checkFlatOf, checkConfigOf, checkCountsOf, checkRulesOf, checkSceneOf, checkLengthsOf, checkTraceOf};
 
 // Lists of solids or rays that do not fit (17).
 fn check_flat(
@@ -52,13 +52,13 @@ fn check_config(config: NonSeqTraceConfig) -> Check
     }
 }
 
-// At most 32 solids and 4,096 rays (3).
-fn check_counts(count: u32, given: u32) -> Check
-    ensures { λ r. ⌜ asChecked r ≡ checkCountsOf count given ⌝ }
+// At most 32 solids, 4,096 rays and 8 detectors (3).
+fn check_counts(count: u32, given: u32, detectors: u32) -> Check
+    ensures { λ r. ⌜ asChecked r ≡ checkCountsOf count given detectors ⌝ }
 {
     if count <= MAX_SOLIDS {
         if given <= MAX_RAYS {
-            return Check::Passed;
+            return Detectors::check_count(detectors);
         }
     }
     Check::Refused {
@@ -67,11 +67,41 @@ fn check_counts(count: u32, given: u32) -> Check
     }
 }
 
-fn check_rules(config: NonSeqTraceConfig, count: u32, given: u32) -> Check
-    ensures { λ r. ⌜ asChecked r ≡ checkRulesOf config count given ⌝ }
+fn check_rules(config: NonSeqTraceConfig, count: u32, given: u32, detectors: u32) -> Check
+    ensures { λ r. ⌜ asChecked r ≡ checkRulesOf config count given detectors ⌝ }
 {
     match check_config(config) {
-        Check::Passed => check_counts(count, given),
+        Check::Passed => check_counts(count, given, detectors),
+        Check::Refused { error, place } => Check::Refused { error, place },
+    }
+}
+
+// What comes before the memory's slices: the lists (17), the rules (1, 2), the numbers (3), each detector (5 to 8).
+fn check_scene(
+    config: NonSeqTraceConfig,
+    solid_values: &[f64],
+    solid_tags: &[u32],
+    count: u32,
+    ray_values: &[f64],
+    ray_tags: &[u32],
+    given: u32,
+    detectors: Detectors,
+) -> Check
+    ensures { λ r. ⌜ asChecked r ≡ checkSceneOf (lentBatch config (now («solid_values» .entry)) (now («solid_tags» .entry)) count (now («ray_values» .entry)) (now («ray_tags» .entry)) given) detectors ⌝ }
+{
+    match check_flat(
+        config,
+        solid_values,
+        solid_tags,
+        count,
+        ray_values,
+        ray_tags,
+        given,
+    ) {
+        Check::Passed => match check_rules(config, count, given, detectors.count) {
+            Check::Passed => detectors.check_each(),
+            Check::Refused { error, place } => Check::Refused { error, place },
+        },
         Check::Refused { error, place } => Check::Refused { error, place },
     }
 }
@@ -96,23 +126,7 @@ fn check_lengths(
     }
 }
 
-fn check_memory(
-    detectors: Detectors,
-    flux: usize,
-    hits: usize,
-    hit_values: usize,
-    hit_tags: usize,
-    used: usize,
-) -> Check
-    ensures { λ r. ⌜ asChecked r ≡ checkMemoryOf detectors flux hits «hit_values» «hit_tags» used ⌝ }
-{
-    match detectors.check() {
-        Check::Passed => check_lengths(detectors, flux, hits, hit_values, hit_tags, used),
-        Check::Refused { error, place } => Check::Refused { error, place },
-    }
-}
-
-// All checks of a tracing; flux, hits, places and kinds are the lengths of the memory's slices.
+// All checks of a tracing; flux, hits, hit_values and hit_tags are the lengths of the memory's slices.
 pub fn check_trace(
     config: NonSeqTraceConfig,
     solid_values: &[f64],
@@ -130,7 +144,7 @@ pub fn check_trace(
 ) -> Check
     ensures { λ r. ⌜ asChecked r ≡ checkTraceOf (lentBatch config (now («solid_values» .entry)) (now («solid_tags» .entry)) count (now («ray_values» .entry)) (now («ray_tags» .entry)) given) detectors flux hits «hit_values» «hit_tags» used ⌝ }
 {
-    match check_flat(
+    match check_scene(
         config,
         solid_values,
         solid_tags,
@@ -138,12 +152,10 @@ pub fn check_trace(
         ray_values,
         ray_tags,
         given,
+        detectors,
     ) {
-        Check::Passed => match check_rules(config, count, given) {
-            Check::Passed => match check_memory(detectors, flux, hits, hit_values, hit_tags, used) {
-                Check::Passed => given_rays::check_rays(ray_values, ray_tags, given, count),
-                Check::Refused { error, place } => Check::Refused { error, place },
-            },
+        Check::Passed => match check_lengths(detectors, flux, hits, hit_values, hit_tags, used) {
+            Check::Passed => given_rays::check_rays(ray_values, ray_tags, given, count),
             Check::Refused { error, place } => Check::Refused { error, place },
         },
         Check::Refused { error, place } => Check::Refused { error, place },

@@ -2,7 +2,7 @@
 use borrow.Author.Tests.{lt-ltb, le-ltb}
 use Rattle.detectors.specs.Detectors.{checkAsked, findOf}
 use native.Mathlib.Omega.{arith}
-use Rattle.detectors.proofs.Lists.{count-most}
+use Rattle.detectors.proofs.Passed.{count-most}
 use borrow.Author.Needs.{needs}
 use Rattle.detectors.proofs.Detectors.find.Statement.{statement}
 use Rattle.detectors.proofs.Detectors.find.Tie as tie
