@@ -1,6 +1,8 @@
--- A memory, a detector and a list of calls that meet every hypothesis and have hits in them: document 01's scene traced, a hit recorded, a filter, and the scene again, for which the list has no room.
+-- A memory, a detector and a list of calls that meet every hypothesis and have hits in them: document 01's scene traced, a hit recorded, a filter, and the scene again, for which the list has no room. And a batch in parts of which one is refused.
+use Prim.Native.Nat.{ℕ, zero, suc, _*_, _<_}
 use mathlib.Core.Path.{_≡_, refl, ap, subst, _∙_}
-use mathlib.Core.List.{List, [], _∷_}
+use mathlib.Core.List.{List, [], _∷_, _++_}
+use native.Mathlib.Omega.{arith}
 use lib.Ieee.{Float, nan, binary64, add, sub, mul, div, neg, lt, le, ofBits, toBits, ofInt, toUnsigned}
 use lib.ListN.{length, replicate, getD-replicate}
 use Rattle.doubles.specs.Doubles.{absOf, clampOf, isFiniteOf, #0, #1, #4, #10}
@@ -16,22 +18,23 @@ use Rattle.detector.specs.declared.Detector2D.{Detector2D}
 use Rattle.detector.specs.Checks.{isSizeOf, isParallelOf, checkGridOf, checkDetectorOf}
 use Rattle.detector.specs.Faces.{orthogonalOf, faceOf, acrossOf, faceIntersectRayOf}
 use Rattle.detector.specs.Pixels.{indexAlongOf, pixelsOf, pixelAtOf}
-use Rattle.detectors.specs.Detectors.{noDetector, firstPixelOf, allPixelsOf, checkCountOf, checkListOf, checkEachOf, checkDetectorsOf, checkCountOf, checkEachOf, checkAsked, placedOf, findOf}
+use Rattle.detectors.specs.Detectors.{noDetector, detectorAt, firstPixelOf, allPixelsOf, checkListOf, checkDetectorsOf, checkCountOf, checkEachOf, checkAsked, placedOf, findOf}
 use Rattle.detector.specs.declared.DetectorHit.{DetectorHit}
-use Rattle.memory.specs.Memory.{Memory, done, refused, memoryLeft, judged, cellOf, cellIn, capacity, isHitListOf, areHitsOf, areLengthsOf, isMemory}
-use Rattle.memory.specs.Plain.{Empty, sharing}
+use Rattle.memory.specs.Memory.{Memory, hitDoubles, hitWholes, done, refused, memoryLeft, judged, cellOf, cellIn, capacity, isHitListOf, areHitsOf, areLengthsOf, isMemory}
+use Rattle.memory.specs.Plain.{Empty, sharing, added}
+use Rattle.memory.proofs.Plain.{mapOutcome}
 use Rattle.filter.specs.declared.RayPathFilter.the-variants.{GhostsOnly}
 use Rattle.faces.specs.Faces.{newFacesOf, sightFrom, faceCountOf, nearestDetectorOf}
 use Rattle.step.specs.Steps.{firstAheadOf, meetsWith, interactOf, takeStepOf}
 use Rattle.given_rays.specs.Given.{readRayOf, readMediaOf, givenAtOf, checkListsOf, allSolidsOf, validMediaOf, checkRayOf, checkRaysOf, launchedFrom, launchedOf}
 use Rattle.run.specs.Stack.{emptyStackOf, loadOf, takenFrom, pushedIf, popped, stackAfter}
 use Rattle.run.specs.Run.{hitInOf, refusalInOf, isLeft, stepOn, drive}
-use Rattle.trace.specs.Trace.{Batch, checkFlatOf, checkConfigOf, checkCountsOf, checkRulesOf, checkSceneOf, checkLengthsOf, checksWith, checkTraceOf, checkBatch, startOf, runOn, traceRaysOf}
-use Rattle.theorems_calls.specs.Parts.{Part, AllExact, noRays, joinedAll, Splits, traceParts}
-use Rattle.theorems_calls.specs.Calls.{Call, tracing, recording, refilter, memoryAfter}
+use Rattle.trace.specs.Trace.{Batch, checkFlatOf, checkConfigOf, checkCountsOf, checkRulesOf, checkLengthsOf, checkSceneOf, checksWith, checkTraceOf, checkBatch, startOf, runOn}
+use Rattle.theorems_calls.specs.Parts.{Part, Exact, AllExact, noRays, joinedAll, withRays, Splits, traceParts}
+use Rattle.theorems_calls.specs.Calls.{Call, tracing, recording, refilter, outcomeIn, memoryAfter}
 use Rattle.theorems_calls.specs.Book.{granted, checkHit, wishIn, bare, plainHit, bookGranted, bookAfter, Told}
 use Rattle.theorems_calls.proofs.Split.{split}
-use Rattle.theorems_calls.proofs.Lists.{told}
+use Rattle.theorems_calls.proofs.Lists.{call-booked, told}
 
 abbrev #550 : Float
 #550 = ofBits binary64 0x4081300000000000
@@ -50,30 +53,42 @@ detector =
       «total_rays_hit» = 0;
     }
 
--- two by two pixels, room for two hits
-abbrev pub memory : Memory
-memory =
+-- two by two pixels, room for n hits; the seven array places behind the detector are unset
+abbrev roomFor : ℕ → Memory
+roomFor n =
     record {
-      detectors = record { list = replicate 8 detector; count = 1 };
+      detectors = record { list = detector ∷ replicate 7 noDetector; count = 1 };
       flux = replicate 4 #0;
       hits = replicate 4 0;
-      hitValues = replicate 8 nan;
-      hitTags = replicate 8 7;
+      hitValues = replicate (hitDoubles * n) nan;
+      hitTags = replicate (hitWholes * n) 7;
       used = 0;
     }
+
+first-empty : {A : Type 0} (g : Detector2D → A) (d : ℕ) → d < 1 → g (detectorAt (detector ∷ replicate 7 noDetector) d) ≡ g detector
+first-empty g zero k = refl
+first-empty g (suc d) k = absurd (omega arith)
+
+room-empty : (n : ℕ) → Empty (roomFor n)
+room-empty n =
+    record {
+      used = refl;
+      flux = λ p k. getD-replicate 4 p #0 nan k;
+      hits = λ p k. getD-replicate 4 p 0 0 k;
+      totals = λ d k q. first-empty (λ (e : Detector2D). e .«total_flux_watts») d k;
+      counts = λ d k q. first-empty (λ (e : Detector2D). e .«total_rays_hit») d k;
+    }
+
+-- ---- a list of calls, with room for two hits
+
+abbrev pub memory : Memory
+memory = roomFor 2
 
 pub eight : length (memory .detectors .list) ≡ 8
 eight = refl
 
 pub empty : Empty memory
-empty =
-    record {
-      used = refl;
-      flux = λ p k. getD-replicate 4 p #0 nan k;
-      hits = λ p k. getD-replicate 4 p 0 0 k;
-      totals = λ d n k. ap (λ (e : Detector2D). e .«total_flux_watts») (getD-replicate 8 d detector noDetector k);
-      counts = λ d n k. ap (λ (e : Detector2D). e .«total_rays_hit») (getD-replicate 8 d detector noDetector k);
-    }
+empty = room-empty 2
 
 -- no solids, one ray from (1, 1, 0) along z
 abbrev batch : Batch
@@ -132,22 +147,35 @@ listed =
 pub example : Told memory (memoryAfter calls memory) (traced ∷ recorded ∷ [])
 example = subst (Told memory (memoryAfter calls memory)) listed (told memory eight empty calls)
 
--- ---- and the batch in three parts, two of them empty
+-- ---- three rays in parts of one, and an empty part, with room for one hit: the last ray fills the list, the one before it
+-- is refused by 12 at its place in the batch, the first is not traced
+
+abbrev ray : Float → Part
+ray x = record { rayValues = x ∷ x ∷ #0 ∷ #0 ∷ #0 ∷ #1 ∷ #550 ∷ #1 ∷ []; rayTags = replicate 10 0; rays = 1 }
 
 abbrev parts : List Part
-parts = noRays ∷ record { rayValues = batch .rayValues; rayTags = batch .rayTags; rays = 1 } ∷ noRays ∷ []
+parts = ray #0 ∷ ray #0 ∷ noRays ∷ ray #1 ∷ []
 
-splits : Splits batch parts
+abbrev three : Batch
+three = withRays batch (record { rayValues = ray #0 .rayValues ++ ray #0 .rayValues ++ ray #1 .rayValues; rayTags = replicate 30 0; rays = 3 })
+
+abbrev exact : (x : Float) → Exact (ray x)
+exact x = record { rayValues = refl; rayTags = refl }
+
+splits : Splits three parts
 unfolding joinedAll AllExact
-splits =
-    record {
-      exact = (record { rayValues = refl; rayTags = refl }, (record { rayValues = refl; rayTags = refl }, (record { rayValues = refl; rayTags = refl }, tt)));
-      whole = refl;
-    }
+splits = record { exact = (exact #0, (exact #0, (record { rayValues = refl; rayTags = refl }, (exact #1, tt)))); whole = refl }
 
-passes : checkBatch batch memory ≡ passed tt
+passes : checkBatch three (roomFor 1) ≡ passed tt
 unfolding checkBatch checkTraceOf checkFlatOf checkSolidsOf checkTagsOf checkListsOf checkRulesOf checkConfigOf checkCountsOf checkSceneOf checksWith checkDetectorsOf checkCountOf checkEachOf checkListOf checkDetectorOf checkGridOf isSizeOf isParallelOf checkLengthsOf areLengthsOf isHitListOf areHitsOf allPixelsOf firstPixelOf pixelsOf checkRaysOf checkRayOf givenAtOf readRayOf readMediaOf isValidRayOf validMediaOf allSolidsOf isFiniteRayOf isFiniteVecOf isFiniteOf absOf sqrtOf normalizeOf normOf dotOf divideOf ofBits toBits add sub mul div neg lt le
 passes = refl
 
-pub split-example : traceParts batch parts memory ≡ traceRaysOf batch memory .outcome
-split-example = split batch parts memory splits passes
+refused-second : bookGranted (bare (roomFor 1)) (wishIn (tracing three)) [] ≡ refused 12 1 (traced ∷ [])
+unfolding granted wishIn bare runOn drive startOf emptyStackOf launchedOf launchedFrom givenAtOf readRayOf readMediaOf isLeft stepOn takenFrom loadOf takeStepOf interactOf nearestDetectorOf nearestAmong nearestFrom nearerOf isNearerOf sightFrom faceCountOf newFacesOf faceOf orthogonalOf faceIntersectRayOf acrossOf normalizeOf normOf dotOf crossOf minusOf plusOf scaleOf divideOf atOf closestObjectOf firstAheadOf meetsWith hitInOf refusalInOf stackAfter popped pushedIf plainHit judged cellIn cellOf placedOf firstPixelOf pixelsOf pixelAtOf indexAlongOf clampOf ofInt toUnsigned sharing capacity checkBatch checkTraceOf checkFlatOf checkSolidsOf checkTagsOf checkListsOf checkRulesOf checkConfigOf checkCountsOf checkSceneOf checksWith checkDetectorsOf checkCountOf checkEachOf checkListOf checkDetectorOf checkGridOf isSizeOf isParallelOf checkLengthsOf areLengthsOf isHitListOf areHitsOf allPixelsOf isMemory findOf checkAsked checkRaysOf checkRayOf isValidRayOf validMediaOf allSolidsOf isFiniteRayOf isFiniteVecOf isFiniteOf absOf sqrtOf ofBits toBits add sub mul div neg lt le
+refused-second = refl
+
+pub split-example : traceParts three parts (roomFor 1) ≡ refused 12 1 (added (roomFor 1) (traced ∷ []))
+unfolding outcomeIn added
+split-example =
+    split three parts (roomFor 1) splits passes ∙ call-booked (roomFor 1) refl (room-empty 1) (tracing three) []
+    ∙ ap (mapOutcome (added (roomFor 1))) refused-second
