@@ -51,7 +51,7 @@ unfoldable pub ledgerAfterOf : Ledger → Float → End → Bool → Bool → Le
 ledgerAfterOf l power dim made also = absorbOf l power
 ledgerAfterOf l power spent made also = absorbOf l power
 ledgerAfterOf l power gone made also = escapeOf l power
-ledgerAfterOf l power (caught h) made also = detectOf l power
+ledgerAfterOf l power (caught h) made also = detectOf l (h .«flux_watts»)
 ledgerAfterOf l power (met m) made also = ledgerMetOf l m made also
 ledgerAfterOf l power (refusing n) made also = l
 
@@ -122,22 +122,20 @@ addSurfaceOf t made also weak faint =
       weak = moreIfOf faint (moreIfOf weak (t .weak));
     }
 
--- whether the threshold left the first ray unmade
-unfoldable pub weakOf : Meeting → Bool → Bool
-weakOf (stopped x) made = false
-weakOf (parted r t total) made = cond made false true
+-- whether the threshold left the second ray unmade: the missing one of a radicand at most 0 isn't weak
+unfoldable pub faintOf : Bool → Bool → Bool
+faintOf total also = cond total false (cond also false true)
 
--- whether it left the second one unmade: the missing one of a radicand at most 0 isn't weak
-unfoldable pub faintOf : Meeting → Bool → Bool
-faintOf (stopped x) also = false
-faintOf (parted r t total) also = cond total false (cond also false true)
+unfoldable pub talliesMetOf : Tallies → Meeting → Bool → Bool → Tallies
+talliesMetOf t (stopped x) made also = addSurfaceOf t made also false false
+talliesMetOf t (parted r p total) made also = addSurfaceOf t made also (cond made false true) (faintOf total also)
 
 unfoldable pub talliesAfterOf : Tallies → End → Bool → Bool → Tallies
 talliesAfterOf t dim made also = addDimOf t
 talliesAfterOf t spent made also = addSpentOf t
 talliesAfterOf t gone made also = addGoneOf t
 talliesAfterOf t (caught h) made also = addCaughtOf t
-talliesAfterOf t (met m) made also = addSurfaceOf t made also (weakOf m made) (faintOf m also)
+talliesAfterOf t (met m) made also = talliesMetOf t m made also
 talliesAfterOf t (refusing n) made also = t
 
 -- ---- the report

@@ -82,7 +82,7 @@ impl Ledger {
             End::Dim => self.absorb(power),
             End::Spent => self.absorb(power),
             End::Gone => self.escape(power),
-            End::Caught(_) => self.detect(power),
+            End::Caught(hit) => self.detect(hit.flux_watts),
             End::Met(meeting) => self.met(meeting, first, second),
             End::Refused(_) => self,
         }

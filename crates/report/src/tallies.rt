@@ -5,7 +5,7 @@ use step::more;
 ghost use mathlib.Core.Path.{_≡_};
 ghost use mathlib.Core.Bool.{true, false, cond};
 ghost use Rattle.step.specs.Rays.{asMeeting, asEnd};
-ghost use Rattle.report.specs.Report.{moreIfOf, addDimOf, addSpentOf, addCaughtOf, addGoneOf, addSurfaceOf, weakOf, faintOf, talliesAfterOf};
+ghost use Rattle.report.specs.Report.{moreIfOf, addDimOf, addSpentOf, addCaughtOf, addGoneOf, addSurfaceOf, faintOf, talliesMetOf, talliesAfterOf};
 
 #[repr(C)]
 pub struct Tallies {
@@ -36,37 +36,14 @@ fn opposite(b: bool) -> bool
     true
 }
 
-// Whether the threshold left the first ray of a clear surface unmade.
-fn weak(meeting: Meeting, first: bool) -> bool
-    ensures { λ r. ⌜ r ≡ weakOf (asMeeting meeting) first ⌝ }
+// Whether the threshold left the second ray of a clear surface unmade.
+fn faint(total: bool, second: bool) -> bool
+    ensures { λ r. ⌜ r ≡ faintOf total second ⌝ }
 {
-    match meeting {
-        Meeting::Stopped(_) => false,
-        Meeting::Parted {
-            reflected: _,
-            transmitted: _,
-            total: _,
-        } => opposite(first),
+    if total {
+        return false;
     }
-}
-
-// Whether it left the second one unmade.
-fn faint(meeting: Meeting, second: bool) -> bool
-    ensures { λ r. ⌜ r ≡ faintOf (asMeeting meeting) second ⌝ }
-{
-    match meeting {
-        Meeting::Stopped(_) => false,
-        Meeting::Parted {
-            reflected: _,
-            transmitted: _,
-            total,
-        } => {
-            if total {
-                return false;
-            }
-            opposite(second)
-        }
-    }
+    opposite(second)
 }
 
 impl Tallies {
@@ -115,7 +92,21 @@ impl Tallies {
         t
     }
 
-    // After what became of a ray; the flags say which of its rays were made.
+    // After what a solid made of a ray; the flags say which of its rays were made.
+    fn met(self, meeting: Meeting, first: bool, second: bool) -> Tallies
+        ensures { λ r. ⌜ r ≡ talliesMetOf self (asMeeting meeting) first second ⌝ }
+    {
+        match meeting {
+            Meeting::Stopped(_) => self.add_surface(first, second, false, false),
+            Meeting::Parted {
+                reflected: _,
+                transmitted: _,
+                total,
+            } => self.add_surface(first, second, opposite(first), faint(total, second)),
+        }
+    }
+
+    // After what became of a ray.
     pub fn after(self, end: End, first: bool, second: bool) -> Tallies
         ensures { λ r. ⌜ r ≡ talliesAfterOf self (asEnd end) first second ⌝ }
     {
@@ -124,9 +115,7 @@ impl Tallies {
             End::Spent => self.add_spent(),
             End::Gone => self.add_gone(),
             End::Caught(_) => self.add_caught(),
-            End::Met(meeting) => {
-                self.add_surface(first, second, weak(meeting, first), faint(meeting, second))
-            }
+            End::Met(meeting) => self.met(meeting, first, second),
             End::Refused(_) => self,
         }
     }

@@ -247,7 +247,7 @@ module _ (s : Memory) (eight : length (s .detectors .list) ≡ 8) (empty : Empty
     run-same : checkBatch B (withUsed (bare s) (length b)) ≡ passed tt → runOn recordOf (m .detectors) B m ≡ mapRun (added s) (runOn (plainHit (bare s)) es B b)
     run-same e =
         run-faces B recordOf (s .detectors) (m .detectors) m (added-faces b s)
-        ∙ run-natural B (added s) recordOf (plainHit (bare s)) (s .detectors)
+        ∙ run-natural B (added s) recordOf (plainHit (bare s)) (withUsed s (length b)) (both e)
         (λ c h r. put-booked s eight empty (length b) h (batch-there B (withUsed s (length b)) (both e) h r) c) b
         ∙ ap (mapRun (added s)) (run-faces B (plainHit (bare s)) es (s .detectors) b (sym seen-faces))
 

@@ -124,7 +124,7 @@ module _ (s : Memory) (eight : length (s .detectors .list) ≡ 8) (empty : Empty
           sym (law .unseeing Memory recordOf (added s b .detectors) (added s b))
           ∙ ap (λ (ds : Detectors). w .write Memory recordOf ds (added s b)) (bare-hits b s)
           ∙ law .unseeing Memory recordOf (s .detectors) (added s b)
-          ∙ law .natural (List DetectorHit) Memory (added s) recordOf (plainHit (bare s)) (s .detectors) (λ c h r. put-booked (length b) h (brought h r) c) b
+          ∙ law .natural (List DetectorHit) Memory (added s) recordOf (plainHit (bare s)) (withUsed s (length b)) (sym check-both ∙ e) (λ c h r. put-booked (length b) h (brought h r) c) b
           ∙ ap (mapOutcome (added s)) (sym (law .unseeing (List DetectorHit) (plainHit (bare s)) (s .detectors) b))
           ∙ ap (λ (ds : Detectors). mapOutcome (added s) (w .write (List DetectorHit) (plainHit (bare s)) ds b)) (sym (bare-detectors s))
 
@@ -135,7 +135,7 @@ module _ (s : Memory) (eight : length (s .detectors .list) ≡ 8) (empty : Empty
           (sym
           (ap (λ (ds : Detectors). memoryLeft (w .write (List DetectorHit) (plainHit (bare s)) ds b)) (bare-detectors s)
           ∙ ap memoryLeft (law .unseeing (List DetectorHit) (plainHit (bare s)) (s .detectors) b)
-          ∙ ap memoryLeft (law .natural SaneBook (List DetectorHit) (λ c. c .0) (plainHit (bare s)) (guarded (length b)) (s .detectors) (λ c h r. guard-map (length b) c h (brought h r)) (b, x))
+          ∙ ap memoryLeft (law .natural SaneBook (List DetectorHit) (λ c. c .0) (plainHit (bare s)) (guarded (length b)) (withUsed s (length b)) (sym check-both ∙ e) (λ c h r. guard-map (length b) c h (brought h r)) (b, x))
           ∙ left-map (λ (c : SaneBook). c .0) o))
           (memoryLeft o .1)
 

@@ -15,15 +15,22 @@ use Rattle.memory.specs.Memory.{Memory, hitDoubles, capacity}
 use Rattle.memory.proofs.Lengths.{long, long-enough}
 use Rattle.step.specs.declared.ActiveRay.{ActiveRay}
 use Rattle.given_rays.specs.Given.{validMediaOf, checkListsOf, checkRayOf, checkRaysOf}
-use Rattle.trace.specs.Trace.{Batch, raysIn, checkLengthsOf}
+use Rattle.trace.specs.Trace.{Batch, raysIn, checkLengthsOf, startOf}
 use Rattle.trace.proofs.Pieces.{checkLengthsIn, same-lengths}
 pub use Rattle.trace.proofs.Pieces.{Passes, passes, all-pass}
+use Rattle.theorems_runs.specs.Room.{Held, Admitted}
 use Rattle.theorems_runs.proofs.Bred.{false-true}
+use Rattle.theorems_runs.proofs.Held.{start-held}
+use Rattle.theorems_runs.proofs.Checked.{rays-admitted}
 use Rattle.theorems_calls.specs.Parts.{Part, Exact, joined, withRays}
 use Rattle.theorems_calls.proofs.Reached.{Reached, added-checks, added-all, added-flux, added-hits, added-values, added-tags}
 use Rattle.theorems_calls.proofs.Joined.{former-given, later-given}
 use Rattle.doubles.proofs.Floats.{and-left, and-right}
 use Rattle.detectors.proofs.Passed.{both-passed}
+
+-- every ray of a batch that passed is one that the checks admit
+pub started : (B : Batch) (s : Memory) → Passes B s → Held Admitted (raysIn B) (startOf (raysIn B) (B .rays))
+started B s p = start-held Admitted (raysIn B) (B .rays) (rays-admitted (raysIn B) (B .solids) (B .rays) (p .rays))
 
 -- ---- fewer rays
 

@@ -10,16 +10,19 @@ use Rattle.detector.specs.declared.DetectorHit.{DetectorHit}
 use Rattle.memory.specs.Memory.{Memory, Outcome, done, refused, memoryLeft, recordOf, hasPixel, isMemory}
 use Rattle.memory.proofs.Booked.{holds-checked}
 use Rattle.faces.specs.Faces.{newFacesOf}
-use Rattle.run.specs.Run.{Run}
+use Rattle.run.specs.Run.{Run, isLeft}
 use Rattle.trace.specs.Trace.{Batch, raysIn, startOf, sceneIn, checkLengthsOf, checkBatch, runOn, traceAfter, traceRaysOf}
+use Rattle.theorems_runs.specs.Room.{Admitted, nextRay}
 use Rattle.theorems_runs.proofs.Bred.{false-true}
+use Rattle.theorems_runs.proofs.Waves.{admitted-kept}
+use Rattle.theorems_runs.proofs.Checked.{trace-admitted}
 use Rattle.theorems_marks.specs.Refused.{RunRefused}
 use Rattle.theorems_marks.proofs.Refused.{trace-refuses}
 use Rattle.theorems_marks.proofs.Only.{at-9}
 use Rattle.theorems_calls.proofs.Drives.{Brought, drive-keeps}
 use Rattle.theorems_calls.proofs.Sights.{brought-there}
 use Rattle.theorems_calls.proofs.Reached.{Reached, reached-itself, reached-record, added-count}
-use Rattle.theorems_calls.proofs.Checks.{Passes, passes, said, used-room, reached-lengths, reached-checks}
+use Rattle.theorems_calls.proofs.Checks.{Passes, passes, all-pass, started, said, used-room, reached-lengths, reached-checks}
 use Rattle.theorems_calls.proofs.Wishes.{shown-all}
 
 -- every memory of a run holds every hit that a step can bring
@@ -31,11 +34,11 @@ module _ (B : Batch) (s : Memory) (p : Passes B s) where
   same-count : (m : Memory) → Reached s m → m .detectors .count ≡ s .detectors .count
   same-count m r = ap (λ (x : Memory). x .detectors .count) (r .sum) ∙ added-count (r .hits) s
 
-  all-held : (m : Memory) (h : DetectorHit) → Reached s m → Brought (sceneIn B (s .detectors)) h → hasPixel m h ≡ true
+  all-held : (m : Memory) (h : DetectorHit) → Reached s m → Brought Admitted (sceneIn B (s .detectors)) h → hasPixel m h ≡ true
   unfolding newFacesOf
   all-held m h r b =
       let d : Sound (m .detectors) = sound (m .detectors) (reached-checks s m r (p .detectors)) in
-      let k : h .detector .0 < m .detectors .count = omega (arith, brought-there _ h b, same-count m r, shown-all (s .detectors .count) (sound (s .detectors) (p .detectors) .most)) in
+      let k : h .detector .0 < m .detectors .count = omega (arith, brought-there Admitted _ h b, same-count m r, shown-all (s .detectors .count) (sound (s .detectors) (p .detectors) .most)) in
       holds-checked m h d k (held-memory m r)
 
   no-nine : (place : ℕ) (t : Memory) → RunRefused B s 9 place t → ⊥
@@ -43,9 +46,11 @@ module _ (B : Batch) (s : Memory) (p : Passes B s) where
       let S = sceneIn B (s .detectors) in
       let r : Reached s t =
       subst (λ (x : Run Memory). Reached s (memoryLeft (x .outcome))) e
-      (drive-keeps recordOf S (raysIn B) (Reached s) (λ m h b x. reached-record s m h x) j s (startOf (raysIn B) (B .rays)) (reached-itself s (used-room s (p .lengths)))) in
+      (drive-keeps recordOf Admitted S (admitted-kept S) (raysIn B) (Reached s) (λ m h b x. reached-record s m h x) j s (startOf (raysIn B) (B .rays)) (started B s p) (reached-itself s (used-room s (p .lengths)))) in
       let z = at-9 t S _ c in
-      false-true (sym (z .1 .1) ∙ all-held t (z .0) r (_, z .1 .0))
+      let f : Admitted (nextRay (raysIn B) q) =
+      subst (λ (x : Run Memory). (isLeft (x .progress) ≡ true → Admitted (nextRay (raysIn B) (x .progress)))) e (trace-admitted B s (all-pass B s p) j) l in
+      false-true (sym (z .1 .1) ∙ all-held t (z .0) r (_, (f, z .1 .0)))
 
 abbrev number : {M : Type 0} → Outcome M → ℕ
 number (done m) = 0

@@ -73,5 +73,5 @@ step-there S a =
     tt)
 
 -- a hit that a step brings
-pub brought-there : (S : Scene) (h : DetectorHit) → Brought S h → h .detector .0 < faceCountOf (S .faces .count)
-brought-there S h b = subst (There (faceCountOf (S .faces .count))) (b .1) (step-there S (b .0))
+pub brought-there : (P : ActiveRay → Type 0) (S : Scene) (h : DetectorHit) → Brought P S h → h .detector .0 < faceCountOf (S .faces .count)
+brought-there P S h b = subst (There (faceCountOf (S .faces .count))) (b .1 .1) (step-there S (b .0))

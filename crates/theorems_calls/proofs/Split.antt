@@ -10,13 +10,15 @@ use Rattle.step.specs.Rays.{listedScene}
 use Rattle.run.specs.Stack.{emptyStackOf}
 use Rattle.run.specs.Run.{isLeft, drive}
 use Rattle.trace.specs.Trace.{Batch, raysIn, allSteps, startOf, sceneIn, runOn, checkBatch, traceRaysOf}
+use Rattle.theorems_runs.specs.Room.{Admitted}
+use Rattle.theorems_runs.proofs.Waves.{admitted-kept}
 use Rattle.theorems_runs.proofs.Checked.{fit}
 use Rattle.theorems_calls.specs.Parts.{Part, Exact, AllExact, noRays, joined, joinedAll, withRays, Splits, shifted, thenOn, traceParts}
 use Rattle.theorems_calls.proofs.Drives.{drive-keeps}
 use Rattle.theorems_calls.proofs.Later.{over, two-runs}
 use Rattle.theorems_calls.proofs.Reached.{Reached, added-faces, reached-itself, reached-record}
 use Rattle.theorems_calls.proofs.Joined.{exact-all, former-given, later-given}
-use Rattle.theorems_calls.proofs.Checks.{Passes, passes, all-pass, used-room, former-passes, later-passes}
+use Rattle.theorems_calls.proofs.Checks.{Passes, passes, all-pass, started, used-room, former-passes, later-passes}
 
 -- ---- a tracing whose checks passed is its run
 
@@ -29,8 +31,9 @@ traced B m p = rw (all-pass B m p)
 
 pub trace-reaches : (B : Batch) (s : Memory) → Passes B s → Reached s (memoryLeft (traceRaysOf B s .outcome))
 trace-reaches B s p =
+    let S = sceneIn B (s .detectors) in
     rw (traced B s p)
-    (drive-keeps recordOf (sceneIn B (s .detectors)) (raysIn B) (Reached s) (λ m h b r. reached-record s m h r) allSteps s (startOf (raysIn B) (B .rays)) (reached-itself s (used-room s (p .lengths))))
+    (drive-keeps recordOf Admitted S (admitted-kept S) (raysIn B) (Reached s) (λ m h b r. reached-record s m h r) allSteps s (startOf (raysIn B) (B .rays)) (started B s p) (reached-itself s (used-room s (p .lengths))))
 
 -- ---- two parts
 

@@ -15,15 +15,17 @@ use Rattle.memory.specs.Memory.{Memory, Outcome, done, refused, unless, recordO
 use Rattle.memory.proofs.Plain.{mapOutcome}
 use Rattle.faces.specs.declared.Faces.{Faces}
 use Rattle.faces.specs.Faces.{newFacesOf, faceCountOf}
-use Rattle.step.specs.Rays.{listedScene}
+use Rattle.step.specs.Rays.{Scene, listedScene}
 use Rattle.run.specs.Run.{Run, drive}
 use Rattle.trace.specs.Trace.{Batch, raysIn, allSteps, startOf, sceneIn, runOn, checkLengthsOf, checkBatch, traceAfter, traceRaysOf}
 use Rattle.trace.proofs.Pieces.{same-checks}
+use Rattle.theorems_runs.specs.Room.{Admitted}
+use Rattle.theorems_runs.proofs.Waves.{admitted-kept}
 use Rattle.theorems_calls.specs.Calls.{Call, tracing, recording, refilter, part, irradiance, crossing, area, outcomeIn}
 use Rattle.theorems_calls.specs.Book.{bareDetectors, bare, withUsed, Wish, granted, checkHit, noWish, wishIn}
 use Rattle.theorems_calls.proofs.Drives.{Brought, mapRun, map-drive}
 use Rattle.theorems_calls.proofs.Sights.{brought-there}
-use Rattle.theorems_calls.proofs.Checks.{Passes, passes, said}
+use Rattle.theorems_calls.proofs.Checks.{Passes, passes, started, said}
 use Rattle.theorems_calls.proofs.Bare.{bare-each, bare-asked, bare-all, bare-faces, bare-flux, bare-counts, bare-values, bare-tags, bare-detectors, bare-memory}
 
 pub record Lawful (w : Wish) : Type 1 where
@@ -33,10 +35,10 @@ pub record Lawful (w : Wish) : Type 1 where
   pub blind : (m : Memory) → w .check (withUsed (bare m) (m .used)) ≡ w .check m
   -- its writer uses no total and no count of the detectors
   pub unseeing : (M : Type 0) (put : M → DetectorHit → Outcome M) (ds : Detectors) (m : M) → w .write M put (bareDetectors ds) m ≡ w .write M put ds m
-  -- and is natural in the memory, for puts that agree on the hits that it can bring
+  -- and, once its check passed, is natural in the memory, for puts that agree on the hits that it can bring
   pub natural :
-      (N M : Type 0) (φ : N → M) (put : M → DetectorHit → Outcome M) (put′ : N → DetectorHit → Outcome N) (ds : Detectors)
-      → ((n : N) (h : DetectorHit) → Brings ds h → put (φ n) h ≡ mapOutcome φ (put′ n h)) → (n : N) → w .write M put ds (φ n) ≡ mapOutcome φ (w .write N put′ ds n)
+      (N M : Type 0) (φ : N → M) (put : M → DetectorHit → Outcome M) (put′ : N → DetectorHit → Outcome N) (s : Memory)
+      → w .check s ≡ passed tt → ((n : N) (h : DetectorHit) → Brings (s .detectors) h → put (φ n) h ≡ mapOutcome φ (put′ n h)) → (n : N) → w .write M put (s .detectors) (φ n) ≡ mapOutcome φ (w .write N put′ (s .detectors) n)
   -- once its check passed, so does that of a recording of any hit that it can bring
   pub there : (m : Memory) → w .check m ≡ passed tt → (h : DetectorHit) → Brings (m .detectors) h → checkHit h m ≡ passed tt
 
@@ -73,27 +75,29 @@ module _ (B : Batch) where
   unfolding runOn
   run-faces put ds es m e = ap (ranWith put m) e
 
-  pub run-natural : {N M : Type 0} (φ : N → M) (put : M → DetectorHit → Outcome M) (put′ : N → DetectorHit → Outcome N) (ds : Detectors)
-      → ((n : N) (h : DetectorHit) → Brought (sceneIn B ds) h → put (φ n) h ≡ mapOutcome φ (put′ n h)) → (n : N) → runOn put ds B (φ n) ≡ mapRun φ (runOn put′ ds B n)
+  pub run-natural : {N M : Type 0} (φ : N → M) (put : M → DetectorHit → Outcome M) (put′ : N → DetectorHit → Outcome N) (s : Memory)
+      → checkBatch B s ≡ passed tt → ((n : N) (h : DetectorHit) → Brought Admitted (sceneIn B (s .detectors)) h → put (φ n) h ≡ mapOutcome φ (put′ n h)) → (n : N) → runOn put (s .detectors) B (φ n) ≡ mapRun φ (runOn put′ (s .detectors) B n)
   unfolding runOn
-  run-natural φ put put′ ds same n = map-drive φ put put′ (sceneIn B ds) (raysIn B) same allSteps n (startOf (raysIn B) (B .rays))
+  run-natural φ put put′ s e same n =
+      let S : Scene = sceneIn B (s .detectors) in
+      map-drive φ put put′ Admitted S (admitted-kept S) (raysIn B) same allSteps n (startOf (raysIn B) (B .rays)) (started B s (passes B s e))
 
-  pub batch-there : (m : Memory) → checkBatch B m ≡ passed tt → (h : DetectorHit) → Brought (sceneIn B (m .detectors)) h → checkHit h m ≡ passed tt
+  pub batch-there : (m : Memory) → checkBatch B m ≡ passed tt → (h : DetectorHit) → Brought Admitted (sceneIn B (m .detectors)) h → checkHit h m ≡ passed tt
   unfolding checkHit checkAsked newFacesOf
   batch-there m e h r =
       let p : Passes B m = passes B m e in
       let d : Sound (m .detectors) = sound (m .detectors) (p .detectors) in
-      let k : h .detector .0 < m .detectors .count = omega (arith, brought-there _ h r, shown-all (m .detectors .count) (d .most)) in
+      let k : h .detector .0 < m .detectors .count = omega (arith, brought-there Admitted _ h r, shown-all (m .detectors .count) (d .most)) in
       rw (p .detectors, lt-ltb (h .detector .0) (m .detectors .count) k, lengths-held m (p .lengths))
 
   tracing-lawful : Lawful (wishIn (tracing B))
   unfolding wishIn
   tracing-lawful =
       record {
-        Brings = λ ds h. Brought (sceneIn B ds) h;
+        Brings = λ ds h. Brought Admitted (sceneIn B ds) h;
         blind = batch-blind;
         unseeing = λ M put ds m. ap (λ (r : Run M). r .outcome) (run-faces put ds (bareDetectors ds) m (bare-faces ds));
-        natural = λ N M φ put put′ ds same n. ap (λ (r : Run M). r .outcome) (run-natural φ put put′ ds same n);
+        natural = λ N M φ put put′ s e same n. ap (λ (r : Run M). r .outcome) (run-natural φ put put′ s e same n);
         there = batch-there;
       }
 
@@ -111,7 +115,7 @@ module _ (h : DetectorHit) where
         Brings = λ ds k. k ≡ h;
         blind = hit-blind;
         unseeing = λ M put ds m. refl;
-        natural = λ N M φ put put′ ds same n. same n h refl;
+        natural = λ N M φ put put′ s e same n. same n h refl;
         there = λ m e k q. ap (λ x. checkHit x m) q ∙ e;
       }
 
@@ -123,7 +127,7 @@ nothing-lawful =
       Brings = λ ds h. ⊥;
       blind = λ m. refl;
       unseeing = λ M put ds m. refl;
-      natural = λ N M φ put put′ ds same n. refl;
+      natural = λ N M φ put put′ s e same n. refl;
       there = λ m e h x. absurd x;
     }
 

@@ -7,7 +7,8 @@ use lib.Dec.{leb, leb·zero}
 use lib.Ieee.{le}
 use Rattle.detectors.specs.declared.Detectors.{Detectors}
 use Rattle.detector.specs.declared.DetectorHit.{DetectorHit}
-use Rattle.memory.specs.Memory.{Outcome, done}
+use Rattle.error.specs.Refusals.{Checked, passed, refusedAt}
+use Rattle.memory.specs.Memory.{Memory, Outcome, done, recordOf}
 use Rattle.step.specs.declared.ActiveRay.{ActiveRay}
 use Rattle.step.specs.Rays.{Scene, Step, dim, spent, endsOf}
 use Rattle.step.specs.Steps.{takeStepOf, interactOf}
@@ -16,7 +17,7 @@ use Rattle.run.specs.declared.Progress.{Progress}
 use Rattle.run.specs.declared.stack.Taken.{Taken}
 use Rattle.run.specs.Stack.{takenFrom}
 use Rattle.run.specs.Run.{Run, hitInOf, refusalInOf, stepFrom, stepOn, isLeft, andThen, drive}
-use Rattle.trace.specs.Trace.{Batch, raysIn, sceneIn, allSteps, startOf, runOn}
+use Rattle.trace.specs.Trace.{Batch, raysIn, sceneIn, allSteps, startOf, runOn, checkBatch, traceAfter, traceRaysOf}
 
 -- every step is dim or spent
 only-ends : (S : Scene) (a : ActiveRay) → S .optics .config .«max_bounces» ≡ 0 → (takeStepOf S a ≡ endsOf a dim) ⊎ (takeStepOf S a ≡ endsOf a spent)
@@ -69,3 +70,12 @@ pub uninteracting : {M : Type 0} (put : M → DetectorHit → Outcome M) (ds : D
     → runOn put ds B m .progress .report .«total_interactions» ≡ 0
 unfolding runOn startOf startReportOf
 uninteracting put ds B m z = uncounted put (sceneIn B ds) (raysIn B) z allSteps m (startOf (raysIn B) (B .rays)) refl
+
+-- a tracing that is refused before its run counts nothing either
+pub uninteracted : (B : Batch) (s : Memory) → B .config .«max_bounces» ≡ 0 → traceRaysOf B s .report .«total_interactions» ≡ 0
+unfolding traceRaysOf startReportOf
+uninteracted B s z = go (checkBatch B s)
+  where
+    go : (c : Checked Unit) → traceAfter c s (runOn recordOf (s .detectors) B s) .report .«total_interactions» ≡ 0
+    go (passed u) = uninteracting recordOf (s .detectors) B s z
+    go (refusedAt n place) = refl

@@ -18,11 +18,11 @@ use Rattle.detector.proofs.Marks.{m8}
 use Rattle.step.specs.declared.ActiveRay.{ActiveRay}
 use Rattle.step.specs.Rays.{endsOf, stopped, met}
 use Rattle.step.specs.Steps.{mirrorOf, nearerOf, firstAheadOf}
-use Rattle.report.specs.Report.{absorbOf, ledgerMetOf, ledgerAfterOf, moreIfOf, addSurfaceOf, weakOf, faintOf, talliesAfterOf, reportAfterOf}
+use Rattle.report.specs.Report.{absorbOf, ledgerMetOf, ledgerAfterOf, moreIfOf, addSurfaceOf, talliesMetOf, talliesAfterOf, reportAfterOf}
 use Rattle.theorems_marks.specs.Marks.{#-0, #¼, #¾, #3, #+x, #+z, #-z, #000, upward, sideways, facing, sentRay, M1, M2, M6, M7, M9, M10, M11, Marks}
 use Rattle.theorems_marks.proofs.Itself.{below-itself, above-zero}
 use Rattle.theorems_marks.proofs.Sent.{sent}
-use Rattle.theorems_marks.proofs.Limit.{uninteracting}
+use Rattle.theorems_marks.proofs.Limit.{uninteracting, uninteracted}
 
 pub m1 : M1
 unfolding sqrtOf ofBits toBits
@@ -100,7 +100,7 @@ unfolding firstAheadOf nearerOf
 m9 s h e = rw (e, below-itself (h .t))
 
 pub m10 : M10
-m10 M put ds B m z = uninteracting put ds B m z
+m10 = ((λ M put ds B m z. uninteracting put ds B m z), uninteracted)
 
 left-half : (a : ActiveRay) (h : NonSeqHit) → a .ray .energy ≡ #1 → mirrorOf #½ a h #½ ≡ endsOf a (met (stopped #½))
 unfolding mirrorOf mirroredPowerOf clampOf sub mul lt ofBits
@@ -111,7 +111,7 @@ unfolding add ofBits
 half = refl
 
 pub m11 : M11
-unfolding reportAfterOf ledgerAfterOf ledgerMetOf absorbOf talliesAfterOf weakOf faintOf addSurfaceOf moreIfOf
+unfolding reportAfterOf ledgerAfterOf ledgerMetOf absorbOf talliesAfterOf talliesMetOf addSurfaceOf moreIfOf
 m11 a h r e z =
     let s = left-half a h e in
     (rw s, rw s, rw s, rw (s, z) half, rw s, rw s)

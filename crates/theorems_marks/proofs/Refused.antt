@@ -42,7 +42,7 @@ abbrev isDone : {M : Type 0} → Outcome M → Bool
 isDone (done m) = true
 isDone (refused n place m) = false
 
-abbrev numberIn : {M : Type 0} → Outcome M → ℕ
+abbrev pub numberIn : {M : Type 0} → Outcome M → ℕ
 numberIn (done m) = 0
 numberIn (refused n place m) = n
 
@@ -217,7 +217,7 @@ module _ (O : Optics) (a : ActiveRay) (h : NonSeqHit) (n : ℕ) where
       inl (s, inr (inr (l .0, (n1, (n2, (e, (f, l .1)))))))
   why-refuses (inr (rho, (s, (e, g)))) =
       let l = mirror-refuses (a .ray) h _ n g in
-      inr (l .0, (rho, (s, l .1)))
+      inr (l .0, (rho, (s, (e, l .1))))
 
   -- a parting and a mirror's ray are no refusals
   parted-ends : (threshold : Float) (m : Media) (p : FresnelInteraction) → partedBy threshold a m p .end ≡ refusing n → SurfaceRefused O a h n
@@ -240,7 +240,7 @@ ray-refuses S a n =
     let Q : Step → Type 0 = λ s. (s .end ≡ refusing n → RayRefused S a n) in
     by-tests Q a S (λ e x. absurd (other dim refl x)) (λ e x. absurd (other spent refl x))
     (λ e f.
-    by-ahead Q a S (λ s q x. absurd (other (caught (caughtByOf a s)) refl x)) (λ h q x. (h, (q, surface-refuses (S .optics) a h n x)))
+    by-ahead Q a S (λ s q x. absurd (other (caught (caughtByOf a s)) refl x)) (λ h q x. (e, (f, (h, (q, surface-refuses (S .optics) a h n x)))))
     (λ x. absurd (other gone refl x)))
 
 -- ---- a step

@@ -22,14 +22,14 @@ use Rattle.surface.specs.Fresnel.{cosineOf, reflectedDirectionOf, total, split,
 use Rattle.detector.specs.Pixels.{indexAlongOf}
 use Rattle.detectors.specs.declared.Detectors.{Detectors}
 use Rattle.detector.specs.declared.DetectorHit.{DetectorHit}
-use Rattle.memory.specs.Memory.{Outcome}
+use Rattle.memory.specs.Memory.{Memory, Outcome}
 use Rattle.faces.specs.declared.Sight.{Sight}
 use Rattle.step.specs.declared.ActiveRay.{ActiveRay}
 use Rattle.step.specs.Rays.{stopped, met}
 use Rattle.step.specs.Steps.{firstAheadOf, solid, mirrorOf}
 use Rattle.report.specs.declared.NonSeqTraceReport.{NonSeqTraceReport}
 use Rattle.report.specs.Report.{reportAfterOf}
-use Rattle.trace.specs.Trace.{Batch, runOn}
+use Rattle.trace.specs.Trace.{Batch, runOn, traceRaysOf}
 
 abbrev pub #-0 : Float
 #-0 = ofBits binary64 0x8000000000000000
@@ -135,11 +135,12 @@ M8 =
 abbrev pub M9 : Type 0
 M9 = (s : Sight) (h : NonSeqHit) → s .crossing .t ≡ h .t → firstAheadOf (some s) (some h) ≡ solid h
 
--- limit 0: interactions 0, into any memory, whatever is refused
+-- limit 0: interactions 0, of a run into any memory and of a tracing, refused or not
 abbrev pub M10 : Type 1
 M10 =
-    (M : Type 0) (put : M → DetectorHit → Outcome M) (ds : Detectors) (B : Batch) (m : M)
-    → B .config .«max_bounces» ≡ 0 → runOn put ds B m .progress .report .«total_interactions» ≡ 0
+    ((M : Type 0) (put : M → DetectorHit → Outcome M) (ds : Detectors) (B : Batch) (m : M)
+    → B .config .«max_bounces» ≡ 0 → runOn put ds B m .progress .report .«total_interactions» ≡ 0)
+    × ((B : Batch) (s : Memory) → B .config .«max_bounces» ≡ 0 → traceRaysOf B s .report .«total_interactions» ≡ 0)
 
 -- Mirror 0.5, power 1, threshold 0.5: absorbed 0.5, no child, weak unchanged
 abbrev pub M11 : Type 0

@@ -3,6 +3,7 @@ use mathlib.Core.Path.{_≡_}
 use mathlib.Core.Logic.{_⊎_}
 use mathlib.Core.Bool.{true, false}
 use Prim.Native.Nat.{ℕ, _≤_}
+use lib.Dec.{leb}
 use lib.Ieee.{Float, binary64, sub, mul, div, lt, le}
 use lib.ListN.{getD}
 use Rattle.doubles.specs.Doubles.{isFiniteOf, #0, #1, #2}
@@ -45,7 +46,7 @@ BadIndex (Constant n) w = (lt n #1 ≡ true) ⊎ (isFiniteOf n ≡ false)
 BadIndex (Sellmeier1 b1 c1 b2 c2 b3 c3) w = BadSquare (sellmeierOf (squareUmOf w) b1 c1 b2 c2 b3 c3)
 BadIndex (Schott a0 a1 a2 a3 a4 a5) w = BadSquare (schottOf (squareUmOf w) a0 a1 a2 a3 a4 a5)
 
--- 14: a wavelength at most 0 or not finite
+-- 14: a wavelength at most 0 or not finite; no ray of a tracing has one that is not finite
 abbrev pub IndexRefused : OpticalMedium → Float → ℕ → Type 0
 IndexRefused m w n = ((n ≡ 14) × ((le w #0 ≡ true) ⊎ (isFiniteOf w ≡ false))) ⊎ ((n ≡ 15) × BadIndex m w)
 
@@ -104,6 +105,14 @@ HitRefused s h n =
 abbrev pub MediaRefused : Optics → Media → Float → ℕ → Type 0
 MediaRefused O m w n = IndexRefused (mediumFrom O (newestOf m)) w n
 
+-- a mirror's ray, whose power is above the threshold, isn't finite
+abbrev pub MirrorRefused : Optics → ActiveRay → NonSeqHit → Type 0
+MirrorRefused O a h =
+    (rho : Float)
+    × ((O .finish (h .«object_id») ≡ Mirror rho)
+    × ((lt (O .config .«min_power_threshold») (mirroredPowerOf (a .ray .energy) rho) ≡ true) ×
+    (isFiniteRayOf (mirroredRay (a .ray) h (mirroredPowerOf (a .ray .energy) rho)) ≡ false)))
+
 -- at a clear surface an index, or 16 for a ray between the two indices; at a mirror 16 for its ray
 abbrev pub SurfaceRefused : Optics → ActiveRay → NonSeqHit → ℕ → Type 0
 SurfaceRefused O a h n =
@@ -116,14 +125,18 @@ SurfaceRefused O a h n =
     × ((indexInOf O (a .media) (a .ray .«wavelength_nm») ≡ value n1)
     × ((indexInOf O (beyondOf (a .media) h) (a .ray .«wavelength_nm») ≡ value n2) × ClearRefused (a .ray) h n1 n2
     (a .ray .energy)))))))))
-    ⊎ ((n ≡ 16)
-    × ((rho : Float)
-    × ((O .finish (h .«object_id») ≡ Mirror rho) ×
-    (isFiniteRayOf (mirroredRay (a .ray) h (mirroredPowerOf (a .ray .energy) rho)) ≡ false))))
+    ⊎ ((n ≡ 16) × MirrorRefused O a h)
 
--- a solid is met, and its surface is refused
+-- the ray, above the threshold and below the bounce limit, meets a solid with property C
+abbrev pub AtSolid : Scene → ActiveRay → (NonSeqHit → Type 0) → Type 0
+AtSolid S a C =
+    (le (a .ray .energy) (S .optics .config .«min_power_threshold») ≡ false)
+    × ((leb (S .optics .config .«max_bounces») (a .«bounce_count») ≡ false)
+    × ((h : NonSeqHit) × ((aheadIn S a ≡ solid h) × C h)))
+
+-- and its surface is refused
 abbrev pub RayRefused : Scene → ActiveRay → ℕ → Type 0
-RayRefused S a n = (h : NonSeqHit) × ((aheadIn S a ≡ solid h) × SurfaceRefused (S .optics) a h n)
+RayRefused S a n = AtSolid S a (λ (h : NonSeqHit). SurfaceRefused (S .optics) a h n)
 
 -- a detector is met, and the hit is refused
 abbrev pub CatchRefused : Memory → Scene → ActiveRay → ℕ → Type 0
@@ -172,15 +185,13 @@ CountFull t S a =
     × ((takeStepOf S a .end ≡ caught h)
     × ((getD (t .hits) (cellIn (t .detectors .list) h) 0 ≡ maxCount) ⊎ (hitDetector t h .«total_rays_hit» ≡ maxCount)))
 
--- the ray meets a clear surface with property C
+-- the ray meets a clear solid with property C
 abbrev pub AtClear : Scene → ActiveRay → (NonSeqHit → Type 0) → Type 0
-AtClear S a C = (h : NonSeqHit) × ((aheadIn S a ≡ solid h) × ((S .optics .finish (h .«object_id») ≡ Specular) × C h))
+AtClear S a C = AtSolid S a (λ (h : NonSeqHit). (S .optics .finish (h .«object_id») ≡ Specular) × C h)
 
--- 14: there, with a wavelength at most 0 or not finite
+-- 14: there, with a wavelength at most 0
 abbrev pub BadWavelength : Scene → ActiveRay → Type 0
-BadWavelength S a =
-    AtClear S a (λ (h : NonSeqHit). (le (a .ray .«wavelength_nm») #0 ≡ true) ⊎
-    (isFiniteOf (a .ray .«wavelength_nm») ≡ false))
+BadWavelength S a = AtClear S a (λ (h : NonSeqHit). le (a .ray .«wavelength_nm») #0 ≡ true)
 
 -- 15: there, with a bad index before or beyond the surface
 abbrev pub BadMedium : Scene → ActiveRay → Type 0
@@ -200,11 +211,7 @@ BadRay S a =
     × ((indexInOf (S .optics) (a .media) (a .ray .«wavelength_nm») ≡ value n1)
     × ((indexInOf (S .optics) (beyondOf (a .media) h) (a .ray .«wavelength_nm») ≡ value n2) × ClearRefused
     (a .ray) h n1 n2 (a .ray .energy)))))
-    ⊎ ((h : NonSeqHit)
-    × ((aheadIn S a ≡ solid h)
-    × ((rho : Float)
-    × ((S .optics .finish (h .«object_id») ≡ Mirror rho) ×
-    (isFiniteRayOf (mirroredRay (a .ray) h (mirroredPowerOf (a .ray .energy) rho)) ≡ false)))))
+    ⊎ AtSolid S a (λ (h : NonSeqHit). MirrorRefused (S .optics) a h)
 
 -- if a tracing answers n, then one of its rays has property C, with the memory that is left
 abbrev pub Only : Batch → Memory → ℕ → (Memory → Scene → ActiveRay → Type 0) → Type 0

@@ -1,6 +1,6 @@
 -- Every ray of a run that is not refused ends in one tally. Assumes nothing.
 use Prim.Native.Nat.{ℕ, zero, suc, _≤_, _<_, _+_, _-_, _*_}
-use mathlib.Core.Path.{_≡_, refl, sym, ap, _∙_}
+use mathlib.Core.Path.{_≡_, refl, sym, ap, subst, _∙_}
 use mathlib.Core.Bool.{Bool, true, false, cond}
 use mathlib.Core.List.{List}
 use native.Mathlib.Omega.{arith}
@@ -14,6 +14,7 @@ use Rattle.step.specs.Steps.{takeStepOf}
 use Rattle.report.specs.declared.tallies.Tallies.{Tallies}
 use Rattle.report.specs.declared.NonSeqTraceReport.{NonSeqTraceReport}
 use Rattle.report.specs.Report.{moreIfOf, addDimOf, addSpentOf, addCaughtOf, addGoneOf, addSurfaceOf, talliesAfterOf, isInteractionOf, reportAfterOf, startReportOf}
+use Rattle.report.proofs.Meetings.{met-surface}
 use Rattle.run.specs.declared.Progress.{Progress}
 use Rattle.run.specs.Stack.{emptyStackOf}
 use Rattle.run.specs.Run.{hitInOf, refusalInOf, putFrom, isLeft, settleWith, stepOn}
@@ -69,7 +70,9 @@ tallied t gone f s r x y h k =
 tallied t (caught d) f s r x y h k =
     let q : moreOf (t .caught) ≡ t .caught + 1 = more-is (t .caught) (omega arith) in
     record { made = omega (arith, no-flag f x, no-flag s y); over = omega (arith, q); met = omega (arith, q) }
-tallied t (met m) f s r x y h k = surfacing-added t (met m) f s _ _ refl h k
+tallied t (met m) f s r x y h k =
+    let (w, (z, e)) = met-surface t m f s in
+    subst (λ (u : Tallies). Added t u (met m) f s) (sym e) (surfacing-added t (met m) f s w z refl h k)
 tallied t (refusing n) f s r x y h k = false-true (sym r)
 
 -- ---- sums of ones

@@ -1,5 +1,5 @@
 -- A batch that passed the checks is as the theorems ask, so they hold of every tracing. Assumes nothing.
-use Prim.Native.Nat.{ℕ, zero, suc, _≤_, _<_, _+_, _-_, _*_, _^_}
+use Prim.Native.Nat.{ℕ, zero, suc, _≤_, _<_, _+_, _*_}
 use mathlib.Core.Path.{_≡_, refl, ap}
 use mathlib.Core.Bool.{Bool, true, false, _&&_}
 use native.Mathlib.Omega.{arith}
@@ -9,7 +9,9 @@ use borrow.Author.Tests.{leb-true}
 use lib.Ieee.{le}
 use Rattle.doubles.specs.Doubles.{isFiniteOf, #0}
 use Rattle.error.specs.Refusals.{Checked, passed, refusedAt}
-use Rattle.rays.specs.Rays.{isValidRayOf}
+use Rattle.rays.specs.declared.Ray.{Ray}
+use Rattle.rays.specs.Vectors.{isFiniteVecOf}
+use Rattle.rays.specs.Rays.{isFiniteRayOf, isValidRayOf}
 use Rattle.media.specs.declared.Media.{Media}
 use Rattle.memory.specs.Memory.{Memory, Outcome, done, refused, recordOf}
 use Rattle.step.specs.declared.ActiveRay.{ActiveRay}
@@ -17,12 +19,17 @@ use Rattle.step.specs.declared.NonSeqTraceConfig.{NonSeqTraceConfig}
 use Rattle.report.specs.declared.tallies.Tallies.{Tallies}
 use Rattle.report.specs.Report.{startReportOf}
 use Rattle.given_rays.specs.Given.{validMediaOf, checkRayOf, checkRaysOf}
-use Rattle.run.specs.Run.{isLeft}
-use Rattle.trace.specs.Trace.{Batch, raysIn, checkConfigOf, checkBatch, runOn, traceAfter, traceRaysOf}
+use Rattle.run.specs.Run.{isLeft, drive}
+use Rattle.trace.specs.Trace.{Batch, raysIn, checkConfigOf, checkBatch, startOf, sceneIn, runOn, traceAfter, traceRaysOf}
 use Rattle.trace.proofs.Pieces.{passes as pieces-of}
+use Rattle.theorems_runs.specs.Sums.{mostInteractions}
+use Rattle.theorems_runs.specs.Room.{EachGiven, Admitted, nextRay}
 use Rattle.theorems_runs.proofs.Bred.{pick, false-true}
 use Rattle.theorems_runs.proofs.Tracings.{enough, bound}
 use Rattle.theorems_runs.proofs.Balance.{balance, balance-met}
+use Rattle.theorems_runs.proofs.Held.{every-ray}
+use Rattle.theorems_runs.proofs.Waves.{admitted-kept}
+use Rattle.doubles.proofs.Floats.{and-left, and-right}
 use Rattle.detectors.proofs.Passed.{both-passed}
 
 abbrev isPassed : {A : Type 0} → Checked A → Bool
@@ -44,27 +51,43 @@ unfolding validMediaOf
 media-deep m solids =
     pick (λ (t : Bool). (t ≡ true → m .depth ≤ 8)) (leb (m .depth) 8) (λ q e. leb-true (m .depth) 8 q) (λ q e. false-true e)
 
-ray-deep : (a : ActiveRay) (solids place : ℕ) → checkRayOf a solids place ≡ passed tt → a .media .depth ≤ 8
+-- a ray that passed: its parts are finite, and it is in at most 8 media
+ray-passed : (a : ActiveRay) (solids place : ℕ) → checkRayOf a solids place ≡ passed tt → (isValidRayOf (a .ray) ≡ true) × (a .media .depth ≤ 8)
 unfolding checkRayOf
-ray-deep a solids place =
-    pick (λ (c : Checked Unit). (c ≡ passed tt → a .media .depth ≤ 8)) (isValidRayOf (a .ray))
-    (λ q.
-    pick (λ (c : Checked Unit). (c ≡ passed tt → a .media .depth ≤ 8)) (validMediaOf (a .media) solids) (λ z e. media-deep (a .media) solids z) (λ z e. not-passed 11 place tt e))
+ray-passed a solids place =
+    let Q : Checked Unit → Type 0 = λ c. (c ≡ passed tt → (isValidRayOf (a .ray) ≡ true) × (a .media .depth ≤ 8)) in
+    pick Q (isValidRayOf (a .ray))
+    (λ q. pick Q (validMediaOf (a .media) solids) (λ z e. (q, media-deep (a .media) solids z)) (λ z e. not-passed 11 place tt e))
     (λ q e. not-passed 10 place tt e)
 
-rays-deep : (given : ℕ → ActiveRay) (solids n i j : ℕ) → checkRaysOf given solids n i ≡ passed tt → j < n → given (i + j) .media .depth ≤ 8
+rays-passed : (given : ℕ → ActiveRay) (solids n i j : ℕ) → checkRaysOf given solids n i ≡ passed tt → j < n → (isValidRayOf (given (i + j) .ray) ≡ true) × (given (i + j) .media .depth ≤ 8)
 unfolding checkRaysOf
-rays-deep given solids zero i j e k = absurd (omega arith)
-rays-deep given solids (suc n) i zero e k = rw add-zero (ray-deep (given i) solids i (both-passed tt (checkRayOf (given i) solids i) (checkRaysOf given solids n (i + 1)) e .0))
-rays-deep given solids (suc n) i (suc j) e k =
+rays-passed given solids zero i j e k = absurd (omega arith)
+rays-passed given solids (suc n) i zero e k =
+    rw add-zero (ray-passed (given i) solids i (both-passed tt (checkRayOf (given i) solids i) (checkRaysOf given solids n (i + 1)) e .0))
+rays-passed given solids (suc n) i (suc j) e k =
     let q : i + suc j ≡ i + 1 + j = omega arith in
-    rw q (rays-deep given solids n (i + 1) j (both-passed tt (checkRayOf (given i) solids i) (checkRaysOf given solids n (i + 1)) e .1) (omega arith))
+    rw q (rays-passed given solids n (i + 1) j (both-passed tt (checkRayOf (given i) solids i) (checkRaysOf given solids n (i + 1)) e .1) (omega arith))
+
+finite-wave : (r : Ray) → isFiniteRayOf r ≡ true → isFiniteOf (r .«wavelength_nm») ≡ true
+unfolding isFiniteRayOf
+finite-wave r e =
+    let ends = isFiniteVecOf (r .origin) && isFiniteVecOf (r .direction) in
+    and-right ends (isFiniteOf (r .«wavelength_nm»)) (and-left (ends && isFiniteOf (r .«wavelength_nm»)) (isFiniteOf (r .energy)) e)
+
+valid-wave : (r : Ray) → isValidRayOf r ≡ true → isFiniteOf (r .«wavelength_nm») ≡ true
+unfolding isValidRayOf
+valid-wave r e = finite-wave r (and-left (isFiniteRayOf r) _ (and-left (isFiniteRayOf r && le #0 (r .energy)) _ e))
+
+pub rays-admitted : (given : ℕ → ActiveRay) (solids n : ℕ) → checkRaysOf given solids n 0 ≡ passed tt → EachGiven Admitted given n
+rays-admitted given solids n e = λ i q. record { wave = valid-wave (given i .ray) (rw zero-add at (rays-passed given solids n 0 i e q .0)) }
 
 -- what the theorems ask of a batch
 pub record Fit (B : Batch) : Type 0 where
   pub limit : B .config .«max_bounces» ≤ 16
   pub few : B .rays ≤ 4096
   pub deep : (i : ℕ) → i < B .rays → raysIn B i .media .depth ≤ 8
+  pub admits : EachGiven Admitted (raysIn B) (B .rays)
 
 pub fit : (B : Batch) (s : Memory) → checkBatch B s ≡ passed tt → Fit B
 fit B s e =
@@ -72,7 +95,8 @@ fit B s e =
     record {
       limit = config-lim (B .config) (p .config);
       few = p .few-rays;
-      deep = λ i q. rw zero-add at (rays-deep (raysIn B) (B .solids) (B .rays) 0 i (p .rays) q);
+      deep = λ i q. rw zero-add at (rays-passed (raysIn B) (B .solids) (B .rays) 0 i (p .rays) q .1);
+      admits = rays-admitted (raysIn B) (B .solids) (B .rays) (p .rays);
     }
 
 -- ---- every tracing
@@ -104,16 +128,21 @@ module _ (B : Batch) (s : Memory) where
   unfolding traceRaysOf
   ran z e = ran-by z (checkBatch B s) refl e
 
+  -- every ray that a tracing takes, after any k steps
+  pub trace-admitted : checkBatch B s ≡ passed tt → (k : ℕ) → isLeft (drive recordOf (sceneIn B (s .detectors)) (raysIn B) k s (startOf (raysIn B) (B .rays)) .progress) ≡ true
+      → Admitted (nextRay (raysIn B) (drive recordOf (sceneIn B (s .detectors)) (raysIn B) k s (startOf (raysIn B) (B .rays)) .progress))
+  trace-admitted e k = every-ray Admitted (raysIn B) recordOf (sceneIn B (s .detectors)) (admitted-kept (sceneIn B (s .detectors))) (B .rays) (fit B s e .admits) k s
+
   -- no ray is left where a tracing is done
   pub trace-enough : (z : Memory) → traceRaysOf B s .outcome ≡ done z → isLeft (runOn recordOf (s .detectors) B s .progress) ≡ false
   trace-enough z e = let f : Fit B = fit B s (ran z e .passes) in enough recordOf (s .detectors) B s (f .limit) z (f .few) (ran z e .run)
 
   -- refused or not, rays without bounces lead to at most 2 ^ limit - 1 interactions each
-  bound-by : (c : Checked Unit) → checkBatch B s ≡ c → ((i : ℕ) → i < B .rays → raysIn B i .«bounce_count» ≡ 0) → traceRaysOf B s .report .«total_interactions» ≤ B .rays * (2 ^ (B .config .«max_bounces») - 1)
+  bound-by : (c : Checked Unit) → checkBatch B s ≡ c → ((i : ℕ) → i < B .rays → raysIn B i .«bounce_count» ≡ 0) → traceRaysOf B s .report .«total_interactions» ≤ B .rays * mostInteractions (B .config .«max_bounces»)
   bound-by (passed tt) q h = rw (after-passed q) (bound recordOf (s .detectors) B s (fit B s q .limit) h)
   bound-by (refusedAt n place) q h = omega (arith, after-refused n place q)
 
-  pub trace-bound : ((i : ℕ) → i < B .rays → raysIn B i .«bounce_count» ≡ 0) → traceRaysOf B s .report .«total_interactions» ≤ B .rays * (2 ^ (B .config .«max_bounces») - 1)
+  pub trace-bound : ((i : ℕ) → i < B .rays → raysIn B i .«bounce_count» ≡ 0) → traceRaysOf B s .report .«total_interactions» ≤ B .rays * mostInteractions (B .config .«max_bounces»)
   trace-bound h = bound-by (checkBatch B s) refl h
 
   -- every ray of a tracing that is done ended in one tally, and its interactions are the tallies that are interactions

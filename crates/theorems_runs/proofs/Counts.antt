@@ -1,6 +1,6 @@
 -- No count of a report comes near the largest number, so that raising one always adds 1. Assumes nothing.
 use Prim.Native.Nat.{ℕ, _≤_, _+_, _-_, _*_}
-use mathlib.Core.Path.{_≡_}
+use mathlib.Core.Path.{_≡_, sym, subst}
 use mathlib.Core.Bool.{Bool, true, false}
 use mathlib.Core.Option.{Option, none, some}
 use native.Mathlib.Omega.{arith}
@@ -15,6 +15,7 @@ use Rattle.step.specs.Steps.{takeStepOf}
 use Rattle.report.specs.declared.tallies.Tallies.{Tallies}
 use Rattle.report.specs.declared.NonSeqTraceReport.{NonSeqTraceReport}
 use Rattle.report.specs.Report.{moreIfOf, addDimOf, addSpentOf, addCaughtOf, addGoneOf, addSurfaceOf, talliesAfterOf, isInteractionOf, reportAfterOf, countedOf, startReportOf}
+use Rattle.report.proofs.Meetings.{met-surface}
 use Rattle.run.specs.declared.Progress.{Progress}
 use Rattle.run.specs.Stack.{takenFrom}
 use Rattle.run.specs.Run.{hitInOf, refusalInOf, putFrom, isLeft, settleWith, stepOn, drive}
@@ -48,7 +49,9 @@ module _ (n w v : ℕ) (less : w + 2 ≤ v) where
   tallies-small t spent f s h = record { made = omega (arith, h .made); dim = omega (arith, h .dim); spent = omega (arith, h .spent, more-most (t .spent)); caught = omega (arith, h .caught); gone = omega (arith, h .gone); surface = omega (arith, h .surface); weak = omega (arith, h .weak) }
   tallies-small t gone f s h = record { made = omega (arith, h .made); dim = omega (arith, h .dim); spent = omega (arith, h .spent); caught = omega (arith, h .caught); gone = omega (arith, h .gone, more-most (t .gone)); surface = omega (arith, h .surface); weak = omega (arith, h .weak) }
   tallies-small t (caught d) f s h = record { made = omega (arith, h .made); dim = omega (arith, h .dim); spent = omega (arith, h .spent); caught = omega (arith, h .caught, more-most (t .caught)); gone = omega (arith, h .gone); surface = omega (arith, h .surface); weak = omega (arith, h .weak) }
-  tallies-small t (met m) f s h = surfacing-small t f s _ _ h
+  tallies-small t (met m) f s h =
+      let (x, (y, e)) = met-surface t m f s in
+      subst (SmallTallies n w) (sym e) (surfacing-small t f s x y h)
   tallies-small t (refusing k) f s h = record { made = omega (arith, h .made); dim = omega (arith, h .dim); spent = omega (arith, h .spent); caught = omega (arith, h .caught); gone = omega (arith, h .gone); surface = omega (arith, h .surface); weak = omega (arith, h .weak) }
 
   after-small : (r : NonSeqTraceReport) (power : Float) (s : Step) → SmallCounts n v r → SmallCounts n w (reportAfterOf r power s)

@@ -5,6 +5,8 @@ pub mod Weights
 pub mod Runs
 pub mod Tracings
 pub mod Places
+pub mod Held
+pub mod Waves
 pub mod Balance
 pub mod Roomy
 pub mod Checked

@@ -4,9 +4,7 @@ use mathlib.Core.Path.{_≡_, refl, sym, _∙_}
 use mathlib.Core.Bool.{Bool, true, false, cond, _&&_}
 use mathlib.Core.Option.{none, some}
 use mathlib.Core.List.{List}
-use mathlib.Core.Logic.{⊎-elim}
 use native.Mathlib.Omega.{arith}
-use native.Mathlib.Nat.{eq-zero-or-pos}
 use lib.Dec.{ltb, leb}
 use lib.ListN.{length, set}
 use lib.Ieee.{Float}
@@ -22,18 +20,18 @@ use Rattle.step.specs.Rays.{Scene, Step}
 use Rattle.step.specs.Steps.{takeStepOf}
 use Rattle.given_rays.specs.Given.{givenAtOf, readMediaOf, noRayOf}
 use Rattle.run.specs.declared.stack.Stack.{Stack}
-use Rattle.run.specs.declared.stack.Taken.{Taken}
 use Rattle.run.specs.declared.Progress.{Progress}
-use Rattle.run.specs.Stack.{loadOf, takenFrom, pushedIf, popped, stackAfter, emptyStackOf}
+use Rattle.run.specs.Stack.{pushedIf, popped, stackAfter}
 use Rattle.run.specs.Run.{isLeft, drive}
 use Rattle.trace.specs.Trace.{Batch, raysIn, startOf, sceneIn}
-use Rattle.theorems_runs.specs.Sums.{Each, Tidy}
-use Rattle.theorems_runs.specs.Room.{Housed, nextRay, plainAfter, Roomy}
+use Rattle.theorems_runs.specs.Sums.{Tidy}
+use Rattle.theorems_runs.specs.Room.{EachGiven, Keeps, Held, Housed, nextRay, plainAfter, Roomy}
 use Rattle.theorems_runs.proofs.Bred.{pick, Later, bred}
-use Rattle.theorems_runs.proofs.Stacks.{ray, next, next-stack, next-left, full-after, top-taken, given-taken, some-left}
+use Rattle.theorems_runs.proofs.Stacks.{next, full-after}
 use Rattle.theorems_runs.proofs.Weights.{if-true, one-more, two-more}
 use Rattle.theorems_runs.proofs.Runs.{drive-keeps}
-use Rattle.theorems_runs.proofs.Places.{each-after, room-one, room-two, next-tidy}
+use Rattle.theorems_runs.proofs.Places.{room-one, room-two, next-tidy}
+use Rattle.theorems_runs.proofs.Held.{held-ray, next-held, start-held}
 use Rattle.theorems_runs.proofs.Balance.{start-tidy}
 
 -- ---- media with room
@@ -72,13 +70,9 @@ after-none s e h x y =
 
 -- ---- a step
 
-abbrev Homely : ℕ → ActiveRay → Type 0
-Homely i a = Housed a
-
-record Orderly (n : ℕ) (p : Progress) : Type 0 where
+record Orderly (given : ℕ → ActiveRay) (p : Progress) : Type 0 where
   tidy : Tidy (p .stack)
-  each : Each Homely (p .stack)
-  left : p .left ≤ n
+  held : Held Housed given p
 
 child : (a c : ActiveRay) → c .«bounce_count» ≡ a .«bounce_count» + 1 → Later a c → Housed a → Housed c
 child a c e l h =
@@ -89,38 +83,21 @@ child a c e l h =
       tirs = omega (arith, h .tirs, l .tirs);
     }
 
-module _ (S : Scene) (given : ℕ → ActiveRay) (n : ℕ) (lim : S .optics .config .«max_bounces» ≤ 16) (homes : (i : ℕ) → i < n → Housed (given i)) where
-  abbrev b : ℕ
-  b = S .optics .config .«max_bounces»
+housed-kept : (S : Scene) → S .optics .config .«max_bounces» ≤ 16 → Keeps Housed S
+housed-kept S lim a h =
+    let b : ℕ = S .optics .config .«max_bounces» in
+    let s : Step = takeStepOf S a in (
+      (λ q. child a (s .reflected) (one-more b a s lim (bred S a) q) (bred S a .later-one) h),
+      (λ q. child a (s .transmitted) (two-more b a s lim (bred S a) q) (bred S a .later-two) h),
+    )
 
-  taken-housed : (p : Progress) → isLeft p ≡ true → Orderly n p → Housed (nextRay given p)
-  taken-housed p l o =
-      ⊎-elim
-      (λ z. rw (given-taken given (p .stack) (p .left) z, nextRay) (homes (p .left - 1) (omega (arith, some-left p l z, o .left))))
-      (λ q. rw (top-taken given (p .stack) (p .left) q (o .tidy .full .small), nextRay) (o .each (p .stack .len - 1) (omega arith)))
-      (eq-zero-or-pos (p .stack .len))
-
-  taken-left : (s : Stack) (left : ℕ) → takenFrom given s left .left ≤ left
-  unfolding takenFrom loadOf
-  taken-left s left = pick (λ (t : Taken). t .left ≤ left) (ltb 0 (s .len) && leb (s .len) 17) (λ q. omega arith) (λ q. omega arith)
-
+module _ (S : Scene) (given : ℕ → ActiveRay) (lim : S .optics .config .«max_bounces» ≤ 16) where
   module _ {M : Type 0} (put : M → DetectorHit → Outcome M) where
-    next-orderly : (m : M) (p : Progress) → isLeft p ≡ true → Orderly n p → Orderly n (next put S given m p)
+    next-orderly : (m : M) (p : Progress) → isLeft p ≡ true → Orderly given p → Orderly given (next put S given m p)
     next-orderly m p l o =
-        let a : ActiveRay = nextRay given p in
-        let s : Step = takeStepOf S a in
-        let h : Housed a = taken-housed p l o in
-        record {
-          tidy = next-tidy put S given m p lim (o .tidy);
-          each =
-              rw (next-stack put S given m p)
-              (each-after Homely (p .stack) s (o .tidy .full) (o .each)
-              (λ q. child a (s .reflected) (one-more b a s lim (bred S a) q) (bred S a .later-one) h)
-              (λ i k q. child a (s .transmitted) (two-more b a s lim (bred S a) q) (bred S a .later-two) h));
-          left = rw (next-left put S given m p) (omega (arith, o .left, taken-left (p .stack) (p .left)));
-        }
+        record { tidy = next-tidy put S given m p lim (o .tidy); held = next-held Housed given put S (housed-kept S lim) m p l (o .held) }
 
-    next-plain : (m : M) (p : Progress) → Orderly n p → stackAfter (p .stack) (takeStepOf S (nextRay given p)) ≡ plainAfter (p .stack) (takeStepOf S (nextRay given p))
+    next-plain : (m : M) (p : Progress) → Orderly given p → stackAfter (p .stack) (takeStepOf S (nextRay given p)) ≡ plainAfter (p .stack) (takeStepOf S (nextRay given p))
     next-plain m p o = more (ltb (popped (p .stack) .len) 16) refl
       where
         more : (t : Bool) → ltb (popped (p .stack) .len) 16 ≡ t → stackAfter (p .stack) (takeStepOf S (nextRay given p)) ≡ plainAfter (p .stack) (takeStepOf S (nextRay given p))
@@ -131,9 +108,9 @@ module _ (S : Scene) (given : ℕ → ActiveRay) (n : ℕ) (lim : S .optics .con
             (if-true _ (λ y. omega (arith, room-one put S given m p lim (o .tidy) y)))
             (if-true _ (λ y. omega (arith, room-two put S given m p lim (o .tidy) y)))
 
-    orderly-roomy : (m : M) (p : Progress) → isLeft p ≡ true → Orderly n p → Roomy S given p
+    orderly-roomy : (m : M) (p : Progress) → isLeft p ≡ true → Orderly given p → Roomy S given p
     orderly-roomy m p l o =
-        let h : Housed (nextRay given p) = taken-housed p l o in
+        let h : Housed (nextRay given p) = held-ray Housed given p l (o .held) in
         record {
           full = o .tidy .full;
           after-full = full-after (p .stack) (takeStepOf S (nextRay given p)) (o .tidy .full);
@@ -142,15 +119,12 @@ module _ (S : Scene) (given : ℕ → ActiveRay) (n : ℕ) (lim : S .optics .con
           going = λ q. record { deep = omega (arith, h .deep); bounces = omega arith; reflections = omega (arith, h .reflections); tirs = omega (arith, h .tirs) };
         }
 
-    start-orderly : Orderly n (startOf given n)
-    unfolding startOf emptyStackOf
-    start-orderly = record { tidy = start-tidy given n; each = λ i q. absurd (omega arith); left = omega arith }
-
     -- after any k steps of a run, if a ray is left
-    pub roomy-after : (k : ℕ) (m : M) → isLeft (drive put S given k m (startOf given n) .progress) ≡ true → Roomy S given (drive put S given k m (startOf given n) .progress)
-    roomy-after k m l =
+    pub roomy-after : (n : ℕ) → EachGiven Housed given n → (k : ℕ) (m : M) → isLeft (drive put S given k m (startOf given n) .progress) ≡ true
+        → Roomy S given (drive put S given k m (startOf given n) .progress)
+    roomy-after n homes k m l =
         orderly-roomy m (drive put S given k m (startOf given n) .progress) l
-        (drive-keeps put S given (Orderly n) (λ u p q o. next-orderly u p q o) k m (startOf given n) start-orderly)
+        (drive-keeps put S given (Orderly given) (λ u p q o. next-orderly u p q o) k m (startOf given n) (record { tidy = start-tidy given n; held = start-held Housed given n homes }))
 
 -- ---- the given rays
 
@@ -166,4 +140,4 @@ pub roomy : {M : Type 0} (put : M → DetectorHit → Outcome M) (ds : Detectors
     → isLeft (drive put (sceneIn B ds) (raysIn B) k m (startOf (raysIn B) (B .rays)) .progress) ≡ true
     → Roomy (sceneIn B ds) (raysIn B) (drive put (sceneIn B ds) (raysIn B) k m (startOf (raysIn B) (B .rays)) .progress)
 roomy put ds B m k lim few =
-    roomy-after (sceneIn B ds) (raysIn B) (B .rays) lim (λ i q. given-housed (B .rayValues) (B .rayTags) i (few i q)) put k m
+    roomy-after (sceneIn B ds) (raysIn B) lim put (B .rays) (λ i q. given-housed (B .rayValues) (B .rayTags) i (few i q)) k m

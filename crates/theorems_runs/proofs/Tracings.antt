@@ -1,5 +1,5 @@
 -- Theorems about whole tracings: a run stops because nothing is left, and its interactions are bounded. Assumes nothing.
-use Prim.Native.Nat.{ℕ, zero, suc, _≤_, _<_, _+_, _-_, _*_, _^_}
+use Prim.Native.Nat.{ℕ, zero, suc, _≤_, _<_, _+_, _-_, _*_}
 use mathlib.Core.Path.{_≡_, refl}
 use mathlib.Core.Bool.{false}
 use native.Mathlib.Omega.{arith}
@@ -14,7 +14,7 @@ use Rattle.run.specs.declared.Progress.{Progress}
 use Rattle.run.specs.Stack.{emptyStackOf}
 use Rattle.run.specs.Run.{isLeft, drive}
 use Rattle.trace.specs.Trace.{Batch, raysIn, allSteps, startOf, sceneIn, runOn}
-use Rattle.theorems_runs.specs.Sums.{sumFirst, sumGiven, sumStack, sumLeft, heft, share, Full}
+use Rattle.theorems_runs.specs.Sums.{sumFirst, sumGiven, sumStack, sumLeft, heft, mostInteractions, share, Full}
 use Rattle.theorems_runs.proofs.Stacks.{next-full}
 use Rattle.theorems_runs.proofs.Weights.{heft-most}
 use Rattle.theorems_runs.proofs.Runs.{drive-keeps, drive-stops, next-shares}
@@ -48,7 +48,7 @@ record Kept (given : ℕ → ActiveRay) (b n : ℕ) (p : Progress) : Type 0 wher
   full : Full (p .stack)
   most : p .report .«total_interactions» + sumLeft (share b) given p ≤ n
 
-share-zero : (b : ℕ) (a : ActiveRay) → a .«bounce_count» ≡ 0 → share b a ≤ 2 ^ b - 1
+share-zero : (b : ℕ) (a : ActiveRay) → a .«bounce_count» ≡ 0 → share b a ≤ mostInteractions b
 unfolding share
 share-zero b a z = let q : b - a .«bounce_count» ≡ b = omega arith in rw q (omega arith)
 
@@ -77,6 +77,6 @@ module _ {M : Type 0} (put : M → DetectorHit → Outcome M) (ds : Detectors) (
       omega (arith, r .most)
 
   -- rays without bounces: at most 2 ^ limit - 1 for each
-  pub bound : ((i : ℕ) → i < B .rays → raysIn B i .«bounce_count» ≡ 0) → runOn put ds B m .progress .report .«total_interactions» ≤ B .rays * (2 ^ (B .config .«max_bounces») - 1)
+  pub bound : ((i : ℕ) → i < B .rays → raysIn B i .«bounce_count» ≡ 0) → runOn put ds B m .progress .report .«total_interactions» ≤ B .rays * mostInteractions (B .config .«max_bounces»)
   bound zero-bounces =
-      omega (arith, bound-any, given-most (share (B .config .«max_bounces»)) (raysIn B) (2 ^ (B .config .«max_bounces») - 1) (B .rays) (λ i q. share-zero (B .config .«max_bounces») (raysIn B i) (zero-bounces i q)))
+      omega (arith, bound-any, given-most (share (B .config .«max_bounces»)) (raysIn B) (mostInteractions (B .config .«max_bounces»)) (B .rays) (λ i q. share-zero (B .config .«max_bounces») (raysIn B i) (zero-bounces i q)))

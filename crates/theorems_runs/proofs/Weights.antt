@@ -11,7 +11,7 @@ use borrow.Author.Tests.{leb-true, leb-false, lt-ltb}
 use Rattle.step.specs.declared.ActiveRay.{ActiveRay}
 use Rattle.step.specs.Rays.{Step, moreOf}
 use Rattle.report.specs.Report.{isInteractionOf}
-use Rattle.theorems_runs.specs.Sums.{sumMade, heft, share}
+use Rattle.theorems_runs.specs.Sums.{sumMade, heft, mostInteractions, share}
 use Rattle.theorems_runs.proofs.Bred.{Bred, surface-busy}
 
 pub more-is : (n : ℕ) → n < 4294967295 → moreOf n ≡ n + 1
@@ -54,7 +54,7 @@ module _ (b : ℕ) where
       rw (q, r) (omega (arith, p1, p2, pow-pos j))
 
   share-child : (a c : ActiveRay) → a .«bounce_count» < b → c .«bounce_count» ≡ a .«bounce_count» + 1 → share b c + share b c + 1 ≡ share b a
-  unfolding share
+  unfolding share mostInteractions
   share-child a c h e =
       let j : ℕ = b - (a .«bounce_count» + 1) in
       let q : b - c .«bounce_count» ≡ j = omega arith in
@@ -62,7 +62,7 @@ module _ (b : ℕ) where
       rw (q, r) (omega (arith, pow-suc 2 j, pow-pos j))
 
   share-pos : (a : ActiveRay) → a .«bounce_count» < b → 1 ≤ share b a
-  unfolding share
+  unfolding share mostInteractions
   share-pos a h =
       let q : b - a .«bounce_count» ≡ suc (b - (a .«bounce_count» + 1)) = omega arith in
       rw q (omega (arith, pow-suc 2 (b - (a .«bounce_count» + 1)), pow-pos (b - (a .«bounce_count» + 1))))

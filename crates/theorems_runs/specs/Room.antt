@@ -1,7 +1,9 @@
 -- What holds of every ray of a run, and what a step needs so that no guard of the definitions acts.
 use Prim.Native.Nat.{ℕ, _+_, _≤_, _<_}
 use mathlib.Core.Path.{_≡_}
+use mathlib.Core.Bool.{true}
 use lib.ListN.{length}
+use Rattle.doubles.specs.Doubles.{isFiniteOf}
 use Rattle.step.specs.declared.ActiveRay.{ActiveRay}
 use Rattle.step.specs.Rays.{Scene, Step}
 use Rattle.step.specs.Steps.{takeStepOf}
@@ -10,10 +12,32 @@ use Rattle.report.specs.declared.NonSeqTraceReport.{NonSeqTraceReport}
 use Rattle.run.specs.declared.stack.Stack.{Stack}
 use Rattle.run.specs.declared.Progress.{Progress}
 use Rattle.run.specs.Stack.{takenFrom, pushedIf, popped, stackAfter}
-use Rattle.theorems_runs.specs.Sums.{Full}
+use Rattle.theorems_runs.specs.Sums.{Full, Each}
 use Rattle.media.specs.Media.{maxMedia}
 use Rattle.given_rays.specs.Given.{maxGivenMedia}
 use Rattle.trace.specs.Trace.{maxBounces}
+
+-- P holds of the first n given rays
+abbrev pub EachGiven : (ActiveRay → Type 0) → (ℕ → ActiveRay) → ℕ → Type 0
+EachGiven P given n = (i : ℕ) → i < n → P (given i)
+
+-- of the rays that a step makes
+abbrev pub EachMade : (ActiveRay → Type 0) → Step → Type 0
+EachMade P e = (e .«first» ≡ true → P (e .reflected)) × (e .second ≡ true → P (e .transmitted))
+
+-- of a ray of which P holds, a step in S makes only such rays
+abbrev pub Keeps : (ActiveRay → Type 0) → Scene → Type 0
+Keeps P S = (a : ActiveRay) → P a → EachMade P (takeStepOf S a)
+
+-- P holds of every ray that is still to be taken
+pub record Held (P : ActiveRay → Type 0) (given : ℕ → ActiveRay) (p : Progress) : Type 0 where
+  pub full : Full (p .stack)
+  pub stack : Each (λ i a. P a) (p .stack)
+  pub left : EachGiven P given (p .left)
+
+-- what the checks say of every given ray, and a step keeps: its wavelength is neither infinite nor NaN
+pub record Admitted (a : ActiveRay) : Type 0 where
+  pub wave : isFiniteOf (a .ray .«wavelength_nm») ≡ true
 
 pub record Housed (a : ActiveRay) : Type 0 where
   pub deep : a .media .depth ≤ a .«bounce_count» + maxGivenMedia

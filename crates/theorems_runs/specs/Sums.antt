@@ -36,9 +36,12 @@ sumMade f s = cond (s .«first») (f (s .reflected)) 0 + cond (s .second) (f (s 
 unfoldable pub heft : ℕ → ActiveRay → ℕ
 heft b a = 2 ^ (b - a .«bounce_count» + 1) - 1
 
--- the most interactions that a ray can lead to
+-- the most interactions that a ray can lead to which may bounce k times
+unfoldable pub mostInteractions : ℕ → ℕ
+mostInteractions k = 2 ^ k - 1
+
 unfoldable pub share : ℕ → ActiveRay → ℕ
-share b a = 2 ^ (b - a .«bounce_count») - 1
+share b a = mostInteractions (b - a .«bounce_count»)
 
 pub record Full (s : Stack) : Type 0 where
   pub room : length (s .rays) ≡ maxStack

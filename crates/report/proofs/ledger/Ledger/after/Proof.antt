@@ -22,20 +22,20 @@ enum-told-3 c = search needs
 escape-requires : tie.Need-escape-requires
 escape-requires c κs = search needs
 
-enum-told-4 : tie.Need-enum-told-4
-enum-told-4 c = search needs
+enum-known-end : tie.Need-enum-known-end
+enum-known-end c = search needs
 
 detect-requires : tie.Need-detect-requires
 detect-requires c κs = search needs
 
-enum-known-end : tie.Need-enum-known-end
-enum-known-end c = search needs
+enum-known-end-2 : tie.Need-enum-known-end-2
+enum-known-end-2 c = search needs
 
 met-requires : tie.Need-met-requires
 met-requires c κs = search needs
 
-enum-told-5 : tie.Need-enum-told-5
-enum-told-5 c = search needs
+enum-told-4 : tie.Need-enum-told-4
+enum-told-4 c = search needs
 
 returns : tie.Need-returns
 unfolding ledgerAfterOf
@@ -51,15 +51,15 @@ returns-3 c = simp (c .before .enum-told3 .given .1, ← c .escape .ensures)
 
 returns-4 : tie.Need-returns-4
 unfolding ledgerAfterOf
-returns-4 c = simp (c .before .enum-told4 .given .1, ← c .detect .ensures)
+returns-4 c = simp (c .before .before .end .given .1, ← c .detect .ensures)
 
 returns-5 : tie.Need-returns-5
 unfolding ledgerAfterOf
-returns-5 c = simp (c .before .before .end .given .1, ← c .met .ensures)
+returns-5 c = simp (c .before .before .end2 .given .1, ← c .met .ensures)
 
 returns-6 : tie.Need-returns-6
 unfolding ledgerAfterOf
-returns-6 c = simp (c .enum-told5 .given .1)
+returns-6 c = simp (c .enum-told4 .given .1)
 
 pub after-spec : {M : Type 1} → statement M
 after-spec =
@@ -71,11 +71,11 @@ after-spec =
     absorb-requires-2
     enum-told-3
     escape-requires
-    enum-told-4
-    detect-requires
     enum-known-end
+    detect-requires
+    enum-known-end-2
     met-requires
-    enum-told-5
+    enum-told-4
     returns
     returns-2
     returns-3

@@ -31,14 +31,8 @@ add-caught-requires c κs = search needs
 enum-known-end : tie.Need-enum-known-end
 enum-known-end c = search needs
 
-weak-requires : tie.Need-weak-requires
-weak-requires c κs = search needs
-
-faint-requires : tie.Need-faint-requires
-faint-requires c κs = search needs
-
-add-surface-requires : tie.Need-add-surface-requires
-add-surface-requires c κs = search needs
+met-requires : tie.Need-met-requires
+met-requires c κs = search needs
 
 enum-told-5 : tie.Need-enum-told-5
 enum-told-5 c = search needs
@@ -61,9 +55,7 @@ returns-4 c = simp (c .before .enum-told4 .given .1, ← c .add-caught .ensures)
 
 returns-5 : tie.Need-returns-5
 unfolding talliesAfterOf
-returns-5 c =
-    simp
-    (c .before .before .before .before .end .given .1, ← c .before .before .weak .ensures, ← c .before .faint .ensures, ← c .add-surface .ensures)
+returns-5 c = simp (c .before .before .end .given .1, ← c .met .ensures)
 
 returns-6 : tie.Need-returns-6
 unfolding talliesAfterOf
@@ -82,9 +74,7 @@ after-spec =
     enum-told-4
     add-caught-requires
     enum-known-end
-    weak-requires
-    faint-requires
-    add-surface-requires
+    met-requires
     enum-told-5
     returns
     returns-2

@@ -1,0 +1,2 @@
+-- What holds of the report after a step.
+pub mod Meetings
