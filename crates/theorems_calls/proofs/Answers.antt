@@ -20,19 +20,19 @@ use Rattle.detectors.specs.declared.Detectors.{Detectors}
 use Rattle.detectors.specs.declared.Placed.{Placed}
 use Rattle.detectors.specs.Detectors.{detectorAt, firstPixelOf, allPixelsOf, checkAsked, placedOf, findOf}
 use Rattle.detectors.specs.Readings.{irradianceInOf, irradianceFrom, irradianceAtOf}
-use Rattle.detectors.proofs.Passed.{Sound, asked-sound}
-use Rattle.memory.specs.Memory.{Memory, Outcome, done, refused, isHitListOf, listed, recordOf}
+use Rattle.detectors.proofs.Passed.{asked-sound}
+use Rattle.memory.specs.Memory.{Memory, Outcome, done, refused, isHitListOf, recordOf}
 use Rattle.memory.specs.Plain.{Empty, View, added, partIn, viewIn}
 use Rattle.memory.proofs.Plain.{mapOutcome, used-by}
 use Rattle.memory.proofs.Views.{part-get}
 use Rattle.filter.specs.declared.RayPathFilter.{RayPathFilter}
 use Rattle.filter.specs.Filters.{isAllOf, passesOf, refillOf}
-use Rattle.filter.specs.Handed.{Handed, handed, fromMap, checkPlaced, checkFilterOf, refilterPlaced, refilterOf, storedPartOf, partPlaced, filteredPixelFluxOf}
+use Rattle.filter.specs.Handed.{handed, fromMap, checkPlaced, checkFilterOf, refilterPlaced, refilterOf, storedPartOf, partPlaced, filteredPixelFluxOf}
 use Rattle.filter.proofs.Agree.{each-same}
 use Rattle.faces.specs.Faces.{newFacesOf}
 use Rattle.run.specs.Run.{Run}
 use Rattle.trace.specs.Trace.{Batch, runOn, traced, checkBatch, traceAfter, traceRaysOf}
-use Rattle.theorems_calls.specs.Calls.{Call, tracing, recording, refilter, part, irradiance, crossing, area, Answer, traceSaid, recordSaid, filterSaid, partSaid, readingSaid, verdict, tracedAnswer, answerIn, outcomeIn, memoryAfter}
+use Rattle.theorems_calls.specs.Calls.{Call, tracing, recording, refilter, part, irradiance, crossing, area, traceSaid, recordSaid, filterSaid, partSaid, readingSaid, verdict, tracedAnswer, answerIn, outcomeIn, memoryAfter}
 use Rattle.theorems_calls.specs.Book.{bareDetector, bareDetectors, bare, withUsed, wishIn, plainHit, bookGranted, bookAfter, bookView, bookTraced, bookAsked, bookFiltered, bookPart, bookReading, bookAnswer}
 use Rattle.theorems_calls.proofs.Drives.{mapRun}
 use Rattle.theorems_calls.proofs.Reached.{added-flux, added-values, added-tags, added-faces}

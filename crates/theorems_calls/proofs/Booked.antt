@@ -14,7 +14,7 @@ use Rattle.memory.specs.Plain.{Empty, added, bookHit}
 use Rattle.memory.proofs.Plain.{mapOutcome, same-put, record-lists}
 use Rattle.memory.proofs.Views.{Fits}
 use Rattle.memory.proofs.Booked.{Booked, empty-booked, record-books, holds-checked}
-use Rattle.theorems_calls.specs.Book.{bareDetectors, bare, withUsed, Wish, granted, checkHit, plainHit, bookGranted}
+use Rattle.theorems_calls.specs.Book.{bare, withUsed, Wish, granted, checkHit, plainHit, bookGranted}
 use Rattle.theorems_calls.proofs.Bare.{bare-hits, bare-used, bare-detectors, plain-bare}
 use Rattle.theorems_calls.proofs.Wishes.{Lawful, hit-there}
 

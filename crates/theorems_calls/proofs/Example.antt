@@ -21,9 +21,10 @@ use Rattle.detector.specs.Pixels.{indexAlongOf, pixelsOf, pixelAtOf}
 use Rattle.detectors.specs.Detectors.{noDetector, detectorAt, firstPixelOf, allPixelsOf, checkListOf, checkDetectorsOf, checkCountOf, checkEachOf, checkAsked, placedOf, findOf}
 use Rattle.detector.specs.declared.DetectorHit.{DetectorHit}
 use Rattle.memory.specs.Memory.{Memory, hitDoubles, hitWholes, done, refused, memoryLeft, judged, cellOf, cellIn, capacity, isHitListOf, areHitsOf, areLengthsOf, isMemory}
-use Rattle.memory.specs.Plain.{Empty, sharing, added}
+use Rattle.memory.specs.Plain.{Empty, sharing, added, partIn, viewIn, plusHit, plusAll}
 use Rattle.memory.proofs.Plain.{mapOutcome}
-use Rattle.filter.specs.declared.RayPathFilter.the-variants.{GhostsOnly}
+use Rattle.filter.specs.declared.RayPathFilter.the-variants.{All, GhostsOnly}
+use Rattle.filter.specs.Handed.{handed, checkPlaced, checkFilterOf}
 use Rattle.faces.specs.Faces.{newFacesOf, sightFrom, faceCountOf, nearestDetectorOf}
 use Rattle.step.specs.Steps.{firstAheadOf, meetsWith, interactOf, takeStepOf}
 use Rattle.given_rays.specs.Given.{readRayOf, readMediaOf, givenAtOf, checkListsOf, allSolidsOf, validMediaOf, checkRayOf, checkRaysOf, launchedFrom, launchedOf}
@@ -31,13 +32,17 @@ use Rattle.run.specs.Stack.{emptyStackOf, loadOf, takenFrom, pushedIf, popped, 
 use Rattle.run.specs.Run.{hitInOf, refusalInOf, isLeft, stepOn, drive}
 use Rattle.trace.specs.Trace.{Batch, checkFlatOf, checkConfigOf, checkCountsOf, checkRulesOf, checkLengthsOf, checkSceneOf, checksWith, checkTraceOf, checkBatch, startOf, runOn}
 use Rattle.theorems_calls.specs.Parts.{Part, Exact, AllExact, noRays, joinedAll, withRays, Splits, traceParts}
-use Rattle.theorems_calls.specs.Calls.{Call, tracing, recording, refilter, outcomeIn, memoryAfter}
-use Rattle.theorems_calls.specs.Book.{granted, checkHit, wishIn, bare, plainHit, bookGranted, bookAfter, Told}
+use Rattle.theorems_calls.specs.Calls.{Call, tracing, recording, refilter, filterSaid, answerIn, outcomeIn, memoryAfter}
+use Rattle.theorems_calls.specs.Book.{granted, checkHit, wishIn, bare, plainHit, bookGranted, bookAfter, bookView, bookAsked, bookFiltered, bookAnswer, Told}
 use Rattle.theorems_calls.proofs.Split.{split}
 use Rattle.theorems_calls.proofs.Lists.{call-booked, told}
+use Rattle.theorems_calls.proofs.Answers.{answers}
 
 abbrev #550 : Float
 #550 = ofBits binary64 0x4081300000000000
+
+abbrev #5 : Float
+#5 = ofBits binary64 0x4014000000000000
 
 abbrev detector : Detector2D
 detector =
@@ -146,6 +151,17 @@ listed =
 -- so the theorem speaks of this memory: two hits used, and what they make of it
 pub example : Told memory (memoryAfter calls memory) (traced ∷ recorded ∷ [])
 example = subst (Told memory (memoryAfter calls memory)) listed (told memory eight empty calls)
+
+-- and All answers then what both hits make: five watts, two hits, and the work map as it was
+abbrev counting : Call
+counting = refilter (record { 0 = 0 }) All (replicate 4 #1)
+
+counted : bookAnswer (bare memory) counting (traced ∷ recorded ∷ []) ≡ filterSaid (handed (passed tt) (replicate 4 #1) #5 2)
+unfolding bookAnswer bookFiltered bookAsked bookView bare plusAll plusHit viewIn partIn checkFilterOf checkPlaced findOf checkAsked placedOf checkDetectorsOf checkCountOf checkEachOf checkListOf checkDetectorOf checkGridOf isSizeOf isParallelOf isHitListOf areHitsOf allPixelsOf firstPixelOf pixelsOf pixelAtOf indexAlongOf clampOf ofInt toUnsigned normalizeOf normOf dotOf divideOf isFiniteOf absOf sqrtOf ofBits toBits add sub mul div neg lt le
+counted = refl
+
+pub answer-example : answerIn counting (memoryAfter calls memory) ≡ filterSaid (handed (passed tt) (replicate 4 #1) #5 2)
+answer-example = answers memory eight empty calls counting ∙ ap (bookAnswer (bare memory) counting) listed ∙ counted
 
 -- ---- three rays in parts of one, and an empty part, with room for one hit: the last ray fills the list, the one before it
 -- is refused by 12 at its place in the batch, the first is not traced

@@ -1,6 +1,6 @@
 -- What a wish must bring so that the memory and the plain book grant it alike, and that the wish of every call brings it. Assumes nothing.
 use Prim.Native.Nat.{ℕ, _≤_, _<_}
-use mathlib.Core.Path.{_≡_, refl, ap, sym, _∙_}
+use mathlib.Core.Path.{_≡_, refl, ap, _∙_}
 use mathlib.Core.Bool.{Bool, true, false, cond}
 use native.Mathlib.Omega.{arith}
 use lib.ListN.{length}
@@ -11,7 +11,7 @@ use Rattle.detector.specs.declared.DetectorHit.{DetectorHit}
 use Rattle.detectors.specs.declared.Detectors.{Detectors}
 use Rattle.detectors.specs.Detectors.{allPixelsOf, checkDetectorsOf, checkAsked, placedOf, findOf}
 use Rattle.detectors.proofs.Passed.{Sound, sound, asked-sound, both-passed}
-use Rattle.memory.specs.Memory.{Memory, Outcome, done, refused, unless, recordOf, isMemory, recordHitClassifiedOf}
+use Rattle.memory.specs.Memory.{Memory, Outcome, refused, unless, recordOf, isMemory, recordHitClassifiedOf}
 use Rattle.memory.proofs.Plain.{mapOutcome}
 use Rattle.faces.specs.declared.Faces.{Faces}
 use Rattle.faces.specs.Faces.{newFacesOf, faceCountOf}

@@ -23,8 +23,8 @@ use Rattle.filter.specs.Filters.{isAllOf, passesOf, refillOf}
 use Rattle.filter.specs.Handed.{Handed, handed, fromMap, checkFilterOf}
 use Rattle.trace.specs.Trace.{Batch, Trace, checkBatch, runOn, traceAfter}
 use Rattle.theorems_calls.specs.Calls.{Call, tracing, recording, refilter, part, irradiance, crossing, area}
-use Rattle.theorems_calls.specs.Calls.{Answer, traceSaid, recordSaid, filterSaid, partSaid, readingSaid}
-use Rattle.theorems_calls.specs.Calls.{crossingSaid, verdict, tracedAnswer}
+use Rattle.theorems_calls.specs.Calls.{Answer, recordSaid, filterSaid, partSaid, readingSaid, crossingSaid}
+use Rattle.theorems_calls.specs.Calls.{verdict, tracedAnswer}
 use Rattle.doubles.specs.Doubles.{#0}
 
 -- ---- what the book is fed of the memory: detectors without totals and counts, and lengths
