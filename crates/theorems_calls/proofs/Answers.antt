@@ -29,16 +29,15 @@ use Rattle.filter.specs.declared.RayPathFilter.{RayPathFilter}
 use Rattle.filter.specs.Filters.{isAllOf, passesOf, refillOf}
 use Rattle.filter.specs.Handed.{handed, fromMap, checkPlaced, checkFilterOf, refilterPlaced, refilterOf, storedPartOf, partPlaced, filteredPixelFluxOf}
 use Rattle.filter.proofs.Agree.{each-same}
-use Rattle.faces.specs.Faces.{newFacesOf}
 use Rattle.run.specs.Run.{Run}
 use Rattle.trace.specs.Trace.{Batch, runOn, traced, checkBatch, traceAfter, traceRaysOf}
 use Rattle.theorems_calls.specs.Calls.{Call, tracing, recording, refilter, part, irradiance, crossing, area, traceSaid, recordSaid, filterSaid, partSaid, readingSaid, verdict, tracedAnswer, answerIn, outcomeIn, memoryAfter}
 use Rattle.theorems_calls.specs.Book.{bareDetector, bareDetectors, bare, withUsed, wishIn, plainHit, bookGranted, bookAfter, bookView, bookTraced, bookAsked, bookFiltered, bookPart, bookReading, bookAnswer}
 use Rattle.theorems_calls.proofs.Drives.{mapRun}
 use Rattle.theorems_calls.proofs.Reached.{added-flux, added-values, added-tags, added-faces}
-use Rattle.theorems_calls.proofs.Bare.{bare-at, bare-pixels-at, bare-pixel-at, bare-asked, bare-all, bare-faces, bare-hits, bare-detectors, bare-flux, bare-values, bare-tags}
-use Rattle.theorems_calls.proofs.Wishes.{run-faces, run-natural, batch-there, lawful}
-use Rattle.theorems_calls.proofs.Booked.{Sane, put-booked, check-both, check-added}
+use Rattle.theorems_calls.proofs.Bare.{bare-at, bare-pixels-at, bare-pixel-at, bare-asked, bare-all, bare-hits, faces-bare, bare-used, bare-detectors, bare-flux, bare-values, bare-tags}
+use Rattle.theorems_calls.proofs.Wishes.{batch-blind, run-faces, run-natural, batch-there}
+use Rattle.theorems_calls.proofs.Booked.{Sane, put-booked}
 use Rattle.theorems_calls.proofs.Lists.{call-booked, after-calls, after-sane, book-view}
 
 verdict-map : {N M : Type 0} (φ : N → M) (o : Outcome N) → verdict (mapOutcome φ o) ≡ verdict o
@@ -238,26 +237,23 @@ module _ (s : Memory) (eight : length (s .detectors .list) ≡ 8) (empty : Empty
 
   module _ (B : Batch) where
     both : checkBatch B (withUsed (bare s) (length b)) ≡ passed tt → checkBatch B (withUsed s (length b)) ≡ passed tt
-    unfolding wishIn
-    both e = sym (check-both s eight empty (wishIn (tracing B)) (lawful (tracing B)) b) ∙ e
-
-    seen-faces : newFacesOf es ≡ newFacesOf (s .detectors)
-    seen-faces = ap newFacesOf (bare-detectors s) ∙ bare-faces (s .detectors)
+    unfolding bare
+    both e = sym (batch-blind B (withUsed s (length b))) ∙ e
 
     run-same : checkBatch B (withUsed (bare s) (length b)) ≡ passed tt → runOn recordOf (m .detectors) B m ≡ mapRun (added s) (runOn (plainHit (bare s)) es B b)
     run-same e =
         run-faces B recordOf (s .detectors) (m .detectors) m (added-faces b s)
         ∙ run-natural B (added s) recordOf (plainHit (bare s)) (withUsed s (length b)) (both e)
         (λ c h r. put-booked s eight empty (length b) h (batch-there B (withUsed s (length b)) (both e) h r) c) b
-        ∙ ap (mapRun (added s)) (run-faces B (plainHit (bare s)) es (s .detectors) b (sym seen-faces))
+        ∙ ap (mapRun (added s)) (run-faces B (plainHit (bare s)) es (s .detectors) b (sym (faces-bare s)))
 
     ran-same : (r : Run (List DetectorHit)) → tracedAnswer (traced (mapRun (added s) r)) ≡ tracedAnswer (traced r)
     ran-same r = ap (λ c. traceSaid c (r .progress .report)) (verdict-map (added s) (r .outcome))
 
     tracing-same : tracedAnswer (traceRaysOf B m) ≡ tracedAnswer (bookTraced (bare s) B b)
-    unfolding traceRaysOf bookTraced wishIn
+    unfolding traceRaysOf bookTraced
     tracing-same =
-        ap (λ c. tracedAnswer (traceAfter c m (runOn recordOf (m .detectors) B m))) (check-added s eight empty (wishIn (tracing B)) (lawful (tracing B)) b)
+        ap (λ c. tracedAnswer (traceAfter c m (runOn recordOf (m .detectors) B m))) (sym (batch-blind B m) ∙ ap (checkBatch B) (bare-used s eight empty b))
         ∙ go (checkBatch B (withUsed (bare s) (length b))) refl
       where
         go : (c : Checked Unit) → checkBatch B (withUsed (bare s) (length b)) ≡ c

@@ -143,6 +143,10 @@ bare-added = added-keeps bare bare-written
 
 -- ---- what the book reads of the memory
 
+-- the memory without contents, and the number used
+abbrev pub emptied : Memory → Memory
+emptied m = withUsed (bare m) (m .used)
+
 part-length : (A : Type 0) (l : List Detector2D) (d : ℕ) (m : List A) → length (partIn A l d m) ≡ min (pixelsOf (detectorAt l d)) (length m - firstPixelOf l d)
 unfolding partIn
 part-length A l d m = rw (length-take, length-drop)
@@ -171,6 +175,9 @@ module _ (s : Memory) where
   pub bare-detectors : bare s .detectors ≡ bareDetectors (s .detectors)
   unfolding bare
   bare-detectors = refl
+
+  pub faces-bare : newFacesOf (bare s .detectors) ≡ newFacesOf (s .detectors)
+  faces-bare = ap newFacesOf bare-detectors ∙ bare-faces (s .detectors)
 
   pub plain-bare : (b : List DetectorHit) (h : DetectorHit) → plainHit (bare s) b h ≡ plainHit s b h
   unfolding plainHit
@@ -234,5 +241,5 @@ module _ (s : Memory) (eight : length (s .detectors .list) ≡ 8) (empty : Empty
       ))
 
   -- the book's hits added, and the number used
-  pub bare-used : (b : List DetectorHit) → withUsed (bare (added s b)) (added s b .used) ≡ withUsed (bare s) (length b)
+  pub bare-used : (b : List DetectorHit) → emptied (added s b) ≡ withUsed (bare s) (length b)
   bare-used b = ap (λ m. withUsed m (added s b .used)) (bare-added b s) ∙ ap (withUsed (bare s)) (used-by s eight empty b)

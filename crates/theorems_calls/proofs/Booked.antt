@@ -7,7 +7,6 @@ use native.Mathlib.Omega.{arith}
 use lib.ListN.{length}
 use Rattle.error.specs.Refusals.{Checked, passed, refusedAt}
 use Rattle.detector.specs.declared.DetectorHit.{DetectorHit}
-use Rattle.detectors.specs.declared.Detectors.{Detectors}
 use Rattle.detector.proofs.Grid.{never}
 use Rattle.memory.specs.Memory.{Memory, Outcome, done, refused, memoryLeft, unless, listed, hitsFrom, recordOf, hasPixel}
 use Rattle.memory.specs.Plain.{Empty, added, bookHit}
@@ -15,8 +14,8 @@ use Rattle.memory.proofs.Plain.{mapOutcome, same-put, record-lists}
 use Rattle.memory.proofs.Views.{Fits}
 use Rattle.memory.proofs.Booked.{Booked, empty-booked, record-books, holds-checked}
 use Rattle.theorems_calls.specs.Book.{bare, withUsed, Wish, granted, checkHit, plainHit, bookGranted}
-use Rattle.theorems_calls.proofs.Bare.{bare-hits, bare-used, bare-detectors, plain-bare}
-use Rattle.theorems_calls.proofs.Wishes.{Lawful, hit-there}
+use Rattle.theorems_calls.proofs.Bare.{emptied, bare-used, plain-bare}
+use Rattle.theorems_calls.proofs.Wishes.{Lawful, hit-there, hit-blind}
 
 pub left-map : {N M : Type 0} (φ : N → M) (o : Outcome N) → memoryLeft (mapOutcome φ o) ≡ φ (memoryLeft o)
 left-map φ (done n) = refl
@@ -108,46 +107,32 @@ module _ (s : Memory) (eight : length (s .detectors .list) ≡ 8) (empty : Empty
   -- ---- any lawful wish
 
   module _ (w : Wish) (law : Lawful w) (b : List DetectorHit) where
-    pub check-both : w .check (withUsed (bare s) (length b)) ≡ w .check (withUsed s (length b))
-    unfolding bare
-    check-both = law .blind (withUsed s (length b))
-
-    pub check-added : w .check (added s b) ≡ w .check (withUsed (bare s) (length b))
-    check-added = sym (law .blind (added s b)) ∙ ap (w .check) (bare-used s eight empty b)
-
     module _ (e : w .check (withUsed (bare s) (length b)) ≡ passed tt) where
-      brought : (h : DetectorHit) → law .Brings (s .detectors) h → checkHit h (withUsed s (length b)) ≡ passed tt
-      brought = law .there (withUsed s (length b)) (sym check-both ∙ e)
+      brought : (h : DetectorHit) → law .Brings (bare s .detectors) h → checkHit h (withUsed s (length b)) ≡ passed tt
+      unfolding bare
+      brought h r = sym (hit-blind h (withUsed s (length b))) ∙ law .there (withUsed (bare s) (length b)) e h r
 
-      write-booked : w .write Memory recordOf (added s b .detectors) (added s b) ≡ mapOutcome (added s) (w .write (List DetectorHit) (plainHit (bare s)) (bare s .detectors) b)
-      write-booked =
-          sym (law .unseeing Memory recordOf (added s b .detectors) (added s b))
-          ∙ ap (λ (ds : Detectors). w .write Memory recordOf ds (added s b)) (bare-hits b s)
-          ∙ law .unseeing Memory recordOf (s .detectors) (added s b)
-          ∙ law .natural (List DetectorHit) Memory (added s) recordOf (plainHit (bare s)) (withUsed s (length b)) (sym check-both ∙ e) (λ c h r. put-booked (length b) h (brought h r) c) b
-          ∙ ap (mapOutcome (added s)) (sym (law .unseeing (List DetectorHit) (plainHit (bare s)) (s .detectors) b))
-          ∙ ap (λ (ds : Detectors). mapOutcome (added s) (w .write (List DetectorHit) (plainHit (bare s)) ds b)) (sym (bare-detectors s))
+      write-booked : w .write Memory recordOf (bare s .detectors) (added s b) ≡ mapOutcome (added s) (w .write (List DetectorHit) (plainHit (bare s)) (bare s .detectors) b)
+      write-booked = law .natural (List DetectorHit) Memory (added s) recordOf (plainHit (bare s)) (withUsed (bare s) (length b)) e (λ c h r. put-booked (length b) h (brought h r) c) b
 
       write-sane : Sane b → Sane (memoryLeft (w .write (List DetectorHit) (plainHit (bare s)) (bare s .detectors) b))
       write-sane x =
-          let o : Outcome SaneBook = w .write SaneBook (guarded (length b)) (s .detectors) (b, x) in
+          let o : Outcome SaneBook = w .write SaneBook (guarded (length b)) (bare s .detectors) (b, x) in
           subst Sane
           (sym
-          (ap (λ (ds : Detectors). memoryLeft (w .write (List DetectorHit) (plainHit (bare s)) ds b)) (bare-detectors s)
-          ∙ ap memoryLeft (law .unseeing (List DetectorHit) (plainHit (bare s)) (s .detectors) b)
-          ∙ ap memoryLeft (law .natural SaneBook (List DetectorHit) (λ c. c .0) (plainHit (bare s)) (guarded (length b)) (withUsed s (length b)) (sym check-both ∙ e) (λ c h r. guard-map (length b) c h (brought h r)) (b, x))
+          (ap memoryLeft (law .natural SaneBook (List DetectorHit) (λ c. c .0) (plainHit (bare s)) (guarded (length b)) (withUsed (bare s) (length b)) e (λ c h r. guard-map (length b) c h (brought h r)) (b, x))
           ∙ left-map (λ (c : SaneBook). c .0) o))
           (memoryLeft o .1)
 
     -- done or refused, with the same number and place, in both
-    pub granted-booked : granted w (added s b) recordOf (added s b) ≡ mapOutcome (added s) (bookGranted (bare s) w b)
+    pub granted-booked : granted w (emptied (added s b)) recordOf (added s b) ≡ mapOutcome (added s) (bookGranted (bare s) w b)
     unfolding granted
     granted-booked =
-        ap (λ c. unless c (added s b) (w .write Memory recordOf (added s b .detectors) (added s b))) check-added
+        ap (λ (t : Memory). unless (w .check t) (added s b) (w .write Memory recordOf (t .detectors) (added s b))) (bare-used s eight empty b)
         ∙ go (w .check (withUsed (bare s) (length b))) refl
       where
         go : (c : Checked Unit) → w .check (withUsed (bare s) (length b)) ≡ c
-            → unless c (added s b) (w .write Memory recordOf (added s b .detectors) (added s b)) ≡ mapOutcome (added s) (unless c b (w .write (List DetectorHit) (plainHit (bare s)) (bare s .detectors) b))
+            → unless c (added s b) (w .write Memory recordOf (bare s .detectors) (added s b)) ≡ mapOutcome (added s) (unless c b (w .write (List DetectorHit) (plainHit (bare s)) (bare s .detectors) b))
         go (passed tt) e = write-booked e
         go (refusedAt n place) e = refl
 

@@ -1,6 +1,6 @@
 -- What a wish must bring so that the memory and the plain book grant it alike, and that the wish of every call brings it. Assumes nothing.
 use Prim.Native.Nat.{ℕ, _≤_, _<_}
-use mathlib.Core.Path.{_≡_, refl, ap, _∙_}
+use mathlib.Core.Path.{_≡_, refl, ap, sym, _∙_}
 use mathlib.Core.Bool.{Bool, true, false, cond}
 use native.Mathlib.Omega.{arith}
 use lib.ListN.{length}
@@ -22,24 +22,20 @@ use Rattle.trace.proofs.Pieces.{same-checks}
 use Rattle.theorems_runs.specs.Room.{Admitted}
 use Rattle.theorems_runs.proofs.Waves.{admitted-kept}
 use Rattle.theorems_calls.specs.Calls.{Call, tracing, recording, refilter, part, irradiance, crossing, area, outcomeIn}
-use Rattle.theorems_calls.specs.Book.{bareDetectors, bare, withUsed, Wish, granted, checkHit, noWish, wishIn}
+use Rattle.theorems_calls.specs.Book.{bareDetectors, bare, Wish, granted, checkHit, noWish, wishIn}
 use Rattle.theorems_calls.proofs.Drives.{Brought, mapRun, map-drive}
 use Rattle.theorems_calls.proofs.Sights.{brought-there}
 use Rattle.theorems_calls.proofs.Checks.{Passes, passes, started, said}
-use Rattle.theorems_calls.proofs.Bare.{bare-each, bare-asked, bare-all, bare-faces, bare-flux, bare-counts, bare-values, bare-tags, bare-detectors, bare-memory}
+use Rattle.theorems_calls.proofs.Bare.{emptied, bare-each, bare-asked, bare-all, faces-bare, bare-flux, bare-counts, bare-values, bare-tags, bare-detectors, bare-memory}
 
 pub record Lawful (w : Wish) : Type 1 where
   -- the hits that it can bring with these detectors
   pub Brings : Detectors → DetectorHit → Type 0
-  -- its check looks at no contents
-  pub blind : (m : Memory) → w .check (withUsed (bare m) (m .used)) ≡ w .check m
-  -- its writer uses no total and no count of the detectors
-  pub unseeing : (M : Type 0) (put : M → DetectorHit → Outcome M) (ds : Detectors) (m : M) → w .write M put (bareDetectors ds) m ≡ w .write M put ds m
-  -- and, once its check passed, is natural in the memory, for puts that agree on the hits that it can bring
+  -- once its check passed, its writer is natural in the memory, for puts that agree on these
   pub natural :
       (N M : Type 0) (φ : N → M) (put : M → DetectorHit → Outcome M) (put′ : N → DetectorHit → Outcome N) (s : Memory)
       → w .check s ≡ passed tt → ((n : N) (h : DetectorHit) → Brings (s .detectors) h → put (φ n) h ≡ mapOutcome φ (put′ n h)) → (n : N) → w .write M put (s .detectors) (φ n) ≡ mapOutcome φ (w .write N put′ (s .detectors) n)
-  -- once its check passed, so does that of a recording of any hit that it can bring
+  -- and so passes the check of a recording of any of these
   pub there : (m : Memory) → w .check m ≡ passed tt → (h : DetectorHit) → Brings (m .detectors) h → checkHit h m ≡ passed tt
 
 -- ---- what the check of a recording says
@@ -62,7 +58,7 @@ unfolding isMemory checkLengthsOf
 lengths-held m e = said _ 9 0 e
 
 module _ (B : Batch) where
-  batch-blind : (m : Memory) → checkBatch B (withUsed (bare m) (m .used)) ≡ checkBatch B m
+  pub batch-blind : (m : Memory) → checkBatch B (emptied m) ≡ checkBatch B m
   unfolding checkBatch
   batch-blind m =
       rw (bare-detectors m, bare-flux m, bare-counts m, bare-values m, bare-tags m)
@@ -95,8 +91,6 @@ module _ (B : Batch) where
   tracing-lawful =
       record {
         Brings = λ ds h. Brought Admitted (sceneIn B ds) h;
-        blind = batch-blind;
-        unseeing = λ M put ds m. ap (λ (r : Run M). r .outcome) (run-faces put ds (bareDetectors ds) m (bare-faces ds));
         natural = λ N M φ put put′ s e same n. ap (λ (r : Run M). r .outcome) (run-natural φ put put′ s e same n);
         there = batch-there;
       }
@@ -104,7 +98,7 @@ module _ (B : Batch) where
 -- ---- a recording
 
 module _ (h : DetectorHit) where
-  hit-blind : (m : Memory) → checkHit h (withUsed (bare m) (m .used)) ≡ checkHit h m
+  pub hit-blind : (m : Memory) → checkHit h (emptied m) ≡ checkHit h m
   unfolding checkHit
   hit-blind m = rw (bare-memory m (m .used), bare-detectors m, bare-asked (h .detector) (m .detectors))
 
@@ -113,8 +107,6 @@ module _ (h : DetectorHit) where
   recording-lawful =
       record {
         Brings = λ ds k. k ≡ h;
-        blind = hit-blind;
-        unseeing = λ M put ds m. refl;
         natural = λ N M φ put put′ s e same n. same n h refl;
         there = λ m e k q. ap (λ x. checkHit x m) q ∙ e;
       }
@@ -125,8 +117,6 @@ nothing-lawful : Lawful noWish
 nothing-lawful =
     record {
       Brings = λ ds h. ⊥;
-      blind = λ m. refl;
-      unseeing = λ M put ds m. refl;
       natural = λ N M φ put put′ s e same n. refl;
       there = λ m e h x. absurd x;
     }
@@ -141,7 +131,7 @@ lawful (irradiance d px py) = nothing-lawful
 lawful (crossing d r) = nothing-lawful
 lawful (area d) = nothing-lawful
 
--- ---- what a call leaves by its contract is its wish granted
+-- ---- what a call leaves by its contract is its wish granted, the check and the writer fed no contents
 
 after-unless : {M : Type 0} (c : Checked Unit) (m : M) (r : Run M) → traceAfter c m r .outcome ≡ unless c m (r .outcome)
 after-unless (passed u) m r = refl
@@ -160,10 +150,15 @@ found-unless ds d x m o = go (checkAsked ds d) x
     go (passed u) false = refl
     go (refusedAt n place) x = refl
 
-pub meant : (c : Call) (m : Memory) → outcomeIn c m ≡ granted (wishIn c) m recordOf m
+pub meant : (c : Call) (m : Memory) → outcomeIn c m ≡ granted (wishIn c) (emptied m) recordOf m
 unfolding outcomeIn wishIn granted traceRaysOf recordHitClassifiedOf checkHit
-meant (tracing B) m = after-unless (checkBatch B m) m (runOn recordOf (m .detectors) B m)
-meant (recording h) m = found-unless (m .detectors) (h .detector) (isMemory m) m (recordOf m h)
+meant (tracing B) m =
+    after-unless (checkBatch B m) m (runOn recordOf (m .detectors) B m)
+    ∙ ap (λ c. unless c m (runOn recordOf (m .detectors) B m .outcome)) (sym (batch-blind B m))
+    ∙ ap (λ (r : Run Memory). unless (checkBatch B (emptied m)) m (r .outcome)) (sym (run-faces B recordOf (m .detectors) (bare m .detectors) m (faces-bare m)))
+meant (recording h) m =
+    found-unless (m .detectors) (h .detector) (isMemory m) m (recordOf m h)
+    ∙ ap (λ c. unless c m (recordOf m h)) (sym (hit-blind h m))
 meant (refilter d f work) m = refl
 meant (part d f work) m = refl
 meant (irradiance d px py) m = refl

@@ -68,14 +68,14 @@ withUsed s n =
       used = n;
     }
 
--- ---- what a call asks of a memory: a check, which looks at no contents, and a writer, which puts hits one by one into
--- any memory and uses of the detectors no totals and counts
+-- ---- what a call asks of a memory: a check of the memory without contents, then a writer that puts hits one by one into
+-- any memory
 
 pub record Wish : Type 1 where
   pub check : Memory → Checked Unit
   pub write : (M : Type 0) → (M → DetectorHit → Outcome M) → Detectors → M → Outcome M
 
--- refused by its check it changes nothing; s is what the check sees, m what is written
+-- refused by its check it changes nothing; s is the memory without contents, m what is written
 unfoldable pub granted : {M : Type 0} → Wish → Memory → (M → DetectorHit → Outcome M) → M → Outcome M
 granted w s put m = unless (w .check s) m (w .write _ put (s .detectors) m)
 
