@@ -109,7 +109,7 @@ hostBookAnswer s (refilterMap d f work) b =
     filtered (filteredFrom (bookSifted s (numberedFilterOf f) (record { 0 = d }) work b))
 hostBookAnswer s (pixelsIn d) b = part (partFrom (findOf (bare s .detectors) (record { 0 = d })))
 hostBookAnswer s (irradianceAt d px py) b =
-    let asked = record { 0 = d } in
+    let asked : DetectorNo = record { 0 = d } in
     reading (readOf (bookReading (bare s) asked px py b (findOf (bare s .detectors) asked)))
 hostBookAnswer s (putAnswer buf r f) b = written (hostPutAnswerOf buf r f (heldIn (added s b)))
 hostBookAnswer s checkDetectors b = checked (checkedOf (checkDetectorsOf (bare s .detectors)))
