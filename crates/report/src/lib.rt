@@ -68,11 +68,13 @@ impl NonSeqTraceReport {
         let ledger = self.ledger;
         let tallies = self.tallies;
         let end = step.end;
+        // the tallies before the ledger: it takes fewer instructions
+        let counted = tallies.after(end, step.first, step.second);
         NonSeqTraceReport {
             ledger: ledger.after(power, end, step.first, step.second),
             total_rays_traced: self.total_rays_traced,
             total_interactions: more_if(is_interaction(end), self.total_interactions),
-            tallies: tallies.after(end, step.first, step.second),
+            tallies: counted,
         }
     }
 
