@@ -25,7 +25,7 @@ use Rattle.geometry.specs.declared.PrimitiveGeometry.the-variants.{Plane
 use Rattle.geometry.specs.declared.flat.Distance.{Distance}
 use Rattle.geometry.specs.declared.flat.Distance.the-variants.{At, Nowhere}
 use Rattle.geometry.specs.declared.slab.Side.{Side}
-use Rattle.geometry.specs.declared.meeting.Meeting.{Meeting}
+use Rattle.geometry.specs.declared.contact.Contact.{Contact}
 use Rattle.geometry.specs.Hits.{parallel}
 use Rattle.geometry.specs.Flat.{flatDistanceOf, planeFrom, diskFrom, intersectPlaneOf, intersectDiskOf}
 use Rattle.geometry.specs.Slabs.{Interval, movedNear, movedFar, cutBy, wholeRay, outsideOf, insideOf, sideHitOf, hitWithin, intersectBoxOf}
@@ -33,7 +33,7 @@ use Rattle.geometry.specs.declared.slab.Side.the-variants.{MinusX, PlusX
 use Rattle.geometry.specs.Shapes.{intersectLocalOf}
 use Rattle.geometry.specs.Transforms.{unitOf, madeRay}
 use Rattle.geometry.specs.Behind.{recedesOf, leavesOf, isBehindOf}
-use Rattle.geometry.specs.Meetings.{rayBy, rayFromOf, meetBy, meetAlongOf, meetOf}
+use Rattle.geometry.specs.Contacts.{rayBy, rayFromOf, meetBy, meetAlongOf, meetOf}
 use Rattle.geometry.proofs.Signs.{Signed, under, Alike, round-signed, signed-under, under-le, below-under, not-below-under, product-alike, quotient-signed, length-positive, difference-signed, mirrored-signed, opposed-under, inverse-counts, inverse-signed, zero-le-above, zero-le-below, opposed-quotient, zero-below, near-is}
 
 -- 1e-9 and 1e-15

@@ -6,7 +6,7 @@ use Rattle.rays.specs.declared.Ray.{Ray}
 use Rattle.rays.specs.Matrices.{transformPointOf, transformDirectionOf}
 use Rattle.geometry.specs.declared.transform.Transform3D.{Transform3D}
 use Rattle.geometry.specs.Transforms.{unitOf, rayAlong, inverseTransformRayOf}
-use Rattle.geometry.specs.Meetings.{rayBy, rayFromOf}
+use Rattle.geometry.specs.Contacts.{rayBy, rayFromOf}
 
 by-is : (t : Transform3D) (r : Ray) (d : Option Vec3) → rayBy (transformPointOf (t .inverse) (r .origin)) r d ≡ rayAlong t r d
 unfolding rayBy rayAlong

@@ -22,7 +22,7 @@ use Rattle.rays.specs.Vectors.{dotOf, normOf, divideOf, isFiniteVecOf}
 use Rattle.rays.specs.Rays.{isFiniteRayOf, newRayOf}
 use Rattle.geometry.specs.declared.transform.UnitVector as unit
 use Rattle.geometry.specs.Transforms.{asUnitVector, unitOf, madeRay}
-use Rattle.geometry.specs.Meetings.{rayBy, rayFromOf}
+use Rattle.geometry.specs.Contacts.{rayBy, rayFromOf}
 use Rattle.geometry.proofs.Signs.{Signed, round-signed, abs-round, length-positive, suc-not-zero, cond-no}
 
 abbrev Finite : Float → Type 0

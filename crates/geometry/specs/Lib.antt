@@ -8,4 +8,4 @@ pub mod Shapes
 pub mod Transforms
 pub mod Behind
 pub mod Away
-pub mod Meetings
+pub mod Contacts

@@ -1,13 +1,13 @@
 // Shapes in their own coordinates and their place in the world (document 01, module 5), after
 // geometry.rs. Any sizes, any ray.
+mod contact;
 mod flat;
-mod meeting;
 mod round;
 mod slab;
 mod transform;
 
-pub use meeting::LocalMeeting;
-pub use meeting::Meeting;
+pub use contact::Contact;
+pub use contact::LocalContact;
 use rays::Ray;
 use rays::Vec3;
 pub use transform::LocalRay;

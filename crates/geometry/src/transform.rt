@@ -5,7 +5,7 @@ use rays::Vec3;
 ghost use mathlib.Core.Path.{_≡_};
 ghost use Rattle.rays.specs.Matrices.{transformPointOf};
 ghost use Rattle.geometry.specs.Transforms.{asUnitVector, asLocalRay, unitOf, inverseTransformRayOf, worldNormalOf};
-ghost use Rattle.geometry.specs.Meetings.{rayFromOf};
+ghost use Rattle.geometry.specs.Contacts.{rayFromOf};
 
 pub struct Transform3D {
     pub matrix: Mat4,

@@ -12,11 +12,11 @@ use Rattle.rays.specs.declared.Ray.{Ray}
 use Rattle.rays.specs.Matrices.{transformPointOf, transformDirectionOf}
 use Rattle.geometry.specs.declared.LocalHit.{LocalHit}
 use Rattle.geometry.specs.declared.PrimitiveGeometry.{PrimitiveGeometry}
-use Rattle.geometry.specs.declared.meeting.Meeting.{Meeting}
-use Rattle.geometry.specs.declared.meeting.LocalMeeting as met
+use Rattle.geometry.specs.declared.contact.Contact.{Contact}
+use Rattle.geometry.specs.declared.contact.LocalContact as met
 use Rattle.geometry.specs.Shapes.{intersectLocalOf}
 use Rattle.geometry.specs.Transforms.{inverseTransformRayOf}
-use Rattle.geometry.specs.Meetings.{asMeeting, rayFromOf, meetBy, meetAlongOf, meetOf}
+use Rattle.geometry.specs.Contacts.{asContact, rayFromOf, meetBy, meetAlongOf, meetOf}
 use Rattle.geometry.proofs.Local.{from-is}
 use Rattle.scene.specs.declared.NonSeqObject.{NonSeqObject}
 use Rattle.scene.specs.declared.object.Approach.{Approach}
@@ -42,7 +42,7 @@ parts-are o r =
 
 -- ---- the three ways through an approach by parts
 
-meets : (o : NonSeqObject) (r : Ray) (g : PrimitiveGeometry) (w : Mat4) (m : Option Meeting) → o .«is_active» ≡ true → g ≡ o .geometry → w ≡ o .transform .inverse → m ≡ meetOf g w r → approachOf o r ≡ reachedBy (o .transform .matrix) r m
+meets : (o : NonSeqObject) (r : Ray) (g : PrimitiveGeometry) (w : Mat4) (m : Option Contact) → o .«is_active» ≡ true → g ≡ o .geometry → w ≡ o .transform .inverse → m ≡ meetOf g w r → approachOf o r ≡ reachedBy (o .transform .matrix) r m
 unfolding approachParts
 meets o r g w m a p q e =
     sym (parts-are o r)
@@ -51,14 +51,14 @@ meets o r g w m a p q e =
     ∙ ap (λ (v : PrimitiveGeometry). reachedBy (o .transform .matrix) r (meetOf v w r)) (sym p)
     ∙ ap (reachedBy (o .transform .matrix) r) (sym e)
 
-pub approach-met : (o : NonSeqObject) (r : Ray) (g : PrimitiveGeometry) (m w : Mat4) (k : met.LocalMeeting) (a : Meeting) (x : Option Approach) → o .«is_active» ≡ true → g ≡ o .geometry → w ≡ o .transform .inverse → m ≡ o .transform .matrix → asMeeting k ≡ meetOf g w r → k ≡ met.the-variants.At a → x ≡ reachedOf m r (a .point) (a .hit) → x ≡ approachOf o r
+pub approach-met : (o : NonSeqObject) (r : Ray) (g : PrimitiveGeometry) (m w : Mat4) (k : met.LocalContact) (a : Contact) (x : Option Approach) → o .«is_active» ≡ true → g ≡ o .geometry → w ≡ o .transform .inverse → m ≡ o .transform .matrix → asContact k ≡ meetOf g w r → k ≡ met.the-variants.At a → x ≡ reachedOf m r (a .point) (a .hit) → x ≡ approachOf o r
 unfolding reachedBy
 approach-met o r g m w k a x e p q s t u v =
-    v ∙ ap (λ (n : Mat4). reachedOf n r (a .point) (a .hit)) s ∙ sym (meets o r g w (some a) e p q (sym (ap asMeeting u) ∙ t))
+    v ∙ ap (λ (n : Mat4). reachedOf n r (a .point) (a .hit)) s ∙ sym (meets o r g w (some a) e p q (sym (ap asContact u) ∙ t))
 
-pub approach-missed : (o : NonSeqObject) (r : Ray) (g : PrimitiveGeometry) (w : Mat4) (k : met.LocalMeeting) → o .«is_active» ≡ true → g ≡ o .geometry → w ≡ o .transform .inverse → asMeeting k ≡ meetOf g w r → k ≡ met.the-variants.Miss → none ≡ approachOf o r
+pub approach-missed : (o : NonSeqObject) (r : Ray) (g : PrimitiveGeometry) (w : Mat4) (k : met.LocalContact) → o .«is_active» ≡ true → g ≡ o .geometry → w ≡ o .transform .inverse → asContact k ≡ meetOf g w r → k ≡ met.the-variants.Miss → none ≡ approachOf o r
 unfolding reachedBy
-approach-missed o r g w k e p q t u = sym (meets o r g w none e p q (sym (ap asMeeting u) ∙ t))
+approach-missed o r g w k e p q t u = sym (meets o r g w none e p q (sym (ap asContact u) ∙ t))
 
 pub approach-inactive : (o : NonSeqObject) (r : Ray) → o .«is_active» ≡ false → none ≡ approachOf o r
 unfolding approachOf

@@ -10,9 +10,9 @@ use Rattle.rays.specs.Vectors.{dotOf, minusOf, negateOf}
 use Rattle.rays.specs.Matrices.{transformPointOf}
 use Rattle.geometry.specs.declared.LocalHit.{LocalHit}
 use Rattle.geometry.specs.declared.PrimitiveGeometry.{PrimitiveGeometry}
-use Rattle.geometry.specs.declared.meeting.Meeting.{Meeting}
+use Rattle.geometry.specs.declared.contact.Contact.{Contact}
 use Rattle.geometry.specs.Shapes.{intersectLocalOf}
-use Rattle.geometry.specs.Meetings.{meetOf}
+use Rattle.geometry.specs.Contacts.{meetOf}
 use Rattle.geometry.specs.Transforms.{inverseTransformRayOf, worldNormalOf}
 use Rattle.scene.specs.declared.NonSeqObject.{NonSeqObject}
 use Rattle.scene.specs.declared.NonSeqHit.{NonSeqHit}
@@ -90,7 +90,7 @@ reachedOf m r p h =
     let t = dotOf (minusOf q (r .origin)) (r .direction) in
     cond (le t minWorldDistance) none (some (record { t = t; point = q; local = h }))
 
-unfoldable pub reachedBy : Mat4 → Ray → Option Meeting → Option Approach
+unfoldable pub reachedBy : Mat4 → Ray → Option Contact → Option Approach
 reachedBy m r (some k) = reachedOf m r (k .point) (k .hit)
 reachedBy m r none = none
 

@@ -2,8 +2,8 @@
 use crate::Intersection;
 use crate::NonSeqHit;
 use crate::NonSeqObject;
+use geometry::LocalContact;
 use geometry::LocalHit;
-use geometry::LocalMeeting;
 use geometry::UnitVector;
 use rays::Mat4;
 use rays::Ray;
@@ -59,11 +59,11 @@ impl NonSeqObject {
         let transform = self.transform;
         if self.is_active {
             return match geometry.meet(transform.inverse, ray) {
-                LocalMeeting::At(m) => {
+                LocalContact::At(m) => {
                     let hit = m.hit;
                     reached(transform.matrix, ray, m.point, hit)
                 }
-                LocalMeeting::Miss => Approached::Miss,
+                LocalContact::Miss => Approached::Miss,
             };
         }
         Approached::Miss

@@ -9,7 +9,7 @@ use crate::object;
 use crate::object::Approached;
 use error::Check;
 use error::NonSeqError;
-use geometry::LocalMeeting;
+use geometry::LocalContact;
 use geometry::NumberedGeometry;
 use geometry::PrimitiveGeometry;
 use geometry::Transform3D;
@@ -120,11 +120,11 @@ fn approach_in(solid_values: &[f64], solid_tags: &[u32], i: u32, ray: Ray) -> Ap
         let inverse = mat_at(solid_values, a + INVERSE_AT);
         return match shape_in(solid_values, solid_tags, i) {
             NumberedGeometry::Shape(geometry) => match geometry.meet(inverse, ray) {
-                LocalMeeting::At(m) => {
+                LocalContact::At(m) => {
                     let hit = m.hit;
                     object::reached(mat_at(solid_values, a + MATRIX_AT), ray, m.point, hit)
                 }
-                LocalMeeting::Miss => Approached::Miss,
+                LocalContact::Miss => Approached::Miss,
             },
             NumberedGeometry::Nothing => Approached::Miss,
         };

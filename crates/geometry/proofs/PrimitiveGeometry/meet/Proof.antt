@@ -1,5 +1,5 @@
 -- `geometry::PrimitiveGeometry::meet` meets its contract. Assumes nothing.
-use Rattle.geometry.specs.Meetings.{meetOf}
+use Rattle.geometry.specs.Contacts.{meetOf}
 use Rattle.geometry.proofs.Behind.{miss-is}
 use borrow.Author.Needs.{needs}
 use Rattle.geometry.proofs.PrimitiveGeometry.meet.Statement.{statement}

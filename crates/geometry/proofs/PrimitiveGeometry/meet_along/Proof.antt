@@ -1,5 +1,5 @@
 -- `geometry::PrimitiveGeometry::meet_along` meets its contract. Assumes nothing.
-use Rattle.geometry.specs.Meetings.{meetAlongOf, meetBy}
+use Rattle.geometry.specs.Contacts.{meetAlongOf, meetBy}
 use borrow.Author.Needs.{needs}
 use Rattle.geometry.proofs.PrimitiveGeometry.meet_along.Statement.{statement}
 use Rattle.geometry.proofs.PrimitiveGeometry.meet_along.Tie as tie

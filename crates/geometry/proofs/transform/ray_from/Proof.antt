@@ -1,5 +1,5 @@
 -- `geometry::transform::ray_from` meets its contract. Assumes nothing.
-use Rattle.geometry.specs.Meetings.{rayBy, rayFromOf}
+use Rattle.geometry.specs.Contacts.{rayBy, rayFromOf}
 use Rattle.geometry.specs.Transforms.{madeRay}
 use Rattle.geometry.proofs.Unit.{ray-made, no-ray}
 use borrow.Author.Needs.{needs}

@@ -1,8 +1,8 @@
--- `geometry::meeting::recedes` meets its contract. Assumes nothing.
+-- `geometry::contact::recedes` meets its contract. Assumes nothing.
 use mathlib.Core.Path.{refl}
 use Rattle.geometry.specs.Behind.{recedesOf}
-use Rattle.geometry.proofs.meeting.recedes.Statement.{statement}
-use Rattle.geometry.proofs.meeting.recedes.Tie as tie
+use Rattle.geometry.proofs.contact.recedes.Statement.{statement}
+use Rattle.geometry.proofs.contact.recedes.Tie as tie
 
 returns : tie.Need-returns
 unfolding recedesOf

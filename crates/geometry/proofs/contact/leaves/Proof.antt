@@ -1,8 +1,8 @@
--- `geometry::meeting::leaves` meets its contract. Assumes nothing.
+-- `geometry::contact::leaves` meets its contract. Assumes nothing.
 use Rattle.geometry.specs.Behind.{leavesOf}
 use borrow.Author.Needs.{needs}
-use Rattle.geometry.proofs.meeting.leaves.Statement.{statement}
-use Rattle.geometry.proofs.meeting.leaves.Tie as tie
+use Rattle.geometry.proofs.contact.leaves.Statement.{statement}
+use Rattle.geometry.proofs.contact.leaves.Tie as tie
 
 recedes-requires : tie.Need-recedes-requires
 recedes-requires c κs = search needs

@@ -7,16 +7,16 @@ use Rattle.rays.specs.Matrices.{transformPointOf, transformDirectionOf}
 use Rattle.rays.specs.Rays.{newRayOf, atOf}
 use Rattle.geometry.specs.declared.LocalHit.{LocalHit}
 use Rattle.geometry.specs.declared.PrimitiveGeometry.{PrimitiveGeometry}
-use Rattle.geometry.specs.declared.meeting.Meeting.{Meeting}
-use Rattle.geometry.specs.declared.meeting.LocalMeeting.{LocalMeeting}
-use Rattle.geometry.specs.declared.meeting.LocalMeeting.the-variants.{At, Miss}
+use Rattle.geometry.specs.declared.contact.Contact.{Contact}
+use Rattle.geometry.specs.declared.contact.LocalContact.{LocalContact}
+use Rattle.geometry.specs.declared.contact.LocalContact.the-variants.{At, Miss}
 use Rattle.geometry.specs.Shapes.{intersectLocalOf}
 use Rattle.geometry.specs.Transforms.{unitOf, madeRay}
 
 -- what the code's answer says
-abbrev pub asMeeting : LocalMeeting → Option Meeting
-asMeeting (At m) = some m
-asMeeting Miss = none
+abbrev pub asContact : LocalContact → Option Contact
+asContact (At m) = some m
+asContact Miss = none
 
 unfoldable pub rayBy : Vec3 → Ray → Option Vec3 → Option Ray
 rayBy o r (some d) = madeRay (newRayOf o d (r .«wavelength_nm») (r .energy))
@@ -26,14 +26,14 @@ rayBy o r none = none
 unfoldable pub rayFromOf : Vec3 → Vec3 → Ray → Option Ray
 rayFromOf o d r = rayBy o r (unitOf d)
 
-unfoldable pub meetBy : Ray → Option LocalHit → Option Meeting
+unfoldable pub meetBy : Ray → Option LocalHit → Option Contact
 meetBy q (some h) = some (record { point = atOf q (h .t); hit = h })
 meetBy q none = none
 
 -- q is the ray in the shape's coordinates, if it can be made
-unfoldable pub meetAlongOf : PrimitiveGeometry → Option Ray → Option Meeting
+unfoldable pub meetAlongOf : PrimitiveGeometry → Option Ray → Option Contact
 meetAlongOf g (some q) = meetBy q (intersectLocalOf g q)
 meetAlongOf g none = none
 
-unfoldable pub meetOf : PrimitiveGeometry → Mat4 → Ray → Option Meeting
+unfoldable pub meetOf : PrimitiveGeometry → Mat4 → Ray → Option Contact
 meetOf g w r = meetAlongOf g (rayFromOf (transformPointOf w (r .origin)) (transformDirectionOf w (r .direction)) r)

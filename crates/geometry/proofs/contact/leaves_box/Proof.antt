@@ -1,8 +1,8 @@
--- `geometry::meeting::leaves_box` meets its contract. Assumes nothing.
+-- `geometry::contact::leaves_box` meets its contract. Assumes nothing.
 use Rattle.geometry.specs.Behind.{isBehindOf}
 use borrow.Author.Needs.{needs}
-use Rattle.geometry.proofs.meeting.leaves_box.Statement.{statement}
-use Rattle.geometry.proofs.meeting.leaves_box.Tie as tie
+use Rattle.geometry.proofs.contact.leaves_box.Statement.{statement}
+use Rattle.geometry.proofs.contact.leaves_box.Tie as tie
 
 leaves-requires : tie.Need-leaves-requires
 leaves-requires c κs = search needs

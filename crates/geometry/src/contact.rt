@@ -12,15 +12,15 @@ ghost use mathlib.Core.Path.{_≡_};
 ghost use Rattle.geometry.specs.declared.PrimitiveGeometry.the-variants.{Box};
 ghost use Rattle.geometry.specs.Transforms.{asLocalRay};
 ghost use Rattle.geometry.specs.Behind.{recedesOf, leavesOf, isBehindOf};
-ghost use Rattle.geometry.specs.Meetings.{asMeeting, meetAlongOf, meetOf};
+ghost use Rattle.geometry.specs.Contacts.{asContact, meetAlongOf, meetOf};
 
-pub struct Meeting {
+pub struct Contact {
     pub point: Vec3,
     pub hit: LocalHit,
 }
 
-pub enum LocalMeeting {
-    At(Meeting),
+pub enum LocalContact {
+    At(Contact),
     Miss,
 }
 
@@ -76,29 +76,29 @@ impl PrimitiveGeometry {
     }
 
     // By the ray in the shape's coordinates.
-    fn meet_along(self, along: LocalRay) -> LocalMeeting
-        ensures { λ m. ⌜ asMeeting m ≡ meetAlongOf self (asLocalRay along) ⌝ }
+    fn meet_along(self, along: LocalRay) -> LocalContact
+        ensures { λ m. ⌜ asContact m ≡ meetAlongOf self (asLocalRay along) ⌝ }
     {
         match along {
             LocalRay::Made(ray) => match self.intersect_local(ray) {
-                LocalIntersection::Hit(hit) => LocalMeeting::At(Meeting {
+                LocalIntersection::Hit(hit) => LocalContact::At(Contact {
                     point: ray.at(hit.t),
                     hit,
                 }),
-                LocalIntersection::Miss => LocalMeeting::Miss,
+                LocalIntersection::Miss => LocalContact::Miss,
             },
-            LocalRay::Nothing => LocalMeeting::Miss,
+            LocalRay::Nothing => LocalContact::Miss,
         }
     }
 
     // `inverse` is the inverse of the shape's matrix.
-    pub fn meet(self, inverse: Mat4, ray: Ray) -> LocalMeeting
-        ensures { λ m. ⌜ asMeeting m ≡ meetOf self inverse ray ⌝ }
+    pub fn meet(self, inverse: Mat4, ray: Ray) -> LocalContact
+        ensures { λ m. ⌜ asContact m ≡ meetOf self inverse ray ⌝ }
     {
         let o = inverse.transform_point(ray.origin);
         let d = inverse.transform_direction(ray.direction);
         if self.is_behind(o, d) {
-            return LocalMeeting::Miss;
+            return LocalContact::Miss;
         }
         self.meet_along(transform::ray_from(o, d, ray))
     }
