@@ -2,3 +2,4 @@
 pub mod Sift
 pub mod Agree
 pub mod Hands
+pub mod Both

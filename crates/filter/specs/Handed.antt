@@ -75,13 +75,22 @@ filteredPixelFluxOf ds asked f stored work hitValues hitTags used =
     partPlaced f stored work
     (checkFilterOf ds asked (length stored) (length work) (length hitValues) (length hitTags) used)
 
+-- ---- after both calls, `refilter` first (the theorem `both-calls`): the stored map's part for All, else what the hits
+-- that pass make of zeros
+
+unfoldable pub mapPlaced :
+    RayPathFilter → DetectorNo → List Float → ℕ → List DetectorHit → Checked Placed → List Float
+mapPlaced f asked stored n hits (passed p) =
+    cond (isAllOf f) (storedPartOf p stored) (refillOf (passesOf f asked) (p .detector) n hits .flux)
+mapPlaced f asked stored n hits (refusedAt k place) = []
+
 -- ---- where it lies, by the places in memory where the two maps begin: a block, and how many bytes into it
 
 -- n doubles further on
 abbrev pub doublesOn : ℕ → ℕ × ℕ → ℕ × ℕ
 doublesOn n at = (at .0, n * 8 + at .1)
 
--- for All from the detector's first pixel on; the empty part lies at the stored map's begin
+-- for All from the detector's first pixel on; the empty part lies at the stored map's start
 unfoldable pub liesPlaced : RayPathFilter → ℕ × ℕ → ℕ × ℕ → Checked Placed → ℕ × ℕ
 liesPlaced f stored work (passed p) = cond (isAllOf f) (doublesOn (p .first) stored) work
 liesPlaced f stored work (refusedAt n place) = stored
