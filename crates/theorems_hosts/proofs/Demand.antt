@@ -1,5 +1,14 @@
 -- Demand 3 of the calls that hosts make: that the exported entries meet their contracts, and what follows for every list of them. Assumes nothing.
+use Prim.Native.Nat.{ℕ}
 use mathlib.Core.Path.{_≡_}
+use mathlib.Core.Option.{some}
+use lib.Ieee.{Float}
+use Rattle.error.specs.Refusals.{passed}
+use Rattle.material.specs.declared.OpticalMedium.{OpticalMedium}
+use Rattle.trace.specs.Trace.{checkBatch}
+use Rattle.host_tracing.specs.declared.answers.HostConfig.{HostConfig}
+use Rattle.host_tracing.specs.Tracing.{hostTraceRaysOf}
+use Rattle.theorems_calls.specs.Parts.{Part, Splits}
 use mathlib.Core.List.{List, []}
 use lib.ListN.{length}
 use Rattle.memory.specs.Memory.{Memory}
@@ -28,7 +37,9 @@ use Rattle.host_texts.proofs.nonseq_put_answer.Statement.{statement as put-answ
 use Rattle.host_texts.proofs.nonseq_put_answer.Met as put-answer
 use Rattle.theorems_calls.specs.Book.{bare, bookAfter, Told}
 use Rattle.theorems_hosts.specs.HostCalls.{HostCall, hostAnswerIn, hostMemoryAfter}
-use Rattle.theorems_hosts.specs.HostBook.{callsIn, hostBookAnswer}
+use Rattle.theorems_hosts.specs.HostBook.{ambientIn, batchWith, callsIn, hostBookAnswer}
+use Rattle.theorems_hosts.specs.HostParts.{outcomeFrom, hostTraceParts}
+use Rattle.theorems_hosts.proofs.Parts as parts
 use Rattle.theorems_hosts.proofs.Lists as lists
 use Rattle.theorems_hosts.proofs.Answers as alike
 
@@ -45,6 +56,10 @@ pub record HostDemand3 (M : Type 1) : Type 2 where
   pub check-detector : check-detector-meets M
   pub intersect-ray : intersect-ray-meets M
   pub pixel-area-m2 : pixel-area-m2-meets M
+  -- a batch that passes the checks, traced in parts by an entry from any start
+  pub split :
+      (g : HostConfig) (x : List Float) (k : List ℕ) (n : ℕ) (medium : OpticalMedium) → ambientIn g ≡ some medium → (v : List Float) (t : List ℕ) (r : ℕ) (ps : List Part) (s : Memory)
+      → Splits (batchWith g x k n v t r medium) ps → checkBatch (batchWith g x k n v t r medium) s ≡ passed tt → hostTraceParts g x k n ps s ≡ outcomeFrom (hostTraceRaysOf g x k n v t r s)
   -- any list of calls from the empty memory; every list of detectors of the code has eight places
   pub calls : (s : Memory) → length (s .detectors .list) ≡ 8 → Empty s → (cs : List HostCall) → Told s (hostMemoryAfter cs s) (bookAfter (bare s) (callsIn cs) [])
   -- and every call answers after them what it answers in the book, in numbers
@@ -64,6 +79,7 @@ host-demand-3 =
       check-detector = check-detector.met;
       intersect-ray = intersect-ray.met;
       pixel-area-m2 = pixel-area-m2.met;
+      split = parts.split;
       calls = lists.told;
       answers = alike.answers;
     }

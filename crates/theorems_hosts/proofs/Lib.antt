@@ -1,4 +1,5 @@
 -- Demand 3 as hosts meet it.
 pub mod Lists
 pub mod Answers
+pub mod Parts
 pub mod Demand

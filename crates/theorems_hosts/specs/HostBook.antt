@@ -34,8 +34,8 @@ use Rattle.theorems_calls.specs.Calls.{Call, tracing, recording, refilter, irra
 use Rattle.theorems_calls.specs.Book.{bare, wishIn, bookGranted, bookTraced, bookAsked, bookFiltered, bookReading}
 use Rattle.theorems_hosts.specs.HostCalls.{HostCall, traceRays, traceGivenRays, recordHit, refilterMap}
 use Rattle.theorems_hosts.specs.HostCalls.{pixelsIn, irradianceAt, putAnswer, checkDetectors, checkDetector}
-use Rattle.theorems_hosts.specs.HostCalls.{intersectRay, pixelAreaM2, HostAnswer, traced, recorded, filtered, part}
-use Rattle.theorems_hosts.specs.HostCalls.{reading, written, checked, crossed, heldIn}
+use Rattle.theorems_hosts.specs.HostCalls.{intersectRay, pixelAreaM2, HostAnswer, traced, recorded, filtered}
+use Rattle.theorems_hosts.specs.HostCalls.{part, reading, written, checked, crossed, heldIn}
 use Rattle.doubles.specs.Doubles.{#0}
 
 -- ---- the library's calls that a host's call makes: none where a number that is no medium's or no filter's is refused

@@ -23,7 +23,7 @@ use Rattle.trace.proofs.Pieces.{of-all}
 
 -- 1 to 11 and 17
 abbrev pub isEarly : ℕ → Bool
-isEarly n = leb n 11 || eqb n 17
+isEarly n = (leb 1 n && leb n 11) || eqb n 17
 
 unfoldable early : Checked Unit → Bool
 early (passed u) = true

@@ -32,6 +32,18 @@ low w f (inr e) = absurd (clash (sym f ∙ e))
 -- ---- of a step that is refused with that number
 
 module _ (t : Memory) (S : Scene) (a : ActiveRay) where
+  -- no refusal has the number 0
+  at-0 : StepRefused t S a 0 → ⊥
+  at-0 (inl (h, (e, inl (n, k)))) = differ 0 9 refl n
+  at-0 (inl (h, (e, inr (inl (n, k))))) = differ 0 12 refl n
+  at-0 (inl (h, (e, inr (inr (n, k))))) = differ 0 13 refl n
+  at-0 (inr (u, (v, (h, (e, inl (f, inl (inl (n, k)))))))) = differ 0 14 refl n
+  at-0 (inr (u, (v, (h, (e, inl (f, inl (inr (n, k)))))))) = differ 0 15 refl n
+  at-0 (inr (u, (v, (h, (e, inl (f, inr (inl (inl (n, k))))))))) = differ 0 14 refl n
+  at-0 (inr (u, (v, (h, (e, inl (f, inr (inl (inr (n, k))))))))) = differ 0 15 refl n
+  at-0 (inr (u, (v, (h, (e, inl (f, inr (inr (n, k)))))))) = differ 0 16 refl n
+  at-0 (inr (u, (v, (h, (e, inr (n, k)))))) = differ 0 16 refl n
+
   -- the memory lacks the hit's place: no tracing that passed its checks meets this
   pub at-9 : StepRefused t S a 9 → (h : DetectorHit) × ((takeStepOf S a .end ≡ caught h) × (hasPixel t h ≡ false))
   at-9 (inl (h, (e, inl (n, k)))) = (h, (e, k))
@@ -129,3 +141,12 @@ refusals B s = (
   only B s 15 (λ (t : Memory). BadMedium) refl (λ (t : Memory) (a : ActiveRay) (w : Admitted a). at-15 t (sceneIn B (s .detectors)) a),
   only B s 16 (λ (t : Memory). BadRay) refl (λ (t : Memory) (a : ActiveRay) (w : Admitted a). at-16 t (sceneIn B (s .detectors)) a),
 )
+
+-- ---- no tracing is refused by 0
+
+pub never-0 : (B : Batch) (s : Memory) (place : ℕ) (t : Memory) → traceRaysOf B s .outcome ≡ refused 0 place t → ⊥
+never-0 B s place t x = go (trace-refuses B s 0 place t x)
+  where
+    go : (checkBatch B s ≡ refusedAt 0 place) ⊎ RunRefused B s 0 place t → ⊥
+    go (inl e) = clash (sym (check-refuses B s 0 place e))
+    go (inr (j, (q, (e, (l, (at, c)))))) = at-0 t (sceneIn B (s .detectors)) _ c
