@@ -22,8 +22,9 @@ sharing key x (h ∷ b) = cond (eqb (key h) x) 1 0 + sharing key x b
 abbrev pub numberIn : DetectorHit → ℕ
 numberIn h = h .detector .0
 
--- One hit into the book: 12 if the lent slices hold no more, 13 if 2^32 - 1 listed hits share its pixel or detector,
--- else appended.
+-- One hit into the book: 9 where the memory lacks its pixel, which document 01's book does not know and no call meets
+-- after its checks; 12 if the lent slices hold no more, 13 if 2^32 - 1 listed hits share its pixel or detector, else
+-- appended.
 unfoldable pub bookHit : Memory → List DetectorHit → DetectorHit → Outcome (List DetectorHit)
 bookHit s b h =
     let cell = cellIn (s .detectors .list) in

@@ -61,7 +61,7 @@ impl NonSeqTraceReport {
         }
     }
 
-    // After a step that was not refused.
+    // After a step; one that refuses itself adds its interaction alone.
     pub fn after(self, power: f64, step: Step) -> NonSeqTraceReport
         ensures { λ r. ⌜ r ≡ reportAfterOf self power (asStep step) ⌝ }
     {
