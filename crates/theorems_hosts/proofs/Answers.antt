@@ -17,7 +17,6 @@ use Rattle.memory.specs.Plain.{Empty, added}
 use Rattle.memory.proofs.Plain.{mapOutcome}
 use Rattle.filter.specs.declared.RayPathFilter.{RayPathFilter}
 use Rattle.filter.specs.Filters.{numberedFilterOf}
-use Rattle.filter.specs.Handed.{Handed, handed}
 use Rattle.report.specs.declared.NonSeqTraceReport.{NonSeqTraceReport}
 use Rattle.report.specs.Report.{startReportOf}
 use Rattle.run.specs.Run.{Run}
@@ -39,6 +38,7 @@ use Rattle.theorems_hosts.specs.HostCalls.{HostCall, traceRays, traceGiv
 use Rattle.theorems_hosts.specs.HostCalls.{traced, recorded, filtered, part, reading, written, checked, crossed, heldIn, hostAnswerIn, hostMemoryAfter}
 use Rattle.theorems_hosts.specs.HostBook.{ambientIn, batchWith, callsIn, tracedWith, tracedBy, bookTracing, recordedWith, recordedBy, bookSifted, hostBookAnswer}
 use Rattle.theorems_hosts.proofs.Lists.{calls-left}
+use Rattle.theorems_hosts.proofs.Texts.{handedIn, written-same}
 use Rattle.doubles.specs.Doubles.{#0}
 
 -- ---- an answer's parts, by its kind
@@ -58,14 +58,6 @@ reportIn (filterSaid h) = startReportOf 0 #0
 reportIn (partSaid l) = startReportOf 0 #0
 reportIn (readingSaid c) = startReportOf 0 #0
 reportIn (crossingSaid c) = startReportOf 0 #0
-
-abbrev handedIn : Answer → Handed
-handedIn (traceSaid c r) = handed c [] #0 0
-handedIn (recordSaid c) = handed c [] #0 0
-handedIn (filterSaid h) = h
-handedIn (partSaid l) = handed (passed tt) l #0 0
-handedIn (readingSaid c) = handed (passed tt) [] #0 0
-handedIn (crossingSaid c) = handed (passed tt) [] #0 0
 
 abbrev readIn : Answer → Checked Float
 readIn (traceSaid c r) = passed #0
@@ -116,7 +108,8 @@ bare-part d ds =
 
 -- ---- on the memory that the book's hits make of an empty one
 
-module _ (s : Memory) (eight : length (s .detectors .list) ≡ 8) (empty : Empty s) (b : List DetectorHit) (sane : Sane s eight empty b) where
+module _ (s : Memory) (eight : length (s .detectors .list) ≡ 8) (empty : Empty s) (b : List DetectorHit) (sane : Sane s eight empty b)
+    (texts : (buf : List ℕ) (r : NonSeqTraceReport) (f : ℕ) → hostPutAnswerOf buf r f (heldIn (added s b)) ≡ hostPutAnswerOf buf r f (heldIn (added (bare s) b))) where
   -- what does not depend on totals and counts is the same of the bare detectors
   seen : {A : Type 0} (F : Detectors → A) → ((ds : Detectors) → F (bareDetectors ds) ≡ F ds) → F (added s b .detectors) ≡ F (bare s .detectors)
   seen F e = sym (e (added s b .detectors)) ∙ ap F (bare-hits b s) ∙ ap F (sym (bare-detectors s))
@@ -166,7 +159,7 @@ module _ (s : Memory) (eight : length (s .detectors .list) ≡ 8) (empty : Empty
   host-same (refilterMap d f work) = ap (λ h. filtered (filteredFrom h)) (refilter-same (numberedFilterOf f) d work)
   host-same (pixelsIn d) = ap part (seen (λ ds. partFrom (findOf ds (record { 0 = d }))) (bare-part (record { 0 = d })))
   host-same (irradianceAt d px py) = ap (λ c. reading (readOf c)) (ap readIn (same (irradiance (record { 0 = d }) px py)))
-  host-same (putAnswer buf r f) = refl
+  host-same (putAnswer buf r f) = ap written (texts buf r f)
   host-same checkDetectors = ap (λ c. checked (checkedOf c)) (seen checkDetectorsOf bare-checks)
   host-same (checkDetector d) = refl
   host-same (intersectRay d r) = refl
@@ -176,4 +169,4 @@ module _ (s : Memory) (eight : length (s .detectors .list) ≡ 8) (empty : Empty
 pub answers : (s : Memory) → length (s .detectors .list) ≡ 8 → Empty s → (cs : List HostCall) (c : HostCall) → hostAnswerIn c (hostMemoryAfter cs s) ≡ hostBookAnswer s c (bookAfter (bare s) (callsIn cs) [])
 answers s eight empty cs c =
     ap (hostAnswerIn c) (calls-left cs s ∙ after-calls s eight empty (callsIn cs))
-    ∙ host-same s eight empty (bookAfter (bare s) (callsIn cs) []) (after-sane s eight empty (callsIn cs)) c
+    ∙ host-same s eight empty (bookAfter (bare s) (callsIn cs) []) (after-sane s eight empty (callsIn cs)) (written-same s eight empty (callsIn cs)) c

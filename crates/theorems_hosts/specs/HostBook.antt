@@ -74,7 +74,7 @@ callsIn [] = []
 callsIn (c ∷ cs) = callIn c ++ callsIn cs
 
 -- ---- what a call answers in the book b, in the numbers that hosts get; s is the memory before the list. Records and
--- number used, where they are given back, are what the book's hits make of s
+-- number used, where they are given back, are what the book's hits make of s; all else goes by s without contents
 
 abbrev pub tracedWith : Checked Unit → NonSeqTraceReport → Memory → HostTraced
 tracedWith c r m =
@@ -111,7 +111,7 @@ hostBookAnswer s (pixelsIn d) b = part (partFrom (findOf (bare s .detectors) (re
 hostBookAnswer s (irradianceAt d px py) b =
     let asked : DetectorNo = record { 0 = d } in
     reading (readOf (bookReading (bare s) asked px py b (findOf (bare s .detectors) asked)))
-hostBookAnswer s (putAnswer buf r f) b = written (hostPutAnswerOf buf r f (heldIn (added s b)))
+hostBookAnswer s (putAnswer buf r f) b = written (hostPutAnswerOf buf r f (heldIn (added (bare s) b)))
 hostBookAnswer s checkDetectors b = checked (checkedOf (checkDetectorsOf (bare s .detectors)))
 hostBookAnswer s (checkDetector d) b = checked (checkedOf (checkDetectorOf d 0))
 hostBookAnswer s (intersectRay d r) b = crossed (crossingFrom (intersectRayOf d r))
