@@ -8,22 +8,19 @@ use Rattle.error.specs.declared.Check.{Check}
 use Rattle.error.specs.declared.Check.the-variants.{Passed, Refused}
 use Rattle.error.specs.declared.NonSeqError.{NonSeqError}
 use Rattle.error.specs.Refusals.{asChecked}
-use Rattle.memory.specs.Memory.{Memory, asOutcome, recordOf}
+use Rattle.memory.specs.Memory.{Memory, recordOf}
 use Rattle.faces.specs.declared.Faces.{Faces}
 use Rattle.faces.specs.Faces.{newFacesOf}
 use Rattle.step.specs.Rays.{listedScene}
-use Rattle.report.specs.declared.NonSeqTraceReport.{NonSeqTraceReport}
-use Rattle.report.specs.Report.{startReportOf}
 use Rattle.run.specs.declared.Progress.{Progress}
 use Rattle.run.specs.declared.Advanced.{Advanced}
 use Rattle.run.specs.Run.{drive, asAdvanced}
 use Rattle.trace.specs.declared.Traced.{Traced}
-use Rattle.trace.specs.Trace.{Batch, raysIn, checkTraceOf, checkBatch, allSteps, startOf, runOn, traced, traceRaysOf, answerOf, asTraced}
-use Rattle.doubles.specs.Doubles.{#0}
+use Rattle.trace.specs.Trace.{Batch, raysIn, checkTraceOf, checkBatch, allSteps, startOf, runOn, traced, traceRaysOf, answerOf, refusedBeforeOf, asTraced}
 
 module _ (B : Batch) (s : Memory) (c : Check)
     (said : asChecked c ≡ checkTraceOf B (s .detectors) (length (s .flux)) (length (s .hits)) (length (s .hitValues)) (length (s .hitTags)) (s .used)) where
-  pub refused-call : (e : NonSeqError) (place : ℕ) → c ≡ Refused e place → (r : NonSeqTraceReport) → r ≡ startReportOf 0 #0 → record { outcome = asOutcome (Refused e place) s; report = r } ≡ traceRaysOf B s
+  pub refused-call : (e : NonSeqError) (place : ℕ) → c ≡ Refused e place → (r : Traced) → r ≡ refusedBeforeOf e place (s .detectors) (s .used) → asTraced r (s .flux) (s .hits) (s .hitValues) (s .hitTags) ≡ traceRaysOf B s
   unfolding traceRaysOf checkBatch
   refused-call e place k r er = rw (er, ← said, k)
 

@@ -6,6 +6,8 @@ use lib.Dec.{leb}
 use lib.Ieee.{Float, le}
 use lib.ListN.{length}
 use Rattle.doubles.specs.Doubles.{isFiniteOf, #0}
+use Rattle.error.specs.declared.NonSeqError.{NonSeqError}
+use Rattle.error.specs.declared.Check.the-variants.{Refused}
 use Rattle.error.specs.Refusals.{Checked, passed, refusedAt, after}
 use Rattle.scene.specs.Solids.{checkSolidsOf, maxSolids}
 use Rattle.detectors.specs.declared.Detectors.{Detectors}
@@ -127,6 +129,10 @@ traceRaysOf B s = traceAfter (checkBatch B s) s (runOn recordOf (s .detectors) B
 -- what the code's answers say
 abbrev pub answerOf : Advanced → Traced
 answerOf r = record { check = r .check; report = r .progress .report; detectors = r .detectors; used = r .used }
+
+abbrev pub refusedBeforeOf : NonSeqError → ℕ → Detectors → ℕ → Traced
+refusedBeforeOf e place ds used =
+    record { check = Refused e place; report = startReportOf 0 #0; detectors = ds; used = used }
 
 abbrev pub asTraced : Traced → List Float → List ℕ → List Float → List ℕ → Trace Memory
 asTraced r f h v t =

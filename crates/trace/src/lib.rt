@@ -4,6 +4,7 @@ mod checks;
 pub use checks::check_trace;
 use detectors::Detectors;
 use error::Check;
+use error::NonSeqError;
 use faces::Faces;
 use report::NonSeqTraceReport;
 use run::Advanced;
@@ -13,7 +14,7 @@ use step::NonSeqTraceConfig;
 ghost use mathlib.Core.Path.{_≡_};
 ghost use Rattle.memory.specs.Memory.{lentMemory};
 ghost use Rattle.given_rays.specs.Given.{givenAtOf};
-ghost use Rattle.trace.specs.Trace.{lentBatch, startOf, answerOf, traceRaysOf, asTraced};
+ghost use Rattle.trace.specs.Trace.{lentBatch, startOf, answerOf, refusedBeforeOf, traceRaysOf, asTraced};
 
 // More steps than any batch takes.
 const ALL_STEPS: u32 = 4294967295;
@@ -55,10 +56,22 @@ fn answer(r: Advanced) -> Traced
     }
 }
 
+// What is refused before the run: nothing has changed, and the report is all zeros.
+fn refused_before(error: NonSeqError, place: u32, detectors: Detectors, used: usize) -> Traced
+    ensures { λ r. ⌜ r ≡ refusedBeforeOf error place detectors used ⌝ }
+{
+    Traced {
+        check: Check::Refused { error, place },
+        report: NonSeqTraceReport::start(0, 0.0),
+        detectors,
+        used,
+    }
+}
+
 // Traces `given` rays through `count` solids to the detectors, rays last to first. `solid_values` and
 // `solid_tags` are the solids, `ray_values` and `ray_tags` the given rays; `flux`, `hits`, `hit_values` and
-// `hit_tags` the memory. What is refused before the run changes nothing (17, 1, 2, 3, 5 to 8, 9, 10, 11); what is refused in it (12 to 16)
-// keeps the hits of the steps before.
+// `hit_tags` the memory. What is refused before the run changes nothing (17, 1, 2, 3, 5 to 8, 9, 10, 11);
+// what is refused in it (12 to 16) keeps the hits of the steps before.
 pub fn trace_rays(
     config: NonSeqTraceConfig,
     solid_values: &[f64],
@@ -93,12 +106,7 @@ pub fn trace_rays(
         hit_tags.len(),
         used,
     ) {
-        Check::Refused { error, place } => Traced {
-            check: Check::Refused { error, place },
-            report: NonSeqTraceReport::start(0, 0.0),
-            detectors,
-            used,
-        },
+        Check::Refused { error, place } => refused_before(error, place, detectors, used),
         Check::Passed => {
             let faces = Faces::new(detectors);
             let progress = start(ray_values, ray_tags, given);

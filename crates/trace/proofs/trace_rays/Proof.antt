@@ -11,8 +11,8 @@ check-trace-requires c κs = search needs
 enum-known-error : tie.Need-enum-known-error
 enum-known-error c = search needs
 
-start-requires : tie.Need-start-requires
-start-requires c κs = search needs
+refused-before-requires : tie.Need-refused-before-requires
+refused-before-requires c κs = search needs
 
 enum-told : tie.Need-enum-told
 enum-told c = search needs
@@ -20,8 +20,8 @@ enum-told c = search needs
 new-requires : tie.Need-new-requires
 new-requires c κs = search needs
 
-start-requires-2 : tie.Need-start-requires-2
-start-requires-2 c κs = search needs
+start-requires : tie.Need-start-requires
+start-requires c κs = search needs
 
 advance-requires : tie.Need-advance-requires
 advance-requires c κs = search needs
@@ -30,7 +30,7 @@ answer-requires : tie.Need-answer-requires
 answer-requires c κs = search needs
 
 returns : tie.Need-returns
-returns c = refused-call _ _ _ (c .before .before .before .before .check-trace .ensures) _ _ (c .before .before .error .given .1) _ (c .start .ensures)
+returns c = refused-call _ _ _ (c .before .before .before .before .check-trace .ensures) _ _ (c .before .before .error .given .1) _ (c .refused-before .ensures)
 
 same-length : tie.Need-same-length
 same-length c = search needs
@@ -48,12 +48,12 @@ returns-2 : tie.Need-returns-2
 returns-2 c =
     let after-advance = c .before .before .before .before .before .before .before .before in
     let advance = after-advance .before .advance in
-    let start2 = after-advance .before .before .before .before .before .before .start2 in
+    let start = after-advance .before .before .before .before .before .before .start in
     let new = after-advance .before .before .before .before .before .before .before .new in
     let at-enum-told = after-advance .before .before .before .before .before .before .before .before in
     let the-enum-told = at-enum-told .enum-told in
     let check-trace = at-enum-told .before .before .check-trace in
-    passed-call _ _ _ (check-trace .ensures) (the-enum-told .given .1) (new .result) (new .ensures) (start2 .result) (start2 .ensures)
+    passed-call _ _ _ (check-trace .ensures) (the-enum-told .given .1) (new .result) (new .ensures) (start .result) (start .ensures)
     (advance .result) _ _ _ _ (advance .ensures) (c .answer .result) (c .answer .ensures)
 
 pub trace-rays-spec : {M : Type 1} → statement M
@@ -62,10 +62,10 @@ trace-rays-spec =
     (tie.spec
     check-trace-requires
     enum-known-error
-    start-requires
+    refused-before-requires
     enum-told
     new-requires
-    start-requires-2
+    start-requires
     advance-requires
     answer-requires
     returns
