@@ -249,7 +249,7 @@ fn texts() {
 /// What is read can be traced.
 #[test]
 fn a_text_read_and_traced() {
-    let text = include_bytes!("../../../crates/test_worked/data/lens.txt");
+    let text = include_bytes!("../../../crates/test_scripts/data/scenes/lens.txt");
     let answer = include_bytes!("../../../crates/test_worked/data/lens.answer.txt");
     let s = read_scene(text).unwrap();
     let v = |i: usize| Vec3::new(s.detector_values[i], s.detector_values[i + 1], s.detector_values[i + 2]);

@@ -6,9 +6,7 @@
 //!   scenegen batch FROM COUNT DIR   writes DIR/SEED.F.in and DIR/SEED.F.out, F in 0..4
 //!   scenegen bench SEED N        ns per interaction of the original
 //!   scenegen vectors DIR         tables of single functions of the original (hex bits, printed style)
-//!   scenegen scenes DIR          DIR/scenes_1.txt and _2.txt, small scenes with the original's answers, and DIR/stdout,
-//!                                what crates/test_scenes prints of them
-//!   scenegen worked DIR          the worked scenes and texts that are refused, with their answers (head of worked.rs)
+//!   scenegen scripts DIR SEED    the scripts of crates/test_scripts and what it is to print (head of scripts.rs)
 //! A SEED of the form tN is the "typical" bench scene number N (8 solids, 2 detectors).
 use nalgebra::{Matrix4, Vector4};
 use optics_core::{Ray, Vec3};
@@ -21,7 +19,20 @@ use optics_nonseq::source::NonSeqRay;
 use optics_nonseq::trace::{NonSeqTraceConfig, NonSeqTraceReport, NonSeqTracer};
 use std::fmt::Write as _;
 
+mod book;
+mod calls;
+mod damage;
+mod edges;
+mod flags;
+mod limits;
+mod plans;
+mod reader;
+mod runs;
+mod sample;
 mod scenes;
+mod script;
+mod scripts;
+mod stage;
 mod worked;
 
 struct Sm(u64);
@@ -74,8 +85,10 @@ impl Sm {
     }
 }
 
+#[derive(Clone)]
 struct GivenDet { normal: Vec3, up: Vec3 }
 
+#[derive(Clone)]
 struct Case {
     scene: NonSeqScene,
     given: Vec<GivenDet>,
@@ -799,8 +812,7 @@ fn main() {
         "scene" => print!("{}", scene_text(&case_of(&a[2]), "-")),
         "answer" => print!("{}", answer(&solve(&case_of(&a[2])), a[3].parse().unwrap())),
         "vectors" => vectors(&a[2]),
-        "scenes" => scenes::write(&a[2]),
-        "worked" => worked::write(&a[2]),
+        "scripts" => scripts::write(&a[2], a[3].parse().unwrap()),
         "batch" => {
             let from: u64 = a[2].parse().unwrap();
             let count: u64 = a[3].parse().unwrap();

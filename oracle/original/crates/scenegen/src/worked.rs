@@ -1,28 +1,40 @@
 //! The worked scenes of `scenes/`: a bench trainee's scenes, built here with the original's own types, and texts
 //! that are to be refused. Writes NAME.txt, the scene text, and NAME.answer.txt: the original's answer, or for a
 //! text that is refused before the run the number and place that document 01 gives, since the original has none.
+//! The scripts name these files.
+use super::script::Script;
+use super::scripts::ANSWER_BYTES;
+use super::stage::Stage;
 use super::*;
 
 struct Worked {
     dir: String,
-    names: Vec<String>,
+    scripts: Vec<Script>,
 }
 
 impl Worked {
-    fn put(&mut self, name: &str, text: String, answer: String) {
+    /// The files and the script of a text with the solids of a scene.
+    fn put(&mut self, name: &str, c: &Case, text: String, answer: String) {
         assert!(!answer.contains('?'), "{name}: the original can't tell a tally");
-        std::fs::write(format!("{}/{name}.txt", self.dir), text).unwrap();
-        std::fs::write(format!("{}/{name}.answer.txt", self.dir), answer).unwrap();
-        self.names.push(name.into());
+        std::fs::write(format!("{}/{name}.txt", self.dir), &text).unwrap();
+        std::fs::write(format!("{}/{name}.answer.txt", self.dir), &answer).unwrap();
+        let mut s = Stage::new(name);
+        s.place(c);
+        s.file(&format!("scenes/{name}.txt"), &text);
+        s.read();
+        s.map(ANSWER_BYTES);
+        s.written(&format!("scenes/{name}.answer.txt"));
+        assert_eq!(s.map_text(), Some(answer), "{name}");
+        self.scripts.push(s.script());
     }
 
     fn traced(&mut self, name: &str, c: &Case, filter: &str) {
         let f = filter.parse().unwrap_or(0);
-        self.put(name, scene_text(c, filter), answer(&solve(c), f));
+        self.put(name, c, scene_text(c, filter), answer(&solve(c), f));
     }
 
     fn refused(&mut self, name: &str, text: String, number: u32, place: u32) {
-        self.put(name, text, format!("refusal place\n{number} {place}\n"));
+        self.put(name, &block(glass(1.5), 550.0), text, format!("refusal place\n{number} {place}\n"));
     }
 }
 
@@ -205,8 +217,10 @@ fn solid_around(c: &mut Case) {
     push_ray(c, Vec3::new(1.0, 1.0, 0.0), Vec3::new(0.0, 0.0, 1.0), 550.0, 1.0, 0, vec![0]);
 }
 
-pub fn write(dir: &str) {
-    let mut w = Worked { dir: dir.into(), names: Vec::new() };
+/// Writes the files to a folder; the scripts that go by them.
+pub fn scripts(dir: &str) -> Vec<Script> {
+    std::fs::create_dir_all(dir).unwrap();
+    let mut w = Worked { dir: dir.into(), scripts: Vec::new() };
     w.traced("first", &first(), "-");
     w.traced("window", &window(), "-");
     w.traced("window-ghosts", &window(), "2");
@@ -220,5 +234,5 @@ pub fn write(dir: &str) {
     w.traced("car", &car(false), "4");
     w.traced("car-baffle", &car(true), "4");
     refusals(&mut w);
-    std::fs::write(format!("{dir}/index.txt"), w.names.join("\n") + "\n").unwrap();
+    w.scripts
 }

@@ -1,0 +1,102 @@
+//! What a tracing of a small scene shows, so that it can be counted what the scenes cover.
+use super::book::Memory;
+use super::stage::Stage;
+use super::*;
+
+pub const FLAGS: [&str; 32] = [
+    "nested media", "total reflections", "chains of total reflections", "mirrors", "mirrors at the threshold", "mirrors just above it", "mirrors just below it", "absorbers",
+    "several detectors hit", "given bounces", "threshold 0", "threshold above 0", "scaled solids", "planes", "disks", "spheres",
+    "cylinders", "boxes", "air", "constant indices", "Sellmeier indices", "Schott indices", "memory used before", "hit list filled to its end",
+    "weak rays", "dim rays", "spent rays", "escaped rays", "inactive solids", "all tallies known", "refused and all powers known", "two reasons to refuse",
+];
+
+#[derive(Clone)]
+pub struct Flags(pub [bool; 32]);
+
+impl Flags {
+    /// What a tracing that was made on this memory showed.
+    pub fn of(c: &Case, before: &Memory, after: &Stage) -> Flags {
+        let mut f = Flags([false; 32]);
+        f.set("threshold 0", c.threshold == 0.0);
+        f.set("threshold above 0", c.threshold > 0.0);
+        match after.last {
+            Ok(()) => {
+                f.met(c);
+                f.filled(before, &after.memory);
+                f.reported(after);
+            }
+            Err((12..=16, i)) => {
+                f.met(&Case { rays: c.rays[i + 1..].to_vec(), ..c.clone() });
+                f.reported(after);
+                f.set("refused and all powers known", after.report.powers.iter().all(Option::is_some));
+            }
+            Err(_) => {}
+        }
+        f
+    }
+
+    pub fn set(&mut self, name: &str, v: bool) {
+        let k = FLAGS.iter().position(|&n| n == name).unwrap();
+        self.0[k] |= v;
+    }
+
+    pub fn words(&self) -> String {
+        FLAGS.iter().zip(self.0).filter(|f| f.1).map(|f| *f.0).collect::<Vec<_>>().join(", ")
+    }
+
+    fn filled(&mut self, before: &Memory, after: &Memory) {
+        let hit: Vec<u32> = after.list()[before.used as usize..].iter().map(|h| h.tags[0]).collect();
+        self.set("several detectors hit", hit.iter().any(|&d| d != hit[0]));
+        self.set("hit list filled to its end", !hit.is_empty() && 4 * after.used == after.hit_values.len() as u64);
+    }
+
+    fn reported(&mut self, after: &Stage) {
+        let [_, _, tallies @ ..] = after.report.counts;
+        self.set("dim rays", tallies[1] > Some(0));
+        self.set("spent rays", tallies[2] > Some(0));
+        self.set("weak rays", tallies[6] > Some(0));
+        self.set("all tallies known", tallies.iter().all(Option::is_some));
+    }
+
+    /// What rays that are not refused meet.
+    fn met(&mut self, c: &Case) {
+        let rep = cfg(c, c.bounces, true).trace_rays(&mut c.scene.clone(), &c.rays, None).unwrap();
+        for p in &rep.paths {
+            self.set("total reflections", p.interaction == "TotalInternalReflection");
+            self.set("chains of total reflections", p.tir_count >= 2);
+            self.set("escaped rays", p.interaction == "EscapedToInfinity");
+            self.set("absorbers", p.interaction == "Absorption");
+            if p.interaction == "MirrorReflection" { self.met_mirror(c.threshold, p.power_watts); }
+            if let Some(k) = p.hit_object_id { self.met_solid(&c.scene.objects[k]); }
+        }
+        c.rays.iter().for_each(|r| self.met_first(c, r));
+        self.set("inactive solids", c.scene.objects.iter().any(|o| !o.is_active));
+    }
+
+    fn met_solid(&mut self, o: &NonSeqObject) {
+        self.0[13 + shape_fields(&o.geometry).0 as usize] = true;
+        if o.material.finish == SurfaceFinish::Specular { self.0[18 + med_fields(&o.material.medium).0 as usize] = true; }
+        self.set("scaled solids", o.transform.scale != Vec3::new(1.0, 1.0, 1.0));
+    }
+
+    fn met_mirror(&mut self, threshold: f64, power: f64) {
+        self.set("mirrors", true);
+        self.set("mirrors at the threshold", power == threshold);
+        let near = |a: f64, b: f64| b.to_bits() > a.to_bits() && b.to_bits() - a.to_bits() <= 2;
+        if threshold > 0.0 && power > 0.0 {
+            self.set("mirrors just above it", near(threshold, power));
+            self.set("mirrors just below it", near(power, threshold));
+        }
+    }
+
+    /// What the first step of a given ray meets.
+    fn met_first(&mut self, c: &Case, r: &NonSeqRay) {
+        if r.ray.energy <= c.threshold || r.bounce_count >= c.bounces { return; }
+        self.set("given bounces", r.bounce_count > 0);
+        let one = cfg(c, r.bounce_count + 1, true).trace_rays(&mut c.scene.clone(), std::slice::from_ref(r), None).unwrap();
+        if let (Some(h), Some(p)) = (c.scene.intersect_closest_object(&r.ray), one.paths.first()) {
+            let newest = r.medium_stack.last() == Some(&h.object_id);
+            self.set("nested media", p.interaction == "SnellFresnelSplit" && !h.entering && !newest && r.medium_stack.contains(&h.object_id));
+        }
+    }
+}

@@ -1,0 +1,76 @@
+//! Every script of crates/test_scripts/data: `scenegen scripts DIR SEED` writes the files of scripts and index.txt there,
+//! the worked scenes to DIR/scenes, to DIR/stdout what a run prints in which nothing differs, and to DIR/table.md what
+//! the small scenes, lists of calls and limits cover.
+use super::script::Script;
+use super::*;
+
+/// The seed of the scripts that are stored, and the first seed of their random scenes under each filter.
+const STORED: u64 = 20261117;
+const STORED_SAMPLE: u64 = 30000;
+/// A file is ended before it would have more bytes.
+const FILE_BYTES: usize = 400_000;
+/// The bytes that an answer is written to.
+pub const ANSWER_BYTES: usize = 131_072;
+
+/// Every list of scripts by the name of its files, and the table.
+fn all(dir: &str, seed: u64) -> (Vec<(&'static str, Vec<Script>)>, String) {
+    let (scenes, scenes_table) = scenes::scripts(seed);
+    let (calls, calls_table) = calls::calls(seed);
+    let (limits, limits_table) = limits::limits();
+    let sample = STORED_SAMPLE.wrapping_add((seed ^ STORED).wrapping_mul(1000));
+    let lists = vec![
+        ("worked", worked::scripts(&format!("{dir}/scenes"))),
+        ("scenes", scenes),
+        ("sample", sample::scripts(sample)),
+        ("calls", calls),
+        ("limits", limits),
+    ];
+    (lists, [scenes_table, calls_table, limits_table].join("\n"))
+}
+
+/// The files of one list as they are written.
+struct Files<'a> {
+    dir: &'a str,
+    name: &'a str,
+    number: usize,
+    scripts: usize,
+    text: String,
+    index: &'a mut String,
+}
+
+impl Files<'_> {
+    fn push(&mut self, script: &str) {
+        if self.text.len() + script.len() > FILE_BYTES { self.end_file(); }
+        self.text += script;
+        self.scripts += 1;
+    }
+
+    fn end_file(&mut self) {
+        if self.scripts == 0 { return; }
+        assert!(self.text.len() <= 524_288, "a script of {} is too long for a file", self.name);
+        self.number += 1;
+        let file = format!("{}_{}.txt", self.name, self.number);
+        let _ = writeln!(self.index, "{file} {}", self.scripts);
+        std::fs::write(format!("{}/{file}", self.dir), std::mem::take(&mut self.text)).unwrap();
+        self.scripts = 0;
+    }
+}
+
+pub fn write(dir: &str, seed: u64) {
+    let (lists, table) = all(dir, seed);
+    let (mut index, mut scripts, mut lines) = (String::new(), 0, 0);
+    for (name, list) in lists {
+        let mut files = Files { dir, name, number: 0, scripts: 0, text: String::new(), index: &mut index };
+        for s in list {
+            let (text, compared) = s.ended();
+            files.push(&text);
+            scripts += 1;
+            lines += compared;
+        }
+        files.end_file();
+    }
+    let put = |file: &str, text: String| std::fs::write(format!("{dir}/{file}"), text).unwrap();
+    put("index.txt", index);
+    put("stdout", format!("{scripts} scripts, {lines} lines compared, 0 differ\n"));
+    put("table.md", table);
+}
