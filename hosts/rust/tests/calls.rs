@@ -250,7 +250,7 @@ fn texts() {
 #[test]
 fn a_text_read_and_traced() {
     let text = include_bytes!("../../../crates/test_scripts/data/scenes/lens.txt");
-    let answer = include_bytes!("../../../crates/test_worked/data/lens.answer.txt");
+    let answer = include_bytes!("../../../crates/test_scripts/data/scenes/lens.answer.txt");
     let s = read_scene(text).unwrap();
     let v = |i: usize| Vec3::new(s.detector_values[i], s.detector_values[i + 1], s.detector_values[i + 2]);
     let d = Detector::new(v(0), v(3), v(6), (s.detector_values[9], s.detector_values[10]), (s.detector_tags[0], s.detector_tags[1])).unwrap();
