@@ -52,7 +52,7 @@ fn read(words: &mut Words, state: &mut State) -> Result<Answer, String> {
     wholes.into_iter().try_for_each(|(now, list)| taken(now, list, r.refusal))?;
     let digest = if r.refusal == 0 { lists.digest(r.solids, r.detectors, r.rays) } else { Digest::new() };
     if r.refusal == 0 {
-        (state.solids, state.detectors, state.rays) = (r.solids, r.detectors, r.rays);
+        (state.solids, state.detectors) = (r.solids, r.detectors);
         state.memory.caught_nothing();
     }
     let answer = Answer::of(r.refusal, r.place).wholes(&[r.solids, r.detectors, r.rays]).digest(digest);

@@ -13,7 +13,6 @@ pub fn obey(verb: &str, words: &mut Words, state: &mut State) -> Result<(), Stri
         "used" => number(words, |words| words.at_most(usize::MAX), &mut state.memory.used),
         "solids" => number(words, Words::small, &mut state.solids),
         "detectors" => number(words, Words::small, &mut state.detectors),
-        "rays" => number(words, Words::small, &mut state.rays),
         _ => Err(format!("no line without an answer begins with {verb}")),
     }
 }

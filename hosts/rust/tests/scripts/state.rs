@@ -106,7 +106,6 @@ pub struct State {
     pub lists: Lists,
     pub solids: u32,
     pub detectors: u32,
-    pub rays: u32,
     pub memory: LentMemory,
     pub report: Report,
     pub written: Vec<u8>,
@@ -123,7 +122,7 @@ impl State {
             hit_tags: Lent::of(&[]),
             used: 0,
         };
-        State { text: Vec::new(), lists: Lists::new(), solids: 0, detectors: 0, rays: 0, memory, report: Report::default(), written: Vec::new() }
+        State { text: Vec::new(), lists: Lists::new(), solids: 0, detectors: 0, memory, report: Report::default(), written: Vec::new() }
     }
 
     /// One of the eight detectors with what it has caught.

@@ -56,6 +56,13 @@ impl<'a> Words<'a> {
     }
 }
 
+/// 16 hex digits, zeros at the end left out.
+fn trimmed(bits: u64) -> String {
+    let digits = format!("{bits:016x}");
+    let t = digits.trim_end_matches('0');
+    if t.is_empty() { "0".into() } else { t.into() }
+}
+
 /// What a call answers, word by word.
 #[derive(Clone, Default)]
 pub struct Answer {
@@ -73,7 +80,7 @@ impl Answer {
         self
     }
     pub fn double(mut self, x: f64) -> Answer {
-        self.words.push(if x.is_nan() { "nan".into() } else { format!("{:016x}", x.to_bits()) });
+        self.words.push(if x.is_nan() { "nan".into() } else { trimmed(x.to_bits()) });
         self
     }
     pub fn doubles(self, all: &[f64]) -> Answer {
@@ -83,7 +90,7 @@ impl Answer {
         all.iter().fold(self, |answer, &n| answer.whole(n))
     }
     pub fn digest(mut self, digest: Digest) -> Answer {
-        self.words.push(format!("{:016x}", digest.0));
+        self.words.push(trimmed(digest.0));
         self
     }
     /// The words of two answers in their order.

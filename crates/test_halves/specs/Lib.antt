@@ -1,2 +1,0 @@
--- A batch traced in two parts.
-pub mod Halves
