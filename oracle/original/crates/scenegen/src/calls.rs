@@ -1,7 +1,8 @@
-//! Lists of calls on one memory, from the empty one: batches whole, and the same batches in parts, last part first, on
-//! a script of their own, with recordings, filters, readings and answers between, and every refusal. What a refused
-//! call needs is set before it and set back behind it. The memory's digest stands behind every call that may write.
-use super::book::Hit;
+//! Lists of calls on one memory, from the empty one: batches whole, and the same batches in parts, last part first and
+//! empty ones included, on a script of their own, with recordings, filters, readings and answers between, and every
+//! refusal. What a refused call needs is set before it and set back behind it. The memory's digest stands behind every
+//! call that may write.
+use super::book::{Hit, Refusal};
 use super::plans::{plan, STYLES};
 use super::script::Script;
 use super::stage::{Plan, Stage, Tally};
@@ -11,6 +12,9 @@ const LISTS: usize = 440;
 const MOST_TEXT: usize = 2000;
 /// How often each refusal has to come at least.
 const LEAST: usize = 5;
+/// How many batches in parts have to have an empty part, and to be refused after a part that passed.
+const LEAST_EMPTY: usize = 25;
+const LEAST_LATER: usize = 60;
 
 /// One of the first n.
 fn below(s: &mut Sm, n: usize) -> usize {
@@ -370,28 +374,95 @@ fn tight(s: &mut Sm, hits: usize) -> usize {
     if s.chance(0.3) { hits.saturating_sub(1 + below(s, 3)) } else { hits + below(s, 3) }
 }
 
-/// So many rays in parts, last part first, up to one that is refused.
-fn in_parts(s: &mut Sm, st: &mut Stage, rays: usize) {
-    let mut left = rays;
-    while left > 0 && st.tally.refused[12..17].iter().all(|&n| n == 0) {
-        let take = if st.calls() > 8 { left } else { 1 + below(s, left) };
-        assert!(st.trace(left - take, take));
-        st.memory();
-        left -= take;
-        if s.chance(0.5) && st.calls() < 10 { quiet(st, s); }
+/// What the batches in parts came to.
+#[derive(Default)]
+struct Split {
+    pairs: usize,
+    /// parts traced, with rays and without
+    parts: usize,
+    empty: usize,
+    /// batches refused after a part with rays that passed
+    later: usize,
+}
+
+impl Split {
+    fn rows(&self) -> String {
+        let rows = [("batches whole and in parts", self.pairs), ("parts with rays", self.parts), ("empty parts", self.empty), ("refused after a part with rays that passed", self.later)];
+        rows.iter().map(|(what, n)| format!("| {what} | {n} |\n")).collect()
     }
 }
 
-/// A batch whole, and in parts: two scripts that leave one memory.
-fn pair(s: &mut Sm, k: usize, style: usize) -> Vec<Stage> {
-    let (p, hits) = scene(s, style);
-    let (rays, room) = (p.beams.len(), tight(s, hits));
+/// A batch of two rays or more, which is refused in the run where that is wanted, but not at its last ray, which is
+/// traced first; the places for its hits, and where it is refused.
+fn divisible(s: &mut Sm, style: usize, wanted: bool) -> (Plan, usize, Option<Refusal>) {
+    loop {
+        let (p, hits) = scene(s, style);
+        let rays = p.beams.len();
+        let room = match wanted { true if style < 5 => below(s, hits), true => tight(s, hits), false => hits + below(s, 3) };
+        let mut st = start("", &p, room);
+        assert!(st.trace(0, rays));
+        let at = st.last.err();
+        assert!(at.map_or(true, |(n, _)| (12..17).contains(&n)));
+        if rays > 1 && at.map_or(!wanted, |(_, i)| i + 1 < rays) { return (p, room, at); }
+    }
+}
+
+/// Where so many rays are cut, last cut first: one cut lies behind the refused ray, so that the last part passes.
+fn cuts(s: &mut Sm, rays: usize, at: Option<Refusal>) -> Vec<usize> {
+    let least = at.map_or(1, |(_, i)| i + 1);
+    let mut all = vec![least + below(s, rays - least)];
+    for _ in 0..below(s, 4) { all.push(1 + below(s, rays - 1)); }
+    all.sort();
+    all.dedup();
+    all.reverse();
+    all
+}
+
+/// The parts that are traced, last first, as their first ray and number: up to the one that is refused, and an empty one
+/// somewhere before it where that is wanted.
+fn parts_of(s: &mut Sm, rays: usize, at: Option<Refusal>, empty: bool) -> Vec<(usize, usize)> {
+    let mut all = Vec::new();
+    let mut end = rays;
+    for from in cuts(s, rays, at).into_iter().chain([0]) {
+        if at.map_or(true, |(_, i)| i < end) { all.push((from, end - from)); }
+        end = from;
+    }
+    if empty {
+        let k = below(s, all.len() + at.is_none() as usize);
+        all.insert(k, (all.get(k).map_or(0, |&(from, n)| from + n), 0));
+    }
+    all
+}
+
+/// The parts traced; where the batch is refused, the last of them is, at the same ray.
+fn in_parts(s: &mut Sm, st: &mut Stage, parts: &[(usize, usize)], at: Option<Refusal>) {
+    for (k, &(from, n)) in parts.iter().enumerate() {
+        let left = parts.len() - 1 - k;
+        assert!(st.trace(from, n));
+        assert!(st.last.err() == at.filter(|_| left == 0).map(|(n, i)| (n, i - from)), "a part is refused elsewhere");
+        st.memory();
+        if s.chance(0.5) && st.calls() + 2 * left < 12 { quiet(st, s); }
+    }
+}
+
+/// A batch whole, and in parts: two scripts that leave one memory. Two of three pairs at least are refused in the
+/// run, and one of four has an empty part.
+fn pair(s: &mut Sm, k: usize, style: usize, split: &mut Split) -> Vec<Stage> {
+    let (p, room, at) = divisible(s, style, split.pairs % 3 > 0);
+    let rays = p.beams.len();
+    let cut = parts_of(s, rays, at, split.pairs % 4 == 1);
     let mut whole = start(&format!("whole_{k}"), &p, room);
-    assert!(whole.trace(0, rays));
+    assert!(whole.trace(0, rays) && whole.last.err() == at);
     whole.memory();
     let mut parts = start(&format!("parts_{k}"), &p, room);
-    in_parts(s, &mut parts, rays);
+    in_parts(s, &mut parts, &cut, at);
     assert!(whole.memory.digest() == parts.memory.digest() && is_book(&whole), "a batch in parts leaves another memory: {k}");
+    let full = cut.iter().filter(|part| part.1 > 0).count();
+    assert!(full > 1, "a batch in one part: {k}");
+    split.pairs += 1;
+    split.parts += full;
+    split.empty += cut.len() - full;
+    split.later += at.is_some() as usize;
     if s.chance(0.4) && parts.calls() < 12 { recorded_in_both(s, &mut whole, &mut parts); }
     while whole.calls() < 6 + below(s, 6) { quiet(&mut whole, s); }
     while parts.calls() < 6 { quiet(&mut parts, s); }
@@ -438,23 +509,25 @@ fn style_for(s: &mut Sm, wanted: u32) -> usize {
     }
 }
 
-fn stages(seed: u64) -> Vec<Stage> {
+fn stages(seed: u64) -> (Vec<Stage>, Split) {
     let s = &mut Sm(seed);
-    let (mut all, mut k) = (Vec::new(), 0);
+    let (mut all, mut split, mut k) = (Vec::new(), Split::default(), 0);
     while all.len() < LISTS {
         k += 1;
         let wanted = 1 + (k as u32 % 17);
         let style = style_for(s, if k % 3 == 0 { 1 } else { wanted });
-        all.extend(if k % 3 == 0 { pair(s, k, style) } else { list(s, k, style, wanted) });
+        all.extend(if k % 3 == 0 { pair(s, k, style, &mut split) } else { list(s, k, style, wanted) });
     }
-    all
+    (all, split)
 }
 
-/// The scripts, and a table of what they have. Every refusal comes, and hits stay where a run is refused.
+/// The scripts, and a table of what they have. Every refusal comes, hits stay where a run is refused, and batches in
+/// parts are refused behind a part that passed.
 pub fn calls(seed: u64) -> (Vec<Script>, String) {
-    let all = stages(seed);
+    let (all, split) = stages(seed);
     let sum = Tally::of(&all);
     assert!(all.iter().all(|st| (5..15).contains(&st.calls())));
     assert!(sum.refused[1..].iter().all(|&n| n >= LEAST) && sum.kept >= LEAST);
-    (all.iter().map(Stage::script).collect(), sum.table("lists of calls", &all))
+    assert!(split.pairs == LISTS / 4 && split.parts >= 2 * split.pairs && split.empty >= LEAST_EMPTY && split.later >= LEAST_LATER);
+    (all.iter().map(Stage::script).collect(), sum.table("lists of calls", &all) + &split.rows())
 }

@@ -528,7 +528,6 @@ fn longest() -> Stage {
     st.lend(1, 1, 4, 4);
     st.empty();
     all(&mut st);
-    st.say_rays(4097);
     (n..4097).for_each(|i| { st.set("ray_values", 8 * i + 5, 1.0); });
     for n in [4096, 4097] {
         st.trace(0, n);

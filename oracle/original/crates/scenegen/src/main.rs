@@ -370,11 +370,15 @@ fn typical(n: u64) -> Case {
 
 // ---- text ----
 
-fn hx(x: f64) -> String {
-    if x.is_nan() { return "7ff8".into(); }
-    let t = format!("{:016x}", x.to_bits());
+/// 16 hex digits, zeros at the end left out.
+fn trimmed(bits: u64) -> String {
+    let t = format!("{bits:016x}");
     let t = t.trim_end_matches('0');
     if t.is_empty() { "0".into() } else { t.into() }
+}
+fn hx(x: f64) -> String {
+    if x.is_nan() { return "7ff8".into(); }
+    trimmed(x.to_bits())
 }
 fn med_fields(m: &OpticalMedium) -> (u32, [f64; 6]) {
     match *m {

@@ -1,5 +1,5 @@
 //! Scripts of calls with what they are to answer, as crates/test_scripts/data/README.md describes them.
-use super::hx;
+use super::{hx, trimmed};
 
 /// The digest of numbers in their order.
 pub struct Digest(u64);
@@ -28,7 +28,7 @@ impl Digest {
         bs.iter().for_each(|&b| self.whole(b as u64));
     }
     pub fn hex(&self) -> String {
-        format!("{:016x}", self.0)
+        trimmed(self.0)
     }
 }
 
@@ -38,7 +38,7 @@ pub fn given(x: f64) -> String {
 }
 
 pub fn expected(x: f64) -> String {
-    if x.is_nan() { "nan".into() } else { format!("{:016x}", x.to_bits()) }
+    if x.is_nan() { "nan".into() } else { hx(x) }
 }
 
 pub fn joined<T: ToString>(words: impl IntoIterator<Item = T>) -> String {

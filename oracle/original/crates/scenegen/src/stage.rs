@@ -239,10 +239,6 @@ impl Stage {
         self.said = n;
         self.set_up(format!("detectors {n}"));
     }
-    pub fn say_rays(&mut self, n: u32) {
-        self.rays = n;
-        self.set_up(format!("rays {n}"));
-    }
     fn doubles(&mut self, slice: &str) -> &mut [f64] {
         match slice {
             "run_values" => &mut self.lists.run_values,
