@@ -9,7 +9,6 @@ use given_rays::RAY_ROOM_WHOLES;
 use rays::Vec3;
 use scene::SOLID_DOUBLES;
 use scene::SOLID_WHOLES;
-ghost use Prim.Native.Nat.{_≤_};
 
 pub const SOLID_ROOM: usize = 33;
 
@@ -140,13 +139,11 @@ pub fn tell_refusal(numbers: &mut [u64], refusal: u32, place: u32) {
     tell(numbers, 1, place as u64);
 }
 
-fn vector(values: &[f64], i: usize) -> Vec3
-    requires { ⌜ i ≤ 100000 ⌝ }
-{
+fn vector(values: &[f64], i: usize) -> Vec3 {
     Vec3 {
         x: lists::double_at(values, i),
-        y: lists::double_at(values, i + 1),
-        z: lists::double_at(values, i + 2),
+        y: lists::double_at(values, std::num::wrapping_add_usize(i, 1)),
+        z: lists::double_at(values, std::num::wrapping_add_usize(i, 2)),
     }
 }
 
