@@ -7,3 +7,4 @@ pub mod Patterns
 pub mod Roots
 pub mod Beside
 pub mod Sizes
+pub mod Order

@@ -9,8 +9,9 @@ use native.Mathlib.Decide.{decLt}
 use native.Mathlib.Nat.{add-zero, zero-add, lt-irrefl, eq-or-lt-of-le}
 use lib.Ieee.{Float, inf, lt, le}
 use Rattle.doubles.proofs.Floats.{clash}
+use Rattle.doubles.proofs.Order.{none-below, below-le}
 use Rattle.nearest.specs.Nearest.{isCounted, isNearerOf, distanceOf, nearerOf, nearestFrom, nearestAmong, NoneCounts, NoneNearer, IsNearest}
-use Rattle.nearest.proofs.Order.{none-below, nearer-counts, nearer-below, counts-not-below, counts-below-infinity, self-le, below-le, not-below-le, below-le-below, below-not-le}
+use Rattle.nearest.proofs.Order.{nearer-counts, nearer-below, counts-not-below, counts-below-infinity, self-le, not-below-le, below-le-below, below-not-le}
 
 -- the last place, or one before it
 last-or-before : (i j : ℕ) → j < i + 1 → (j ≡ i) ⊎ (j < i)
@@ -81,7 +82,7 @@ change A d f i (some b) g e n (k, (l, (o, (c, h)))) =
     farther j x m p r =
         let q : isCounted (d g) ≡ true = nearer-counts (d g) (d b) n in
         let u : lt (d g) (d x) ≡ true = below-le-below (d g) (d b) (d x) q c r (nearer-below (d g) (d b) n) (h j x m p r .0) in
-        (below-le (d g) (d x) q r u, λ (t : j < i). u)
+        (below-le (d g) (d x) u, λ (t : j < i). u)
 
 step : (A : Type 0) (d : A → Float) (f : ℕ → Option A) (i : ℕ) (best : Option A) → IsNearest A d f i best → IsNearest A d f (i + 1) (nearerOf A d best (f i))
 unfolding nearerOf
