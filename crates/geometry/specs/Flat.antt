@@ -15,6 +15,13 @@ use Rattle.geometry.specs.Hits.{parallel, hitAt}
 unfoldable pub reachOf : Float → Float → Float → Float
 reachOf o d t = add binary64 o (mul binary64 t d)
 
+-- the squared distance from the z axis at a distance along a ray
+unfoldable pub fromAxisOf : Ray → Float → Float
+fromAxisOf r t =
+    let x = reachOf (r .origin .x) (r .direction .x) t in
+    let y = reachOf (r .origin .y) (r .direction .y) t in
+    add binary64 (mul binary64 x x) (mul binary64 y y)
+
 -- the distance to z = 0; a direction of exactly 1e-12 is not parallel
 unfoldable pub flatDistanceOf : Ray → Distance
 flatDistanceOf r =
@@ -41,9 +48,7 @@ intersectPlaneOf w h r = planeFrom w h r (flatDistanceOf r)
 -- the squared distance from the axis lies from the square of the inner radius to that of the outer one
 unfoldable pub diskAtOf : Float → Float → Ray → Float → Option LocalHit
 diskAtOf outer inner r t =
-    let x = reachOf (r .origin .x) (r .direction .x) t in
-    let y = reachOf (r .origin .y) (r .direction .y) t in
-    let r2 = add binary64 (mul binary64 x x) (mul binary64 y y) in
+    let r2 = fromAxisOf r t in
     cond (le (mul binary64 inner inner) r2 && le r2 (mul binary64 outer outer)) (flatHitOf t) none
 
 unfoldable pub diskFrom : Float → Float → Ray → Distance → Option LocalHit

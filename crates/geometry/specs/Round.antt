@@ -1,9 +1,10 @@
 -- Sphere and Cylinder: the candidates are the two roots of a t² + b t + c, tried in this order.
 use lib.Ieee.{Float, binary64, add, sub, mul, div, neg, lt, le}
-use mathlib.Core.Bool.{cond, _&&_}
+use mathlib.Core.Bool.{Bool, cond, _&&_}
 use mathlib.Core.Option.{Option, none}
 use Rattle.doubles.specs.Doubles.{absOf, #2, #4, #0}
 use Rattle.doubles.specs.Root.{sqrtOf}
+use Rattle.rays.specs.declared.vector.Vec3.{Vec3}
 use Rattle.rays.specs.declared.Ray.{Ray}
 use Rattle.rays.specs.Rays.{minLocalDistance, atOf}
 use Rattle.rays.specs.Vectors.{vec3, dotOf, divideOf}
@@ -37,17 +38,19 @@ intersectSphereOf radius r =
     let c = sub binary64 (dotOf (r .origin) (r .origin)) (mul binary64 s s) in
     sphereAmongOf s r (solveOf a b c)
 
-unfoldable pub cylinderHitOf : Float → Ray → Float → Option LocalHit
-cylinderHitOf radius r t =
+-- the normal of a cylinder's side at a distance along a ray; a negative radius turns it round
+unfoldable pub sideNormalOf : Float → Ray → Float → Vec3
+sideNormalOf radius r t =
     let x = reachOf (r .origin .x) (r .direction .x) t in
     let y = reachOf (r .origin .y) (r .direction .y) t in
-    hitAt t (vec3 (div binary64 x radius) (div binary64 y radius) #0)
+    vec3 (div binary64 x radius) (div binary64 y radius) #0
 
--- exactly the half length is inside
+-- a distance above 1e-9 whose z is at most the half length in size
+unfoldable pub isOnSideOf : Float → Ray → Float → Bool
+isOnSideOf half r t = lt minLocalDistance t && le (absOf (reachOf (r .origin .z) (r .direction .z) t)) half
+
 unfoldable pub cylinderAtOf : Float → Float → Ray → Float → Option LocalHit
-cylinderAtOf radius half r t =
-    cond (lt minLocalDistance t && le (absOf (reachOf (r .origin .z) (r .direction .z) t)) half)
-    (cylinderHitOf radius r t) none
+cylinderAtOf radius half r t = cond (isOnSideOf half r t) (hitAt t (sideNormalOf radius r t)) none
 
 unfoldable pub cylinderAmongOf : Float → Float → Ray → Roots → Option LocalHit
 cylinderAmongOf radius half r (Two t1 t2) = firstThere (cylinderAtOf radius half r t1) (cylinderAtOf radius half r t2)

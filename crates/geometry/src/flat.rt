@@ -5,7 +5,7 @@ use rays::Ray;
 use rays::Vec3;
 ghost use mathlib.Core.Path.{_≡_};
 ghost use Rattle.geometry.specs.Hits.{asLocalHit};
-ghost use Rattle.geometry.specs.Flat.{reachOf, flatDistanceOf, flatHitOf, planeAtOf, intersectPlaneOf, diskAtOf, intersectDiskOf};
+ghost use Rattle.geometry.specs.Flat.{reachOf, fromAxisOf, flatDistanceOf, flatHitOf, planeAtOf, intersectPlaneOf, diskAtOf, intersectDiskOf};
 
 // The distance of a candidate, if there is one.
 pub enum Distance {
@@ -18,6 +18,17 @@ pub fn reach(o: f64, d: f64, t: f64) -> f64
     ensures { λ r. ⌜ r ≡ reachOf o d t ⌝ }
 {
     o + t * d
+}
+
+// The squared distance from the z axis at a distance along a ray.
+pub fn from_axis(ray: Ray, t: f64) -> f64
+    ensures { λ r. ⌜ r ≡ fromAxisOf ray t ⌝ }
+{
+    let o = ray.origin;
+    let d = ray.direction;
+    let x = reach(o.x, d.x, t);
+    let y = reach(o.y, d.y, t);
+    x * x + y * y
 }
 
 // The distance to z = 0.
@@ -72,11 +83,7 @@ pub fn intersect_plane(half_width: f64, half_height: f64, ray: Ray) -> LocalInte
 fn disk_at(outer_radius: f64, inner_radius: f64, ray: Ray, t: f64) -> LocalIntersection
     ensures { λ h. ⌜ asLocalHit h ≡ diskAtOf «outer_radius» «inner_radius» ray t ⌝ }
 {
-    let o = ray.origin;
-    let d = ray.direction;
-    let x = reach(o.x, d.x, t);
-    let y = reach(o.y, d.y, t);
-    let r2 = x * x + y * y;
+    let r2 = from_axis(ray, t);
     if (r2 >= inner_radius * inner_radius) & (r2 <= outer_radius * outer_radius) {
         return flat_hit(t);
     }

@@ -7,7 +7,7 @@ use rays::Vec3;
 ghost use mathlib.Core.Path.{_≡_};
 ghost use Rattle.geometry.specs.Hits.{asLocalHit};
 ghost use Rattle.geometry.specs.Away.{isAwayOf};
-ghost use Rattle.geometry.specs.Round.{solveOf, sphereAtOf, sphereAmongOf, intersectSphereOf, cylinderHitOf, cylinderAtOf, cylinderAmongOf, cylinderRootsOf, intersectCylinderOf};
+ghost use Rattle.geometry.specs.Round.{solveOf, sphereAtOf, sphereAmongOf, intersectSphereOf, sideNormalOf, isOnSideOf, cylinderAtOf, cylinderAmongOf, cylinderRootsOf, intersectCylinderOf};
 
 // The roots of a quadratic equation, in the order in which they are tried.
 pub enum Roots {
@@ -83,30 +83,36 @@ pub fn intersect_sphere(radius: f64, ray: Ray) -> LocalIntersection
     sphere_among(r, ray, solve(a, b, c))
 }
 
-// The hit at t on a cylinder. A negative radius turns the normal round.
-fn cylinder_hit(radius: f64, ray: Ray, t: f64) -> LocalIntersection
-    ensures { λ h. ⌜ asLocalHit h ≡ cylinderHitOf radius ray t ⌝ }
+// The normal of a cylinder's side at a distance along a ray. A negative radius turns it round.
+pub fn side_normal(radius: f64, ray: Ray, t: f64) -> Vec3
+    ensures { λ n. ⌜ n ≡ sideNormalOf radius ray t ⌝ }
 {
     let o = ray.origin;
     let d = ray.direction;
-    let normal = Vec3 {
+    Vec3 {
         x: reach(o.x, d.x, t) / radius,
         y: reach(o.y, d.y, t) / radius,
         z: 0.0,
-    };
-    LocalIntersection::Hit(LocalHit { t, normal })
+    }
+}
+
+// Whether a distance is above 1e-9 and its z at most the half length in size.
+pub fn is_on_side(half_length: f64, ray: Ray, t: f64) -> bool
+    ensures { λ b. ⌜ b ≡ isOnSideOf «half_length» ray t ⌝ }
+{
+    if t > Ray::MIN_LOCAL_DISTANCE {
+        return doubles::is_within(reach(ray.origin.z, ray.direction.z, t), half_length);
+    }
+    false
 }
 
 // The candidate at t on a cylinder.
 fn cylinder_at(radius: f64, half_length: f64, ray: Ray, t: f64) -> LocalIntersection
     ensures { λ h. ⌜ asLocalHit h ≡ cylinderAtOf radius «half_length» ray t ⌝ }
 {
-    let o = ray.origin;
-    let d = ray.direction;
-    if t > Ray::MIN_LOCAL_DISTANCE {
-        if doubles::is_within(reach(o.z, d.z, t), half_length) {
-            return cylinder_hit(radius, ray, t);
-        }
+    if is_on_side(half_length, ray, t) {
+        let normal = side_normal(radius, ray, t);
+        return LocalIntersection::Hit(LocalHit { t, normal });
     }
     LocalIntersection::Miss
 }
@@ -124,7 +130,7 @@ fn cylinder_among(radius: f64, half_length: f64, ray: Ray, candidates: Roots) ->
 }
 
 // The distances at which a ray is a radius away from the z axis.
-fn cylinder_roots(radius: f64, ray: Ray) -> Roots
+pub fn cylinder_roots(radius: f64, ray: Ray) -> Roots
     ensures { λ r. ⌜ r ≡ cylinderRootsOf radius ray ⌝ }
 {
     let o = ray.origin;

@@ -4,23 +4,19 @@ use borrow.Author.Needs.{needs}
 use Rattle.geometry.proofs.flat.disk_at.Statement.{statement}
 use Rattle.geometry.proofs.flat.disk_at.Tie as tie
 
-reach-requires : tie.Need-reach-requires
-reach-requires c κs = search needs
-
-reach-requires-2 : tie.Need-reach-requires-2
-reach-requires-2 c κs = search needs
+from-axis-requires : tie.Need-from-axis-requires
+from-axis-requires c κs = search needs
 
 flat-hit-requires : tie.Need-flat-hit-requires
 flat-hit-requires c κs = search needs
 
 returns : tie.Need-returns
 unfolding diskAtOf
-returns c = simp (← c .before .before .before .reach .ensures, ← c .before .before .reach2 .ensures, c .before .if1 .taken, ← c .flat-hit .ensures)
+returns c = simp (← c .before .before .from-axis .ensures, c .before .if1 .taken, ← c .flat-hit .ensures)
 
 returns-2 : tie.Need-returns-2
 unfolding diskAtOf
-returns-2 c = simp (← c .before .before .reach .ensures, ← c .before .reach2 .ensures, c .if1 .left)
+returns-2 c = simp (← c .before .from-axis .ensures, c .if1 .left)
 
 pub disk-at-spec : {M : Type 1} → statement M
-disk-at-spec =
-    tie.close (tie.spec reach-requires reach-requires-2 flat-hit-requires returns returns-2)
+disk-at-spec = tie.close (tie.spec from-axis-requires flat-hit-requires returns returns-2)
