@@ -396,7 +396,8 @@ fn shape_fields(g: &PrimitiveGeometry) -> (u32, [f64; 3]) {
         PrimitiveGeometry::Sphere { radius } => (2, [radius, 0.0, 0.0]),
         PrimitiveGeometry::Cylinder { radius, half_length } => (3, [radius, half_length, 0.0]),
         PrimitiveGeometry::Box { half_x, half_y, half_z } => (4, [half_x, half_y, half_z]),
-        _ => unreachable!(),
+        PrimitiveGeometry::ClosedCylinder { radius, half_length } => (5, [radius, half_length, 0.0]),
+        PrimitiveGeometry::Mesh { .. } => unreachable!(),
     }
 }
 fn mat(m: &Matrix4<f64>) -> String {

@@ -116,7 +116,8 @@ fn shape_by(n: u32, v: &[f64]) -> PrimitiveGeometry {
         1 => PrimitiveGeometry::Disk { outer_radius: v[0], inner_radius: v[1] },
         2 => PrimitiveGeometry::Sphere { radius: v[0] },
         3 => PrimitiveGeometry::Cylinder { radius: v[0], half_length: v[1] },
-        _ => PrimitiveGeometry::Box { half_x: v[0], half_y: v[1], half_z: v[2] },
+        4 => PrimitiveGeometry::Box { half_x: v[0], half_y: v[1], half_z: v[2] },
+        _ => PrimitiveGeometry::ClosedCylinder { radius: v[0], half_length: v[1] },
     }
 }
 
