@@ -8,3 +8,4 @@ pub mod Roots
 pub mod Beside
 pub mod Sizes
 pub mod Order
+pub mod Same

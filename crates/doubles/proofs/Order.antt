@@ -11,7 +11,7 @@ use lib.Ieee.Bits.{is-true}
 use lib.Ieee.Positive.{num, den, positive, den-pos, le→cross, cross→le, le-trans-positive}
 use Rattle.doubles.proofs.Floats.{clash}
 
-holds : {b : Bool} → b ≡ true → T b
+pub holds : {b : Bool} → b ≡ true → T b
 holds e = subst T (sym e) tt
 
 fails : {b : Bool} → b ≡ false → T (not b)

@@ -18,6 +18,9 @@ abbrev pub #1 : Float
 abbrev pub #2 : Float
 #2 = ofBits binary64 0x4000000000000000
 
+abbrev pub #3 : Float
+#3 = ofBits binary64 0x4008000000000000
+
 abbrev pub #4 : Float
 #4 = ofBits binary64 0x4010000000000000
 

@@ -3,7 +3,7 @@ use mathlib.Core.Path.{_≡_, refl, _∙_}
 use mathlib.Core.Logic.{_⊎_, inl, inr}
 use mathlib.Core.Bool.{true, false}
 use lib.Ieee.{Float, binary64, add, sub, mul, div, neg, lt, le, eq, ofBits, toBits}
-use Rattle.doubles.specs.Doubles.{clampOf, maxZeroOf, isFiniteOf, #0, #½, #1, #5}
+use Rattle.doubles.specs.Doubles.{clampOf, maxZeroOf, isFiniteOf, #0, #½, #1, #3, #5}
 use Rattle.doubles.specs.Root.{sqrtOf}
 use Rattle.error.specs.Refusals.{value}
 use Rattle.rays.specs.declared.vector.Vec3.{Vec3}
@@ -19,7 +19,7 @@ use Rattle.step.specs.declared.ActiveRay.{ActiveRay}
 use Rattle.step.specs.Rays.{endsOf, stopped, met}
 use Rattle.step.specs.Steps.{mirrorOf, nearerOf, firstAheadOf}
 use Rattle.report.specs.Report.{absorbOf, ledgerMetOf, ledgerAfterOf, moreIfOf, addSurfaceOf, talliesMetOf, talliesAfterOf, reportAfterOf}
-use Rattle.theorems_marks.specs.Marks.{#-0, #¼, #¾, #3, #+x, #+z, #-z, #000, upward, sideways, facing, sentRay, M1, M2, M6, M7, M9, M10, M11, Marks}
+use Rattle.theorems_marks.specs.Marks.{#-0, #¼, #¾, #+x, #+z, #-z, #000, upward, sideways, facing, sentRay, M1, M2, M6, M7, M9, M10, M11, Marks}
 use Rattle.theorems_marks.proofs.Itself.{below-itself, above-zero}
 use Rattle.theorems_marks.proofs.Sent.{sent}
 use Rattle.theorems_marks.proofs.Limit.{uninteracting, uninteracted}

@@ -6,7 +6,7 @@ use mathlib.Core.Option.{none, some}
 use mathlib.Core.List.{List, [], _∷_}
 use Prim.Native.Nat.{ℕ}
 use lib.Ieee.{Float, nan, binary64, neg, lt, ofBits}
-use Rattle.doubles.specs.Doubles.{isFiniteOf, #0, #½, #1, #2, #4, #5}
+use Rattle.doubles.specs.Doubles.{isFiniteOf, #0, #½, #1, #2, #3, #4, #5}
 use Rattle.doubles.specs.Root.{sqrtOf}
 use Rattle.error.specs.Refusals.{value}
 use Rattle.rays.specs.declared.vector.Vec3.{Vec3}
@@ -39,9 +39,6 @@ abbrev pub #¼ : Float
 
 abbrev pub #¾ : Float
 #¾ = ofBits binary64 0x3fe8000000000000
-
-abbrev pub #3 : Float
-#3 = ofBits binary64 0x4008000000000000
 
 abbrev pub #+z : Vec3
 #+z = vec3 #0 #0 #1
