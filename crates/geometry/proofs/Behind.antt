@@ -21,7 +21,7 @@ use Rattle.rays.specs.Matrices.{transformPointOf, transformDirectionOf}
 use Rattle.rays.specs.Rays.{minLocalDistance, isFiniteRayOf, newRayOf}
 use Rattle.geometry.specs.declared.LocalHit.{LocalHit}
 use Rattle.geometry.specs.declared.PrimitiveGeometry.{PrimitiveGeometry}
-use Rattle.geometry.specs.declared.PrimitiveGeometry.the-variants.{Plane, Disk, Sphere, Cylinder, Box}
+use Rattle.geometry.specs.declared.PrimitiveGeometry.the-variants.{Plane, Disk, Sphere, Cylinder, Box, ClosedCylinder}
 use Rattle.geometry.specs.declared.flat.Distance.{Distance}
 use Rattle.geometry.specs.declared.flat.Distance.the-variants.{At, Nowhere}
 use Rattle.geometry.specs.declared.slab.Side.{Side}
@@ -312,6 +312,7 @@ shape-none (Plane a b) o d l w p k (ox, (oy, oz)) (dx, (dy, dz)) e = plane-none 
 shape-none (Disk a b) o d l w p k (ox, (oy, oz)) (dx, (dy, dz)) e = disk-none a b _ (alike-along (o .z) (d .z) l k e) oz dz
 shape-none (Sphere a) o d l w p k f g e = absurd (clash (sym e))
 shape-none (Cylinder a b) o d l w p k f g e = absurd (clash (sym e))
+shape-none (ClosedCylinder a b) o d l w p k f g e = absurd (clash (sym e))
 shape-none (Box a b c) o d l w p k (ox, (oy, oz)) (dx, (dy, dz)) e = go (any-of (leavesOf (o .x) (d .x) a) (leavesOf (o .y) (d .y) b) (leavesOf (o .z) (d .z) c) e)
   where
     r : Ray

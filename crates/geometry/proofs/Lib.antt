@@ -8,3 +8,5 @@ pub mod Squares
 pub mod Receding
 pub mod Spans
 pub mod Numbers
+pub mod Walls
+pub mod Worked

@@ -6,7 +6,7 @@ use native.Mathlib.Omega.{arith}
 use lib.Ieee.{Float}
 use borrow.Author.Tests.{ne-eqb}
 use Rattle.geometry.specs.declared.PrimitiveGeometry.{PrimitiveGeometry}
-use Rattle.geometry.specs.declared.PrimitiveGeometry.the-variants.{Plane, Disk, Sphere, Cylinder, Box}
+use Rattle.geometry.specs.declared.PrimitiveGeometry.the-variants.{Plane, Disk, Sphere, Cylinder, Box, ClosedCylinder}
 use Rattle.geometry.specs.Shapes.{lastShape, numberedGeometryOf}
 
 pub shape-there : (k : ℕ) (p q r : Float) → k ≤ lastShape → (g : PrimitiveGeometry) × (numberedGeometryOf k p q r ≡ some g)
@@ -16,7 +16,8 @@ shape-there (suc zero) p q r h = (Disk p q, refl)
 shape-there (suc (suc zero)) p q r h = (Sphere p, refl)
 shape-there (suc (suc (suc zero))) p q r h = (Cylinder p q, refl)
 shape-there (suc (suc (suc (suc zero)))) p q r h = (Box p q r, refl)
-shape-there (suc (suc (suc (suc (suc k))))) p q r h = absurd (omega (arith, h))
+shape-there (suc (suc (suc (suc (suc zero))))) p q r h = (ClosedCylinder p q, refl)
+shape-there (suc (suc (suc (suc (suc (suc k)))))) p q r h = absurd (omega (arith, h))
 
 pub shape-beyond : (k : ℕ) (p q r : Float) → lastShape < k → numberedGeometryOf k p q r ≡ none
 unfolding numberedGeometryOf
@@ -27,4 +28,5 @@ shape-beyond k p q r h =
       ne-eqb k 2 (omega (arith, h)),
       ne-eqb k 3 (omega (arith, h)),
       ne-eqb k 4 (omega (arith, h)),
+      ne-eqb k 5 (omega (arith, h)),
     )

@@ -6,6 +6,7 @@ use Rattle.doubles.specs.Doubles.{absOf, #0}
 use Rattle.rays.specs.declared.vector.Vec3.{Vec3}
 use Rattle.geometry.specs.declared.PrimitiveGeometry.{PrimitiveGeometry}
 use Rattle.geometry.specs.declared.PrimitiveGeometry.the-variants.{Plane, Disk, Sphere, Cylinder, Box}
+use Rattle.geometry.specs.declared.PrimitiveGeometry.the-variants.{ClosedCylinder}
 
 -- along one axis: away from 0
 unfoldable pub recedesOf : Float → Float → Bool
@@ -22,3 +23,4 @@ isBehindOf (Disk outer inner) o d = recedesOf (o .z) (d .z)
 isBehindOf (Sphere radius) o d = false
 isBehindOf (Cylinder radius half) o d = false
 isBehindOf (Box hx hy hz) o d = leavesOf (o .x) (d .x) hx || (leavesOf (o .y) (d .y) hy || leavesOf (o .z) (d .z) hz)
+isBehindOf (ClosedCylinder radius half) o d = false

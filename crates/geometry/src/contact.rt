@@ -72,6 +72,10 @@ impl PrimitiveGeometry {
                 half_y,
                 half_z,
             } => leaves_box(half_x, half_y, half_z, o, d),
+            PrimitiveGeometry::ClosedCylinder {
+                radius: _,
+                half_length: _,
+            } => false,
         }
     }
 

@@ -1,5 +1,6 @@
 // Shapes in their own coordinates and their place in the world (document 01, module 5), after
-// geometry.rs. Any sizes, any ray.
+// geometry.rs, and the closed cylinder (document 02, a). Any sizes, any ray.
+mod closed;
 mod contact;
 mod flat;
 mod round;
@@ -44,6 +45,11 @@ pub enum PrimitiveGeometry {
         half_y: f64,
         half_z: f64,
     },
+    // a cylinder with two ends
+    ClosedCylinder {
+        radius: f64,
+        half_length: f64,
+    },
 }
 
 // What a number means.
@@ -65,9 +71,9 @@ pub enum LocalIntersection {
 
 impl PrimitiveGeometry {
     // The largest number of a shape.
-    pub const LAST: u32 = 4;
+    pub const LAST: u32 = 5;
 
-    // The shape of document 01's number, if there is one, with as many of the sizes as it takes.
+    // The shape of the documents' number, if there is one, with as many of the sizes as it takes.
     pub fn numbered(number: u32, p: f64, q: f64, r: f64) -> NumberedGeometry
         ensures { λ g. ⌜ asShape g ≡ numberedGeometryOf number p q r ⌝ }
     {
@@ -99,6 +105,12 @@ impl PrimitiveGeometry {
                 half_z: r,
             });
         }
+        if number == 5 {
+            return NumberedGeometry::Shape(PrimitiveGeometry::ClosedCylinder {
+                radius: p,
+                half_length: q,
+            });
+        }
         NumberedGeometry::Nothing
     }
 
@@ -125,6 +137,10 @@ impl PrimitiveGeometry {
                 half_y,
                 half_z,
             } => slab::intersect_box(half_x, half_y, half_z, ray),
+            PrimitiveGeometry::ClosedCylinder {
+                radius,
+                half_length,
+            } => closed::intersect_closed_cylinder(radius, half_length, ray),
         }
     }
 }

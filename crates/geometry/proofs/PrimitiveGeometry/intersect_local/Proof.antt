@@ -34,6 +34,12 @@ enum-known-self-5 c = search needs
 intersect-box-requires : tie.Need-intersect-box-requires
 intersect-box-requires c κs = search needs
 
+enum-known-self-6 : tie.Need-enum-known-self-6
+enum-known-self-6 c = search needs
+
+intersect-closed-cylinder-requires : tie.Need-intersect-closed-cylinder-requires
+intersect-closed-cylinder-requires c κs = search needs
+
 returns : tie.Need-returns
 unfolding intersectLocalOf
 returns c = simp (c .before .before .self .given .1, ← c .intersect-plane .ensures)
@@ -54,6 +60,10 @@ returns-5 : tie.Need-returns-5
 unfolding intersectLocalOf
 returns-5 c = simp (c .before .before .self5 .given .1, ← c .intersect-box .ensures)
 
+returns-6 : tie.Need-returns-6
+unfolding intersectLocalOf
+returns-6 c = simp (c .before .before .self6 .given .1, ← c .intersect-closed-cylinder .ensures)
+
 pub intersect-local-spec : {M : Type 1} → statement M
 intersect-local-spec =
     tie.close
@@ -68,8 +78,11 @@ intersect-local-spec =
     intersect-cylinder-requires
     enum-known-self-5
     intersect-box-requires
+    enum-known-self-6
+    intersect-closed-cylinder-requires
     returns
     returns-2
     returns-3
     returns-4
-    returns-5)
+    returns-5
+    returns-6)

@@ -28,6 +28,9 @@ enum-known-self c = search needs
 leaves-box-requires : tie.Need-leaves-box-requires
 leaves-box-requires c κs = search needs
 
+enum-told-5 : tie.Need-enum-told-5
+enum-told-5 c = search needs
+
 returns : tie.Need-returns
 unfolding isBehindOf
 returns c = simp (c .before .enum-told .given .1, ← c .recedes .ensures)
@@ -48,6 +51,10 @@ returns-5 : tie.Need-returns-5
 unfolding isBehindOf
 returns-5 c = simp (c .before .before .self .given .1, ← c .leaves-box .ensures)
 
+returns-6 : tie.Need-returns-6
+unfolding isBehindOf
+returns-6 c = simp (c .enum-told5 .given .1)
+
 pub is-behind-spec : {M : Type 1} → statement M
 is-behind-spec =
     tie.close
@@ -60,8 +67,10 @@ is-behind-spec =
     enum-told-4
     enum-known-self
     leaves-box-requires
+    enum-told-5
     returns
     returns-2
     returns-3
     returns-4
-    returns-5)
+    returns-5
+    returns-6)

@@ -38,15 +38,33 @@ returns-5 c =
 returns-6 : tie.Need-returns-6
 unfolding numberedGeometryOf
 returns-6 c =
-    let if2 = c .before .before .before .if2 in
-    let if1 = c .before .before .before .before .if1 in
+    let if3 = c .before .before .before .if3 in
+    let if2 = c .before .before .before .before .if2 in
+    let if1 = c .before .before .before .before .before .if1 in
     simp (
       ne-eqb _ _ (if1 .left),
       ne-eqb _ _ (if2 .left),
-      ne-eqb _ _ (c .before .before .if3 .left),
-      ne-eqb _ _ (c .before .if4 .left),
-      ne-eqb _ _ (c .if5 .left),
+      ne-eqb _ _ (if3 .left),
+      ne-eqb _ _ (c .before .before .if4 .left),
+      ne-eqb _ _ (c .before .if5 .left),
+      eq-eqb _ _ (c .if6 .taken),
+    )
+
+returns-7 : tie.Need-returns-7
+unfolding numberedGeometryOf
+returns-7 c =
+    let if3 = c .before .before .before .if3 in
+    let if2 = c .before .before .before .before .if2 in
+    let if1 = c .before .before .before .before .before .if1 in
+    simp (
+      ne-eqb _ _ (if1 .left),
+      ne-eqb _ _ (if2 .left),
+      ne-eqb _ _ (if3 .left),
+      ne-eqb _ _ (c .before .before .if4 .left),
+      ne-eqb _ _ (c .before .if5 .left),
+      ne-eqb _ _ (c .if6 .left),
     )
 
 pub numbered-spec : {M : Type 1} → statement M
-numbered-spec = tie.close (tie.spec returns returns-2 returns-3 returns-4 returns-5 returns-6)
+numbered-spec =
+    tie.close (tie.spec returns returns-2 returns-3 returns-4 returns-5 returns-6 returns-7)
