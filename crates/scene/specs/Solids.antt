@@ -100,7 +100,7 @@ mediumAtOf x k s =
     orAirOf (cond (holds x k i) (numberedMediumOf (tagAt k i 3) (valueAt x i 4) (valueAt x i 5) (valueAt x i 6)
     (valueAt x i 7) (valueAt x i 8) (valueAt x i 9)) none)
 
--- shape 0 to 4, active 0 or 1, finish 0 to 2, medium 0 to 3
+-- shape 0 to 5, active 0 or 1, finish 0 to 2, medium 0 to 3
 unfoldable pub tagsFitOf : ℕ → ℕ → ℕ → ℕ → Bool
 tagsFitOf shape active finish medium =
     leb shape lastShape && (leb active 1 && (leb finish lastFinish && leb medium lastMedium))

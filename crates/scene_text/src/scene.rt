@@ -72,7 +72,7 @@ fn read_solids(s: &[u8], from: Found, d: &mut [f64], w: &mut [u32]) -> Found
         s,
         from,
         b"cx cy cz nx ny nz ux uy uz width height resx resy\n",
-        b"5 d d d 2 3 d 4 d d d d d d d,d,d,d,d,d,d,d,d,d,d,d,d,d,d,d d,d,d,d,d,d,d,d,d,d,d,d,d,d,d,d\n",
+        b"6 d d d 2 3 d 4 d d d d d d d,d,d,d,d,d,d,d,d,d,d,d,d,d,d,d d,d,d,d,d,d,d,d,d,d,d,d,d,d,d,d\n",
         d,
         w,
     )
