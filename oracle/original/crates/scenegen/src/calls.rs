@@ -283,7 +283,7 @@ fn no_such_number(st: &mut Stage, s: &mut Sm) {
         2 => return with_whole(st, "run_tags", 2, s.pick(&[4, u32::MAX]), trace_all),
         3 if st.solids > 0 => {
             let (k, t) = (below(s, st.solids as usize), below(s, 4));
-            return with_whole(st, "solid_tags", 4 * k + t, [5, 2, 3, 4][t], trace_all);
+            return with_whole(st, "solid_tags", 4 * k + t, [6, 2, 3, 4][t], trace_all);
         }
         4 => {
             let l = &mut lengths[below(s, 4)];
@@ -352,9 +352,15 @@ fn brought(p: &Plan) -> Option<usize> {
     (n <= 60).then_some(n)
 }
 
-fn scene(s: &mut Sm, style: usize) -> (Plan, usize) {
+/// What lists are made on: how their names start, and their scenes.
+pub struct Source {
+    pub name: &'static str,
+    pub plan: fn(&mut Sm, usize) -> Plan,
+}
+
+fn scene(s: &mut Sm, from: &Source, style: usize) -> (Plan, usize) {
     loop {
-        let p = plan(s, style);
+        let p = (from.plan)(s, style);
         if p.text().len() > MOST_TEXT { continue; }
         if let Some(n) = brought(&p) {
             if n > 0 || s.chance(0.1) { return (p, n); }
@@ -376,7 +382,7 @@ fn tight(s: &mut Sm, hits: usize) -> usize {
 
 /// What the batches in parts came to.
 #[derive(Default)]
-struct Split {
+pub struct Split {
     pairs: usize,
     /// parts traced, with rays and without
     parts: usize,
@@ -386,7 +392,7 @@ struct Split {
 }
 
 impl Split {
-    fn rows(&self) -> String {
+    pub fn rows(&self) -> String {
         let rows = [("batches whole and in parts", self.pairs), ("parts with rays", self.parts), ("empty parts", self.empty), ("refused after a part with rays that passed", self.later)];
         rows.iter().map(|(what, n)| format!("| {what} | {n} |\n")).collect()
     }
@@ -394,9 +400,9 @@ impl Split {
 
 /// A batch of two rays or more, which is refused in the run where that is wanted, but not at its last ray, which is
 /// traced first; the places for its hits, and where it is refused.
-fn divisible(s: &mut Sm, style: usize, wanted: bool) -> (Plan, usize, Option<Refusal>) {
+fn divisible(s: &mut Sm, from: &Source, style: usize, wanted: bool) -> (Plan, usize, Option<Refusal>) {
     loop {
-        let (p, hits) = scene(s, style);
+        let (p, hits) = scene(s, from, style);
         let rays = p.beams.len();
         let room = match wanted { true if style < 5 => below(s, hits), true => tight(s, hits), false => hits + below(s, 3) };
         let mut st = start("", &p, room);
@@ -447,14 +453,14 @@ fn in_parts(s: &mut Sm, st: &mut Stage, parts: &[(usize, usize)], at: Option<Ref
 
 /// A batch whole, and in parts: two scripts that leave one memory. Two of three pairs at least are refused in the
 /// run, and one of four has an empty part.
-fn pair(s: &mut Sm, k: usize, style: usize, split: &mut Split) -> Vec<Stage> {
-    let (p, room, at) = divisible(s, style, split.pairs % 3 > 0);
+pub fn pair(s: &mut Sm, from: &Source, k: usize, style: usize, split: &mut Split) -> Vec<Stage> {
+    let (p, room, at) = divisible(s, from, style, split.pairs % 3 > 0);
     let rays = p.beams.len();
     let cut = parts_of(s, rays, at, split.pairs % 4 == 1);
-    let mut whole = start(&format!("whole_{k}"), &p, room);
+    let mut whole = start(&format!("{}whole_{k}", from.name), &p, room);
     assert!(whole.trace(0, rays) && whole.last.err() == at);
     whole.memory();
-    let mut parts = start(&format!("parts_{k}"), &p, room);
+    let mut parts = start(&format!("{}parts_{k}", from.name), &p, room);
     in_parts(s, &mut parts, &cut, at);
     assert!(whole.memory.digest() == parts.memory.digest() && is_book(&whole), "a batch in parts leaves another memory: {k}");
     let full = cut.iter().filter(|part| part.1 > 0).count();
@@ -478,11 +484,11 @@ fn recorded_in_both(s: &mut Sm, a: &mut Stage, b: &mut Stage) {
 }
 
 /// A list of any calls, one of them refused by this number.
-fn list(s: &mut Sm, k: usize, style: usize, wanted: u32) -> Vec<Stage> {
-    let (p, hits) = scene(s, style);
+pub fn list(s: &mut Sm, from: &Source, k: usize, style: usize, wanted: u32) -> Vec<Stage> {
+    let (p, hits) = scene(s, from, style);
     // 13 to 16 need a list that is not full
     let room = if wanted > 12 || s.chance(0.6) { 3 * hits + 6 } else { tight(s, hits) };
-    let mut st = start(&format!("list_{k}"), &p, room);
+    let mut st = start(&format!("{}list_{k}", from.name), &p, room);
     assert!(st.trace(0, p.beams.len()));
     st.memory();
     let long = 6 + below(s, 7);
@@ -500,7 +506,7 @@ fn list(s: &mut Sm, k: usize, style: usize, wanted: u32) -> Vec<Stage> {
 }
 
 /// What a refusal's list is best made of.
-fn style_for(s: &mut Sm, wanted: u32) -> usize {
+pub fn style_for(s: &mut Sm, wanted: u32) -> usize {
     match wanted {
         14 => s.pick(&[1, 3, 4, 6]),
         15 => s.pick(&[1, 4, 5]),
@@ -511,12 +517,13 @@ fn style_for(s: &mut Sm, wanted: u32) -> usize {
 
 fn stages(seed: u64) -> (Vec<Stage>, Split) {
     let s = &mut Sm(seed);
+    let from = Source { name: "", plan };
     let (mut all, mut split, mut k) = (Vec::new(), Split::default(), 0);
     while all.len() < LISTS {
         k += 1;
         let wanted = 1 + (k as u32 % 17);
         let style = style_for(s, if k % 3 == 0 { 1 } else { wanted });
-        all.extend(if k % 3 == 0 { pair(s, k, style, &mut split) } else { list(s, k, style, wanted) });
+        all.extend(if k % 3 == 0 { pair(s, &from, k, style, &mut split) } else { list(s, &from, k, style, wanted) });
     }
     (all, split)
 }

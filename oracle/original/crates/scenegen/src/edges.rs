@@ -6,7 +6,7 @@ use super::reader;
 use super::stage::{Beam, Plan, Stage};
 use super::*;
 
-fn moved(x: f64, z: f64) -> Transform3D {
+pub fn moved(x: f64, z: f64) -> Transform3D {
     Transform3D { translation: Vec3::new(x, 0.0, z), rotation_euler_deg: Vec3::zeros(), scale: Vec3::new(1.0, 1.0, 1.0) }
 }
 
@@ -14,14 +14,14 @@ fn slab(x: f64, z: f64, n: f64) -> NonSeqObject {
     obj(PrimitiveGeometry::Box { half_x: 4.0, half_y: 4.0, half_z: 0.5 }, moved(x, z), OpticalMedium::Constant { n }, SurfaceFinish::Specular)
 }
 
-fn face_at(z: f64, columns: u32, rows: u32) -> Face {
+pub fn face_at(z: f64, columns: u32, rows: u32) -> Face {
     let mut f = grid(columns, rows);
     f.values[2] = z;
     f.values[9..].copy_from_slice(&[8.0, 8.0]);
     f
 }
 
-fn beam(x: f64, y: f64, z: f64, way: f64, power: f64) -> Beam {
+pub fn beam(x: f64, y: f64, z: f64, way: f64, power: f64) -> Beam {
     Beam { values: [x, y, z, 0.0, 0.0, way, 500.0, power], bounce: 0, media: Vec::new() }
 }
 
@@ -35,7 +35,7 @@ fn lit() -> Plan {
 }
 
 /// A scene read, and an empty memory for it with room for so many hits.
-fn ready(name: &str, p: &Plan, room: usize) -> Stage {
+pub fn ready(name: &str, p: &Plan, room: usize) -> Stage {
     let mut st = Stage::new(name);
     st.scene(p);
     st.read();
@@ -45,13 +45,13 @@ fn ready(name: &str, p: &Plan, room: usize) -> Stage {
     st
 }
 
-fn all(st: &mut Stage) {
+pub fn all(st: &mut Stage) {
     let n = st.rays as usize;
     assert!(st.trace(0, n));
     st.memory();
 }
 
-fn again(st: &mut Stage) {
+pub fn again(st: &mut Stage) {
     st.empty();
     all(st);
 }
@@ -203,14 +203,14 @@ fn lengths() -> Vec<Stage> {
 fn solid_numbers() -> Vec<Stage> {
     let mut st = ready("numbers_of_solids", &lit(), 20);
     for k in 0..2 {
-        for (t, n) in [(0, 5), (1, 2), (2, 3), (3, 4), (0, u32::MAX)] {
+        for (t, n) in [(0, 6), (1, 2), (2, 3), (3, 4), (0, u32::MAX)] {
             let old = st.set_whole("solid_tags", 4 * k + t, n);
             all(&mut st);
             st.set_whole("solid_tags", 4 * k + t, old);
         }
     }
     st.note("the last of each");
-    for (t, n) in [(0, 4), (1, 1), (2, 2), (3, 3)] { st.set_whole("solid_tags", 4 + t, n); }
+    for (t, n) in [(0, 5), (1, 1), (2, 2), (3, 3)] { st.set_whole("solid_tags", 4 + t, n); }
     all(&mut st);
     vec![st]
 }
@@ -239,7 +239,7 @@ impl Fault {
 /// In document 01's order, for the scene above.
 const FAULTS: [Fault; 18] = [
     Fault::Whole("run_tags", 2, 4),
-    Fault::Whole("solid_tags", 4, 5),
+    Fault::Whole("solid_tags", 4, 6),
     Fault::Double("run_values", 0, -1.0),
     Fault::Whole("run_tags", 0, 17),
     Fault::Detectors(9),
@@ -335,7 +335,7 @@ fn full_counts() -> Vec<Stage> {
 }
 
 /// With another number in the lists, into the empty memory.
-fn with(st: &mut Stage, slice: &str, i: usize, x: f64) {
+pub fn with(st: &mut Stage, slice: &str, i: usize, x: f64) {
     let old = st.set(slice, i, x);
     again(st);
     st.set(slice, i, old);

@@ -3,20 +3,21 @@ use super::book::Memory;
 use super::stage::Stage;
 use super::*;
 
-pub const FLAGS: [&str; 32] = [
+pub const FLAGS: [&str; 37] = [
     "nested media", "total reflections", "chains of total reflections", "mirrors", "mirrors at the threshold", "mirrors just above it", "mirrors just below it", "absorbers",
     "several detectors hit", "given bounces", "threshold 0", "threshold above 0", "scaled solids", "planes", "disks", "spheres",
-    "cylinders", "boxes", "air", "constant indices", "Sellmeier indices", "Schott indices", "memory used before", "hit list filled to its end",
+    "cylinders", "boxes", "closed cylinders", "air", "constant indices", "Sellmeier indices", "Schott indices", "memory used before", "hit list filled to its end",
     "weak rays", "dim rays", "spent rays", "escaped rays", "inactive solids", "all tallies known", "refused and all powers known", "two reasons to refuse",
+    "sides of closed cylinders", "ends of closed cylinders", "closed mirrors", "closed absorbers",
 ];
 
 #[derive(Clone)]
-pub struct Flags(pub [bool; 32]);
+pub struct Flags(pub [bool; 37]);
 
 impl Flags {
     /// What a tracing that was made on this memory showed.
     pub fn of(c: &Case, before: &Memory, after: &Stage) -> Flags {
-        let mut f = Flags([false; 32]);
+        let mut f = Flags([false; 37]);
         f.set("threshold 0", c.threshold == 0.0);
         f.set("threshold above 0", c.threshold > 0.0);
         match after.last {
@@ -38,6 +39,10 @@ impl Flags {
     pub fn set(&mut self, name: &str, v: bool) {
         let k = FLAGS.iter().position(|&n| n == name).unwrap();
         self.0[k] |= v;
+    }
+
+    pub fn has(&self, name: &str) -> bool {
+        FLAGS.iter().zip(self.0).any(|f| *f.0 == name && f.1)
     }
 
     pub fn words(&self) -> String {
@@ -67,16 +72,25 @@ impl Flags {
             self.set("escaped rays", p.interaction == "EscapedToInfinity");
             self.set("absorbers", p.interaction == "Absorption");
             if p.interaction == "MirrorReflection" { self.met_mirror(c.threshold, p.power_watts); }
-            if let Some(k) = p.hit_object_id { self.met_solid(&c.scene.objects[k]); }
+            if let Some(k) = p.hit_object_id { self.met_solid(&c.scene.objects[k], p.end); }
         }
         c.rays.iter().for_each(|r| self.met_first(c, r));
         self.set("inactive solids", c.scene.objects.iter().any(|o| !o.is_active));
     }
 
-    fn met_solid(&mut self, o: &NonSeqObject) {
+    fn met_solid(&mut self, o: &NonSeqObject, at: Vec3) {
         self.0[13 + shape_fields(&o.geometry).0 as usize] = true;
-        if o.material.finish == SurfaceFinish::Specular { self.0[18 + med_fields(&o.material.medium).0 as usize] = true; }
+        if o.material.finish == SurfaceFinish::Specular { self.0[19 + med_fields(&o.material.medium).0 as usize] = true; }
         self.set("scaled solids", o.transform.scale != Vec3::new(1.0, 1.0, 1.0));
+        if let PrimitiveGeometry::ClosedCylinder { half_length, .. } = o.geometry { self.met_closed(o, half_length, at); }
+    }
+
+    fn met_closed(&mut self, o: &NonSeqObject, half_length: f64, at: Vec3) {
+        let z = (o.transform.inverse_matrix4().unwrap() * Vector4::new(at.x, at.y, at.z, 1.0))[2];
+        let is_end = (z.abs() - half_length.abs()).abs() <= 1e-9 * (1.0 + half_length.abs());
+        self.set(if is_end { "ends of closed cylinders" } else { "sides of closed cylinders" }, true);
+        self.set("closed mirrors", matches!(o.material.finish, SurfaceFinish::Mirror { .. }));
+        self.set("closed absorbers", o.material.finish == SurfaceFinish::Absorber);
     }
 
     fn met_mirror(&mut self, threshold: f64, power: f64) {

@@ -3,7 +3,8 @@
 //!
 //!   scenegen scene SEED          scene text (filter -)
 //!   scenegen answer SEED FILTER  the original's answer under filter 0..4
-//!   scenegen batch FROM COUNT DIR   writes DIR/SEED.F.in and DIR/SEED.F.out, F in 0..4
+//!   scenegen batch FROM COUNT DIR [closed]   writes DIR/SEED.F.in and DIR/SEED.F.out, F in 0..4; with `closed` every
+//!                                cylinder and every second box of a scene is a closed cylinder of its sizes
 //!   scenegen bench SEED N        ns per interaction of the original
 //!   scenegen vectors DIR         tables of single functions of the original (hex bits, printed style)
 //!   scenegen scripts DIR SEED    the scripts of crates/test_scripts and what it is to print (head of scripts.rs)
@@ -21,6 +22,8 @@ use std::fmt::Write as _;
 
 mod book;
 mod calls;
+mod closed;
+mod closed_scripts;
 mod damage;
 mod edges;
 mod flags;
@@ -710,8 +713,12 @@ fn edges(put: &dyn Fn(&str, String)) {
     }
     put("mat4", t);
     shape_edges(s, put);
+    closed::shapes(put);
     #[cfg(feature = "given")]
-    solids(s, put);
+    {
+        solids(s, put, "solids", 600, &|s, whole, wild| { let sk = s.n(5); if whole { ishape(s) } else { shape(s, sk, 2.5, wild) } });
+        closed::placed(put);
+    }
 }
 
 /// intersect_local where the random lines above seldom fall: sizes met exactly, directions about
@@ -751,16 +758,15 @@ fn shape_edges(s: &mut Sm, put: &dyn Fn(&str, String)) {
 /// NonSeqObject::intersect: shape active p q r, the matrix and its inverse, a ray's eight doubles = t,
 /// point, normal, geometric normal, 1 if entering; or -. Of every four lines one has whole numbers and
 /// quarter turns, two have any rotation and scale, and one has matrices with parts that are not finite,
-/// extreme or no inverses of each other.
+/// extreme or no inverses of each other. The shapes are made whole or wild as the line is.
 #[cfg(feature = "given")]
-fn solids(s: &mut Sm, put: &dyn Fn(&str, String)) {
+fn solids(s: &mut Sm, put: &dyn Fn(&str, String), name: &str, lines: usize, make: &dyn Fn(&mut Sm, bool, bool) -> PrimitiveGeometry) {
     let list = |v: &[f64]| v.iter().map(|&x| hx(x)).collect::<Vec<_>>().join(" ");
     let mut t = String::new();
     let (mut done, mut hits) = (0, 0);
-    while done < 600 {
+    while done < lines {
         let (whole, wild) = (done % 4 == 0, done % 4 == 3);
-        let sk = s.n(5);
-        let g = if whole { ishape(s) } else { shape(s, sk, 2.5, wild) };
+        let g = make(s, whole, wild);
         let tr = if whole {
             let turn = |s: &mut Sm| s.pick(&[0.0, 0.0, 90.0, 180.0, 270.0]);
             Transform3D {
@@ -807,8 +813,8 @@ fn solids(s: &mut Sm, put: &dyn Fn(&str, String)) {
         let flat = |m: &Matrix4<f64>| m.r.iter().flatten().map(|&x| hx(x)).collect::<Vec<_>>().join(" ");
         let _ = writeln!(t, "{} {} {} {} {} {} = {}", n, ob.is_active as u32, list(&p), flat(&m), flat(&w), list(&v), a);
     }
-    put("solids", t);
-    eprintln!("{hits} of 600 solid lines are hits");
+    put(name, t);
+    eprintln!("{hits} of {lines} lines of {name} are hits");
 }
 
 fn main() {
@@ -822,7 +828,8 @@ fn main() {
             let from: u64 = a[2].parse().unwrap();
             let count: u64 = a[3].parse().unwrap();
             for seed in from..from + count {
-                let c = generate(seed);
+                let mut c = generate(seed);
+                if a.get(5).is_some_and(|w| w == "closed") { closed::close(&mut c.scene.objects); }
                 let t = scene_text(&c, "-");
                 if t.len() > 65536 { continue; }
                 let s = solve(&c);

@@ -107,6 +107,25 @@ fn beside(s: &mut Sm) -> NonSeqObject {
     o
 }
 
+/// A closed cylinder in the light's way, upright, turned or scaled.
+fn barrel(s: &mut Sm) -> NonSeqObject {
+    let mut t = at(s.pick(&[0.0, 0.5, 1.0]), 0.0, short(s, -2.0, 8.0));
+    match s.n(3) { 0 => t.rotation_euler_deg.x = s.pick(&[90.0, 30.0, 180.0]), 1 => t.scale = Vec3::new(1.0, s.pick(&[1.0, 2.0]), s.pick(&[0.5, -1.0, 2.0])), _ => () }
+    let f = match s.n(3) { 0 => SurfaceFinish::Specular, 1 => SurfaceFinish::Absorber, _ => SurfaceFinish::Mirror { reflectance: 0.5 } };
+    obj(PrimitiveGeometry::ClosedCylinder { radius: s.pick(&[0.5, 1.0, 2.0]), half_length: s.pick(&[0.5, 1.0, 3.0]) }, t, OpticalMedium::Constant { n: glass(s) }, f)
+}
+
+/// A scene of which cylinders and most boxes are closed cylinders, or that has one more.
+pub fn closed_plan(s: &mut Sm, style: usize) -> Plan {
+    let mut p = plan(s, style.max(1));
+    for o in &mut p.solids {
+        if let Some(g) = closed::closed(&o.geometry).filter(|_| s.chance(0.75)) { o.geometry = g; }
+    }
+    let has = p.solids.iter().any(|o| matches!(o.geometry, PrimitiveGeometry::ClosedCylinder { .. }));
+    if !has || s.chance(0.2) { p.solids.push(barrel(s)); }
+    p
+}
+
 pub fn plan(s: &mut Sm, style: usize) -> Plan {
     let rays = 1 + s.n(8);
     let mut solids = solids(s, style);

@@ -1,5 +1,5 @@
-//! A plain reader of scene texts, written from document 01: what a text holds, or the number of its first bad or
-//! missing line.
+//! A plain reader of scene texts, written from document 01, with document 02's numbers of shapes: what a text holds, or
+//! the number of its first bad or missing line.
 
 /// The numbers of a text's four blocks in their order.
 #[derive(Clone, Default)]
@@ -26,7 +26,7 @@ const RAYS: &str = "ox oy oz dx dy dz nm power bounce media";
 /// The fields of a line of values: d a double, m a matrix, n any whole number, a digit one at most that, f a filter,
 /// s the media.
 const RUN_FIELDS: &str = "dnf3dddddd";
-const SOLID_FIELDS: &str = "4ddd12d3ddddddmm";
+const SOLID_FIELDS: &str = "5ddd12d3ddddddmm";
 const DETECTOR_FIELDS: &str = "dddddddddddnn";
 const RAY_FIELDS: &str = "ddddddddns";
 

@@ -43,7 +43,7 @@ impl Batch<'_> {
         let l = &self.lists;
         checked(l.run_tags[2] <= 3, (17, 0))?;
         checked(Self::is_long(l.solid_values.len(), l.solid_tags.len(), [42, 4], self.solids), (17, 0))?;
-        let bad = l.solid_tags.chunks(4).position(|t| t[0] > 4 || t[1] > 1 || t[2] > 2 || t[3] > 3);
+        let bad = l.solid_tags.chunks(4).position(|t| t[0] > 5 || t[1] > 1 || t[2] > 2 || t[3] > 3);
         bad.map_or(Ok(()), |i| Err((17, i)))?;
         checked(Self::is_long(l.ray_values.len(), l.ray_tags.len(), [8, 10], self.rays), (17, 0))
     }

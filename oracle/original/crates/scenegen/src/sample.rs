@@ -22,10 +22,10 @@ fn script_of(seed: u64) -> Option<Script> {
     let solved = solve(&c);
     let answers: Vec<String> = (0..5).map(|f| answer(&solved, f)).collect();
     if !is_telling(&answers) { return None; }
-    let place = text.find(" - ").unwrap() + 1;
     let mut s = Stage::new(&format!("sample_{seed}"));
     s.case(&c, "-");
     s.read();
+    let place = s.filter_place();
     for (filter, answer) in answers.into_iter().enumerate() {
         s.byte(place, b'0' + filter as u8);
         s.map(ANSWER_BYTES);

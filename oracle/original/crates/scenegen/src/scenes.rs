@@ -231,10 +231,10 @@ struct Making { number: usize, stage: Stage, traced: Vec<Traced> }
 
 impl Making {
     /// A scene and what comes after it; none where the original can't say enough.
-    fn of(number: usize, first: &Scene, second: Option<&Second>) -> Option<Making> {
+    fn of(name: &str, number: usize, first: &Scene, second: Option<&Second>) -> Option<Making> {
         let mut all = first.case.clone();
         if let Some(Second::More(scene)) = second { all.rays.extend(scene.case.rays.clone()); }
-        let mut m = Making { number, stage: Stage::new(&format!("scene_{number}")), traced: Vec::new() };
+        let mut m = Making { number, stage: Stage::new(&format!("{name}_{number}")), traced: Vec::new() };
         m.stage.case(&all, "-");
         m.stage.read();
         m.lend(&first.told);
@@ -340,10 +340,27 @@ impl Making {
         self.stage.change("ray_values", &l.ray_values);
         self.stage.change_wholes("ray_tags", &l.ray_tags);
     }
+
+    /// Whether its first tracing met a closed cylinder, or was refused in the run where one is active.
+    fn is_closed(&self) -> bool {
+        let first = &self.traced[0];
+        let active = self.stage.lists.solid_tags.chunks(4).any(|t| t[..2] == [5, 1]);
+        first.flags.has("closed cylinders") || active && (12..17).contains(&first.refusal)
+    }
+
+    /// The answers under every filter, from the memory and to the text, where they are known.
+    fn answers(&mut self) {
+        let place = self.stage.filter_place();
+        for filter in 0..5 {
+            if let Some(n) = self.stage.answer_length(filter) { self.stage.answer(filter, n); }
+            self.stage.byte(place, b'0' + filter as u8);
+            if let Some(text) = self.stage.map_text() { self.stage.map(text.len()); }
+        }
+    }
 }
 
 /// How many scenes there are, and of what kinds.
-struct Tally { all: usize, refusals: [usize; 18], limits: [usize; 17], flags: [usize; 32] }
+struct Tally { all: usize, refusals: [usize; 18], limits: [usize; 17], flags: [usize; 37] }
 
 impl Tally {
     fn count(&mut self, t: &Traced) {
@@ -353,25 +370,39 @@ impl Tally {
         for (n, &f) in self.flags.iter_mut().zip(&t.flags.0) { *n += f as usize; }
     }
 
-    fn table(&self) -> String {
+    fn new() -> Tally {
+        Tally { all: 0, refusals: [0; 18], limits: [0; 17], flags: [0; 37] }
+    }
+
+    fn table(&self, what: &str) -> String {
         let numbered = |ns: &[usize]| {
             ns.iter().enumerate().filter(|n| *n.1 > 0).map(|(k, n)| format!("{k}: {n}")).collect::<Vec<_>>().join(", ")
         };
-        let flags = FLAGS.iter().zip(self.flags).map(|(name, n)| format!("{name} {n}")).collect::<Vec<_>>().join(", ");
+        let flags = FLAGS.iter().zip(self.flags).filter(|f| f.1 > 0).map(|(name, n)| format!("{name} {n}")).collect::<Vec<_>>().join(", ");
         format!(
-            "| of {} scenes | |\n|---|---|\n| refused (0: none) | {} |\n| bounce limit | {} |\n| met | {flags} |\n",
+            "| of {} {what} | |\n|---|---|\n| refused (0: none) | {} |\n| bounce limit | {} |\n| met | {flags} |\n",
             self.all, numbered(&self.refusals), numbered(&self.limits)
         )
     }
 }
 
-/// The next scene; none where it takes too many steps, the original can't say enough, or little happens.
-fn next(s: &mut Sm, style: u64, number: usize) -> Option<Making> {
-    let case = small(s, style);
+/// Some of the solids become closed cylinders, in some scenes all absorbers or all mirrors.
+fn close(s: &mut Sm, c: &mut Case) {
+    closed::close(&mut c.scene.objects);
+    let finish = match s.n(10) { 0 | 1 => SurfaceFinish::Absorber, 2 | 3 => SurfaceFinish::Mirror { reflectance: 0.75 }, _ => return };
+    for o in c.scene.objects.iter_mut().filter(|o| matches!(o.geometry, PrimitiveGeometry::ClosedCylinder { .. })) {
+        o.material.finish = finish.clone();
+    }
+}
+
+/// The next scene, of a list of this name; none where it takes too many steps, the original can't say enough, or little happens.
+fn next(s: &mut Sm, name: &str, style: u64, number: usize) -> Option<Making> {
+    let mut case = small(s, style);
+    if name == "closed" { close(s, &mut case); }
     let n = brought(&case)?;
     let told = told(s, &case, 0, n);
     let first = Scene { case, told };
-    let alone = Making::of(number, &first, None)?;
+    let alone = Making::of(name, number, &first, None)?;
     let little = alone.stage.last.is_ok() && alone.stage.report.counts[1] < Some(2);
     if little && !s.chance(if first.case.bounces == 0 { 0.5 } else { 0.15 }) { return None; }
     let used = alone.stage.memory.used as usize;
@@ -382,21 +413,37 @@ fn next(s: &mut Sm, style: u64, number: usize) -> Option<Making> {
     } else {
         None
     };
-    second.and_then(|x| Making::of(number, &first, Some(&x))).or(Some(alone))
+    second.and_then(|x| Making::of(name, number, &first, Some(&x))).or(Some(alone))
 }
 
 /// The scripts, and a table of what is in them.
 pub fn scripts(seed: u64) -> (Vec<Script>, String) {
     let s = &mut Sm(seed);
-    let mut tally = Tally { all: 0, refusals: [0; 18], limits: [0; 17], flags: [0; 32] };
+    let mut tally = Tally::new();
     let mut out = Vec::new();
     let mut turn = 0;
     while tally.all < SCENES {
         turn += 1;
         let style = [0, 1, 2, 3, 4, 5, 6, 7, 8, 9, 10, 1, 4, 6][turn % 14];
-        let Some(m) = next(s, style, tally.all) else { continue };
+        let Some(m) = next(s, "scene", style, tally.all) else { continue };
         m.traced.iter().for_each(|t| tally.count(t));
         out.push(m.stage.script());
     }
-    (out, tally.table())
+    (out, tally.table("scenes"))
+}
+
+/// Such scripts of scenes with closed cylinders, answered under every filter.
+pub fn closed(s: &mut Sm, scripts: usize) -> (Vec<Script>, String) {
+    let (mut tally, mut out, mut turn) = (Tally::new(), Vec::new(), 0);
+    while out.len() < scripts {
+        turn += 1;
+        let style = [0, 1, 2, 3, 5, 6, 7, 8, 9, 10, 1, 2][turn % 12];
+        let Some(mut m) = next(s, "closed", style, tally.all).filter(Making::is_closed) else { continue };
+        m.answers();
+        m.traced.iter().for_each(|t| tally.count(t));
+        out.push(m.stage.script());
+    }
+    let met = |name: &str| tally.flags[FLAGS.iter().position(|&f| f == name).unwrap()];
+    assert!(met("sides of closed cylinders") >= 20 && met("ends of closed cylinders") >= 20 && met("closed mirrors") >= 3 && met("closed absorbers") >= 3);
+    (out, tally.table("scenes with closed cylinders"))
 }

@@ -1,6 +1,6 @@
 //! Every script of crates/test_scripts/data: `scenegen scripts DIR SEED` writes the files of scripts and index.txt there,
 //! the worked scenes to DIR/scenes, to DIR/stdout what a run prints in which nothing differs, and to DIR/table.md what
-//! the small scenes, lists of calls and limits cover.
+//! the small scenes, lists of calls, limits and closed cylinders cover.
 use super::script::Script;
 use super::*;
 
@@ -17,6 +17,7 @@ fn all(dir: &str, seed: u64) -> (Vec<(&'static str, Vec<Script>)>, String) {
     let (scenes, scenes_table) = scenes::scripts(seed);
     let (calls, calls_table) = calls::calls(seed);
     let (limits, limits_table) = limits::limits();
+    let (closed, closed_table) = closed_scripts::scripts(seed);
     let sample = STORED_SAMPLE.wrapping_add((seed ^ STORED).wrapping_mul(1000));
     let lists = vec![
         ("worked", worked::scripts(&format!("{dir}/scenes"))),
@@ -24,8 +25,9 @@ fn all(dir: &str, seed: u64) -> (Vec<(&'static str, Vec<Script>)>, String) {
         ("sample", sample::scripts(sample)),
         ("calls", calls),
         ("limits", limits),
+        ("closed", closed),
     ];
-    (lists, [scenes_table, calls_table, limits_table].join("\n"))
+    (lists, [scenes_table, calls_table, limits_table, closed_table].join("\n"))
 }
 
 /// The files of one list as they are written.

@@ -86,7 +86,7 @@ impl Tally {
     }
     /// The same as a table for a reader.
     pub fn table(&self, what: &str, all: &[Stage]) -> String {
-        let refused = (1..18).map(|n| format!("{n}: {}", self.refused[n])).collect::<Vec<_>>().join(", ");
+        let refused = (1..18).filter(|&n| self.refused[n] > 0).map(|n| format!("{n}: {}", self.refused[n])).collect::<Vec<_>>().join(", ");
         let calls = self.calls.iter().map(|(verb, n)| format!("`{verb}` {n}")).collect::<Vec<_>>().join(", ");
         let sum: usize = self.calls.values().sum();
         let kept = format!("| refused in the run, with hits before it that stay | {} |\n", self.kept);
@@ -205,6 +205,10 @@ impl Stage {
     pub fn file(&mut self, name: &str, text: &str) {
         self.text = text.as_bytes().to_vec();
         self.set_up(format!("file {name}"));
+    }
+    /// Where a text that has no filter has its `-`.
+    pub fn filter_place(&self) -> usize {
+        1 + self.text.windows(3).position(|w| w == b" - ").unwrap()
     }
     pub fn text_length(&self) -> usize {
         self.text.len()
