@@ -153,6 +153,34 @@ fn car(baffle: bool) -> Case {
     c
 }
 
+/// A black barrel before a screen, open or closed: light down its length, light that goes in at its end obliquely, and
+/// light beside it.
+fn barrel(closed: bool) -> Case {
+    let (radius, half_length) = (5.0, 10.0);
+    let open = PrimitiveGeometry::Cylinder { radius, half_length };
+    let mut c = case(4, 1e-3);
+    painted(&mut c, if closed { PrimitiveGeometry::ClosedCylinder { radius, half_length } } else { open }, at(20.0), SurfaceFinish::Absorber);
+    screen(&mut c, 40.0, -1.0, 32.0, 16);
+    for y in [-3.0, 0.5, 3.0, -7.0, 7.0] {
+        ray(&mut c, 0.5, y, 0.0, 0.0, 1.0);
+    }
+    for (y, degrees) in [(-4.0, 10.0), (4.0, -10.0), (-6.0, 25.0)] {
+        ray(&mut c, 0.5, y, 0.0, degrees, 1.0);
+    }
+    c
+}
+
+/// A round rod of glass: in by its lower end, down it by total reflections of the side, out by its upper end.
+fn rod() -> Case {
+    let mut c = case(16, 1e-3);
+    solid(&mut c, PrimitiveGeometry::ClosedCylinder { radius: 2.0, half_length: 20.0 }, at(20.0), glass(1.5));
+    screen(&mut c, 45.0, -1.0, 16.0, 16);
+    for degrees in [0.0, 10.0, 20.0, 30.0] {
+        ray(&mut c, 0.5, 0.25, -1.0, degrees, 1.0);
+    }
+    c
+}
+
 /// One ray on one pixel of four: document 01's scene.
 fn first() -> Case {
     let mut c = case(4, 0.0);
@@ -233,6 +261,9 @@ pub fn scripts(dir: &str) -> Vec<Script> {
     w.traced("mirror", &mirror(), "-");
     w.traced("car", &car(false), "4");
     w.traced("car-baffle", &car(true), "4");
+    w.traced("barrel-open", &barrel(false), "-");
+    w.traced("barrel", &barrel(true), "-");
+    w.traced("rod", &rod(), "-");
     refusals(&mut w);
     w.scripts
 }
