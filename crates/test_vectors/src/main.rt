@@ -1,5 +1,5 @@
-// Runs the vectors in data/ and prints how many lines of each file agree. The answers in the files
-// are the Rust's (oracle/), but for vigna.txt, whose are those of oracle/vigna.c.
+// Runs the vectors in data/ and prints how many lines of each file agree. The answers in the files are the Rust's
+// (oracle/), but for vigna.txt, whose are oracle/vigna.c's, and for shape 5, which the Rust does not have.
 mod detector_lines;
 mod lines;
 mod parts;
@@ -71,7 +71,9 @@ fn main() {
     run(Kind::Index, b"index_edges.txt");
     run(Kind::Shape, b"shapes.txt");
     run(Kind::Shape, b"shape_edges.txt");
+    run(Kind::Shape, b"closed.txt");
     run(Kind::Solid, b"solids.txt");
+    run(Kind::Solid, b"closed_solids.txt");
     run(Kind::Crossing, b"crossing.txt");
     run(Kind::Recording, b"recording.txt");
 }
