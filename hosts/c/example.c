@@ -1,5 +1,5 @@
 /* Document 01's scene through the C calls: one ray on one pixel of four. Prints the answer, then tries some
- * refusals and the layout of the structs. */
+ * refusals, the layout of the structs and the numbers of shapes, finishes, media and filters. */
 #include "nonseq.h"
 #include <stdio.h>
 #include <string.h>
@@ -28,6 +28,14 @@ static void layout(void)
     expect("a tracing's answer has 992 bytes", sizeof(nonseq_traced) == 992);
 }
 
+static void numbers(void)
+{
+    expect("the closed cylinder is shape 5", NONSEQ_PLANE == 0 && NONSEQ_CYLINDER == 3 && NONSEQ_CLOSED_CYLINDER == 5);
+    expect("the absorber is finish 2", NONSEQ_SPECULAR == 0 && NONSEQ_ABSORBER == 2);
+    expect("Schott's is medium 3", NONSEQ_AIR == 0 && NONSEQ_SCHOTT == 3);
+    expect("stray light is filter 4", NONSEQ_ALL == 0 && NONSEQ_STRAY_LIGHT == 4);
+}
+
 int main(void)
 {
     nonseq_vec3 center = {0, 0, 10}, normal = {0, 0, 1}, up = {0, 1, 0};
@@ -43,6 +51,7 @@ int main(void)
     nonseq_text a;
 
     layout();
+    numbers();
     expect("the detector is made", made.refusal == NONSEQ_DONE);
     expect("no columns are refused by 6", nonseq_new_detector(center, normal, up, 4, 4, 0, 2).refusal == NONSEQ_ZERO_RESOLUTION);
     memset(&detectors, 0, sizeof detectors);

@@ -79,8 +79,8 @@ enum {
     NONSEQ_HIT_WHOLES = 4
 };
 
-/* Shapes, finishes, media and filters by number. */
-enum { NONSEQ_PLANE, NONSEQ_DISK, NONSEQ_SPHERE, NONSEQ_CYLINDER, NONSEQ_BOX };
+/* Shapes, finishes, media and filters by number. CYLINDER has no ends, CLOSED_CYLINDER has both. */
+enum { NONSEQ_PLANE, NONSEQ_DISK, NONSEQ_SPHERE, NONSEQ_CYLINDER, NONSEQ_BOX, NONSEQ_CLOSED_CYLINDER };
 enum { NONSEQ_SPECULAR, NONSEQ_MIRROR, NONSEQ_ABSORBER };
 enum { NONSEQ_AIR, NONSEQ_CONSTANT, NONSEQ_SELLMEIER1, NONSEQ_SCHOTT };
 /* GHOSTS_ONLY leaves out light that was only totally reflected. */

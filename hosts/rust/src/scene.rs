@@ -24,7 +24,7 @@ pub enum Shape {
         /// To its surface.
         radius: f64,
     },
-    /// Along z.
+    /// Along z, without ends: light along its axis goes through. With them it is [`Shape::ClosedCylinder`].
     Cylinder {
         /// To its side.
         radius: f64,
@@ -39,6 +39,13 @@ pub enum Shape {
         half_y: f64,
         /// Along z.
         half_z: f64,
+    },
+    /// Along z, with two flat ends.
+    ClosedCylinder {
+        /// To its side.
+        radius: f64,
+        /// To its ends.
+        half_length: f64,
     },
 }
 
@@ -80,6 +87,7 @@ impl Shape {
             Shape::Sphere { radius } => (2, [radius, 0.0, 0.0]),
             Shape::Cylinder { radius, half_length } => (3, [radius, half_length, 0.0]),
             Shape::Box { half_x, half_y, half_z } => (4, [half_x, half_y, half_z]),
+            Shape::ClosedCylinder { radius, half_length } => (5, [radius, half_length, 0.0]),
         }
     }
 }

@@ -93,6 +93,23 @@ fn the_first_scene() {
     assert_eq!((hit.local_x.abs(), hit.local_y, hit.detector, hit.bounce_count), (1.0, 1.0, 0, 0));
 }
 
+/// Light goes through a tube without ends lengthwise, and is stopped by the end of one that has them; beside both it
+/// passes.
+#[test]
+fn tubes_with_ends() {
+    let (matrix, inverse) = moved(5.0);
+    let hits = |shape| {
+        let mut scene = Scene::new();
+        scene.push(&Solid { shape, active: true, finish: Finish::Absorber, medium: Medium::Air, matrix, inverse });
+        let mut m = Memory::new(&[screen(10.0, 2)], 4).unwrap();
+        let report = m.trace(&config(), &scene, &[ray(0.5, 0.5, 1.0), ray(1.5, 0.5, 0.25)]).unwrap();
+        (m.hits().count(), report.ledger.absorbed_flux_watts)
+    };
+    assert_eq!(hits(Shape::Cylinder { radius: 1.0, half_length: 2.0 }), (2, 0.0));
+    assert_eq!(hits(Shape::ClosedCylinder { radius: 1.0, half_length: 2.0 }), (1, 1.0));
+    assert_eq!(hits(Shape::ClosedCylinder { radius: 0.5, half_length: 2.0 }), (2, 0.0));
+}
+
 /// Structs and numbers leave the same memory, bit for bit, rays that are refused too.
 #[test]
 fn structs_and_numbers_alike() {
@@ -141,7 +158,7 @@ fn tracings_refused() {
     assert_eq!((many.len(), many.is_empty()), (33, false));
     assert_eq!(tried(config(), &many, &one), ((3, 0), true));
     assert_eq!(tried(config(), &Scene::from_numbers(vec![0.0; 41], vec![0; 4], 1), &one), ((17, 0), true));
-    assert_eq!(tried(config(), &Scene::from_numbers(vec![0.0; 84], vec![0, 0, 0, 0, 5, 0, 0, 0], 2), &one), ((17, 1), true));
+    assert_eq!(tried(config(), &Scene::from_numbers(vec![0.0; 84], vec![0, 0, 0, 0, 6, 0, 0, 0], 2), &one), ((17, 1), true));
     assert_eq!(tried(config(), &none, &[one[0], GivenRay { energy: -1.0, ..one[0] }]), ((10, 1), true));
     assert_eq!(tried(config(), &none, &[one[0].inside(&[0])]), ((11, 0), true));
     assert_eq!(tried(config(), &none, &[one[0], one[0], one[0]]), ((12, 1), false));
