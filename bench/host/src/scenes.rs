@@ -46,7 +46,7 @@ pub fn typical() -> (Lists, Vec<Transform3D>) {
     (Lists::read(include_str!("../../../oracle/bench/typical.in")), transforms)
 }
 
-/// The k-th solid of a row, all five shapes in turn: shape number and sizes.
+/// The k-th solid of a row, the Rust's five shapes in turn: shape number and sizes.
 fn shape(k: usize) -> (u32, [f64; 3]) {
     match k % 5 {
         0 => (4, [6.0, 6.0, 1.0]),

@@ -1,4 +1,4 @@
-//! The seven seed files with what document 02 asks for. Six are compiled unchanged from where they stand, `geometry`
+//! The Rust with what document 02 asks for. Six of its files are compiled unchanged from where they stand, `geometry`
 //! hands its shapes to the seventh and adds one.
 #[path = "../../optics-nonseq/src/detector.rs"]
 pub mod detector;
