@@ -2,7 +2,8 @@
 use Prim.Native.Nat.{ℕ}
 use mathlib.Core.Bool.{Bool, true, false, cond}
 use lib.Ieee.{Float, binary64, ofBits, add, div, le}
-use Rattle.step.specs.Rays.{Meeting, stopped, parted, End, dim, spent, gone, caught, met, refusing, Step, moreOf}
+use Rattle.step.specs.Rays.{Meeting, stopped, mirrored, parted, End, dim, spent, gone, caught, met, refusing, Step}
+use Rattle.step.specs.Rays.{moreOf}
 use Rattle.report.specs.declared.ledger.Ledger.{Ledger}
 use Rattle.report.specs.declared.tallies.Tallies.{Tallies}
 use Rattle.report.specs.declared.NonSeqTraceReport.{NonSeqTraceReport}
@@ -44,6 +45,7 @@ unlessMadeOf made l x = cond made l (absorbOf l x)
 -- made and also are the step's two flags
 unfoldable pub ledgerMetOf : Ledger → Meeting → Bool → Bool → Ledger
 ledgerMetOf l (stopped x) made also = absorbOf l x
+ledgerMetOf l (mirrored kept r) made also = absorbOf l kept
 ledgerMetOf l (parted r t total) made also = unlessMadeOf also (unlessMadeOf made l r) t
 
 -- power is the ray's
@@ -128,6 +130,7 @@ faintOf total also = cond total false (cond also false true)
 
 unfoldable pub talliesMetOf : Tallies → Meeting → Bool → Bool → Tallies
 talliesMetOf t (stopped x) made also = addSurfaceOf t made also false false
+talliesMetOf t (mirrored kept r) made also = addSurfaceOf t made also false false
 talliesMetOf t (parted r p total) made also = addSurfaceOf t made also (cond made false true) (faintOf total also)
 
 unfoldable pub talliesAfterOf : Tallies → End → Bool → Bool → Tallies

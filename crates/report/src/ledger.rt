@@ -62,7 +62,8 @@ impl Ledger {
         ensures { λ r. ⌜ r ≡ ledgerMetOf self (asMeeting meeting) first second ⌝ }
     {
         match meeting {
-            Meeting::Stopped(left) => self.absorb(left),
+            Meeting::Stopped(power) => self.absorb(power),
+            Meeting::Mirrored { kept, reflected: _ } => self.absorb(kept),
             Meeting::Parted {
                 reflected,
                 transmitted,

@@ -98,6 +98,10 @@ impl Tallies {
     {
         match meeting {
             Meeting::Stopped(_) => self.add_surface(first, second, false, false),
+            Meeting::Mirrored {
+                kept: _,
+                reflected: _,
+            } => self.add_surface(first, second, false, false),
             Meeting::Parted {
                 reflected: _,
                 transmitted: _,

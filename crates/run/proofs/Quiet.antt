@@ -8,7 +8,7 @@ use Rattle.media.specs.declared.Media.{Media}
 use Rattle.detector.specs.declared.DetectorHit.{DetectorHit}
 use Rattle.surface.specs.Fresnel.{FresnelInteraction, total, split}
 use Rattle.step.specs.declared.ActiveRay.{ActiveRay}
-use Rattle.step.specs.Rays.{Scene, Step, End, endsOf, dim, spent, gone, caught, met, refusing}
+use Rattle.step.specs.Rays.{Scene, Step, Meeting, End, endsOf, dim, spent, gone, caught, met, refusing}
 use Rattle.step.specs.Steps.{partedBy, mirrorFromOf, caughtByOf, takeStepOf}
 use Rattle.step.proofs.Ways.{by-tests, by-ahead, by-surface}
 use Rattle.run.specs.Run.{hitInOf}
@@ -26,16 +26,16 @@ unfolding partedBy hitInOf
 parted-quiet threshold a m (total r) h e = absurd (Option·none-ne-some h e)
 parted-quiet threshold a m (split r t) h e = absurd (Option·none-ne-some h e)
 
-mirror-quiet : (a : ActiveRay) (left : Float) (r : Ray) → Quiet (mirrorFromOf a left (value r))
+mirror-quiet : (a : ActiveRay) (m : Meeting) (r : Ray) → Quiet (mirrorFromOf a m (value r))
 unfolding mirrorFromOf hitInOf
-mirror-quiet a left r h e = absurd (Option·none-ne-some h e)
+mirror-quiet a m r h e = absurd (Option·none-ne-some h e)
 
 pub step-quiet : (S : Scene) (a : ActiveRay) → Quiet (takeStepOf S a)
 step-quiet S a =
     by-tests Quiet a S (λ e. ended-quiet a dim) (λ e. ended-quiet a spent)
     (λ e f.
-    by-ahead Quiet a S (λ s q. ended-quiet a (caught (caughtByOf a s)))
+    by-ahead Quiet a S (λ s q z. ended-quiet a (caught (caughtByOf a s)))
     (λ h q.
-    by-surface Quiet a (S .optics) h (λ m. ended-quiet a (met m)) (λ n g. ended-quiet a (refusing n)) (λ power left r g. mirror-quiet a left r)
+    by-surface Quiet a (S .optics) h (λ m. ended-quiet a (met m)) (λ n g. ended-quiet a (refusing n)) (λ power m r g. mirror-quiet a m r)
     (λ n1 n2 p g. parted-quiet _ a _ p))
-    (ended-quiet a gone))
+    (λ q. ended-quiet a gone))

@@ -16,14 +16,21 @@ use Rattle.surface.specs.Fresnel.{FresnelInteraction, computeSnellFresnelIntera
 use Rattle.faces.specs.declared.Sight.{Sight}
 use Rattle.faces.specs.Faces.{nearestDetectorOf}
 use Rattle.step.specs.declared.ActiveRay.{ActiveRay}
-use Rattle.step.specs.Rays.{Optics, Scene, Step, Meeting, stopped, End, dim, spent, gone, caught, met, refusing, endsOf}
-use Rattle.step.specs.Steps.{indexInOf, beyondOf, partedBy, partedOf, betweenOf, clearOf, mirrorFromOf, mirrorOf, surfaceBy, surfaceOf, caughtByOf, Ahead, detector, solid, nothing, nearerOf, firstAheadOf, aheadIn, meetsWith, interactOf, takeStepOf}
+use Rattle.step.specs.Rays.{Optics, Scene, Step, Meeting, stopped, mirrored, dim, spent, gone, caught, met, refusing, endsOf}
+use Rattle.step.specs.Steps.{indexInOf, beyondOf, partedBy, partedOf, betweenOf, clearOf, mirrorFromOf, mirrorOf, surfaceBy, surfaceOf, caughtByOf, detector, solid, nothing, nearerOf, firstAheadOf, aheadIn, meetsWith, interactOf, takeStepOf}
 
-abbrev indexHere : Optics → ActiveRay → Answer Float
+abbrev pub indexHere : Optics → ActiveRay → Answer Float
 indexHere O a = indexInOf O (a .media) (a .ray .«wavelength_nm»)
 
-abbrev indexBeyond : Optics → ActiveRay → NonSeqHit → Answer Float
+abbrev pub indexBeyond : Optics → ActiveRay → NonSeqHit → Answer Float
 indexBeyond O a h = indexInOf O (beyondOf (a .media) h) (a .ray .«wavelength_nm»)
+
+-- the power that a mirror of reflectance rho reflects of a ray, and what it makes of the ray's power
+abbrev pub atMirror : ActiveRay → Float → Float
+atMirror a rho = mirroredPowerOf (a .ray .energy) rho
+
+abbrev pub metMirror : ActiveRay → Float → Meeting
+metMirror a rho = mirrored (sub binary64 (a .ray .energy) (atMirror a rho)) (atMirror a rho)
 
 -- why a surface refuses a ray with n: at a clear one an index, or a ray between the two indices; at a mirror its ray
 abbrev pub Refuses : Optics → ActiveRay → NonSeqHit → ℕ → Type 0
@@ -35,7 +42,7 @@ Refuses O a h n =
     × ((n2 : Float) × ((indexHere O a ≡ value n1) × ((indexBeyond O a h ≡ value n2) × (computeSnellFresnelInteractionOf (a .ray) h n1 n2 (a .ray .energy) ≡ refusal n))))))))
     ⊎ ((rho : Float)
     × ((O .finish (h .«object_id») ≡ Mirror rho)
-    × ((lt (O .config .«min_power_threshold») (mirroredPowerOf (a .ray .energy) rho) ≡ true) × (mirroredOf (a .ray) h (mirroredPowerOf (a .ray .energy) rho) ≡ refusal n))))
+    × ((lt (O .config .«min_power_threshold») (atMirror a rho) ≡ true) × (mirroredOf (a .ray) h (atMirror a rho) ≡ refusal n))))
 
 module _ (Q : Step → Type 0) (a : ActiveRay) where
   -- by the tests of power and bounce
@@ -55,36 +62,37 @@ module _ (Q : Step → Type 0) (a : ActiveRay) where
 
   -- by what is ahead
   module _ (S : Scene)
-      (catches : (s : Sight) → nearestDetectorOf (S .faces) (a .ray) ≡ some s → Q (endsOf a (caught (caughtByOf a s))))
+      (catches : (s : Sight) → nearestDetectorOf (S .faces) (a .ray) ≡ some s → aheadIn S a ≡ detector s → Q (endsOf a (caught (caughtByOf a s))))
       (meets : (h : NonSeqHit) → aheadIn S a ≡ solid h → Q (surfaceOf (S .optics) a h))
-      (goes : Q (endsOf a gone)) where
+      (goes : aheadIn S a ≡ nothing → Q (endsOf a gone)) where
     pub by-ahead : Q (interactOf S a)
     unfolding interactOf meetsWith firstAheadOf nearerOf
     by-ahead = go (nearestDetectorOf (S .faces) (a .ray)) (closestObjectOf (S .solid) (S .solids) (a .ray)) refl refl
       where
         nearer : (s : Sight) (h : NonSeqHit) (b : Bool) → nearestDetectorOf (S .faces) (a .ray) ≡ some s → aheadIn S a ≡ cond b (detector s) (solid h) → Q (meetsWith S a (cond b (detector s) (solid h)))
-        nearer s h true e f = catches s e
+        nearer s h true e f = catches s e f
         nearer s h false e f = meets h f
 
         go : (o : Option Sight) (k : Option NonSeqHit) → nearestDetectorOf (S .faces) (a .ray) ≡ o → closestObjectOf (S .solid) (S .solids) (a .ray) ≡ k → Q (meetsWith S a (firstAheadOf o k))
-        go none none e f = goes
+        go none none e f = goes (rw (e, f))
         go none (some h) e f = meets h (rw (e, f))
-        go (some s) none e f = catches s e
+        go (some s) none e f = catches s e (rw (e, f))
         go (some s) (some h) e f = nearer s h (lt (s .crossing .t) (h .t)) e (rw (e, f))
 
-  -- by what a surface makes of it
+  -- by the finish of the surface that it meets
   module _ (O : Optics) (h : NonSeqHit)
-      (stops : (m : Meeting) → Q (endsOf a (met m)))
+      (stops : O .finish (h .«object_id») ≡ Absorber → Q (endsOf a (met (stopped (a .ray .energy)))))
       (refuses : (n : ℕ) → Refuses O a h n → Q (endsOf a (refusing n)))
-      (mirrors : (power left : Float) (r : Ray) → mirroredOf (a .ray) h power ≡ value r → Q (mirrorFromOf a left (value r)))
-      (parts : (n1 n2 : Float) (p : FresnelInteraction) → computeSnellFresnelInteractionOf (a .ray) h n1 n2 (a .ray .energy) ≡ value p → Q (partedBy (O .config .«min_power_threshold») a (beyondOf (a .media) h) p)) where
+      (drops : (rho : Float) → O .finish (h .«object_id») ≡ Mirror rho → lt (O .config .«min_power_threshold») (atMirror a rho) ≡ false → Q (endsOf a (met (metMirror a rho))))
+      (mirrors : (rho : Float) (r : Ray) → O .finish (h .«object_id») ≡ Mirror rho → lt (O .config .«min_power_threshold») (atMirror a rho) ≡ true → mirroredOf (a .ray) h (atMirror a rho) ≡ value r → Q (mirrorFromOf a (metMirror a rho) (value r)))
+      (parts : (n1 n2 : Float) (p : FresnelInteraction) → O .finish (h .«object_id») ≡ Specular → indexHere O a ≡ value n1 → indexBeyond O a h ≡ value n2 → computeSnellFresnelInteractionOf (a .ray) h n1 n2 (a .ray .energy) ≡ value p → Q (partedBy (O .config .«min_power_threshold») a (beyondOf (a .media) h) p)) where
     clear-way : O .finish (h .«object_id») ≡ Specular → Q (clearOf O a h)
     unfolding clearOf betweenOf partedOf
     clear-way s = go (indexHere O a) (indexBeyond O a h) refl refl
       where
         sends : (n1 n2 : Float) → indexHere O a ≡ value n1 → indexBeyond O a h ≡ value n2 → (p : Answer FresnelInteraction) → computeSnellFresnelInteractionOf (a .ray) h n1 n2 (a .ray .energy) ≡ p
             → Q (partedOf (O .config .«min_power_threshold») a (beyondOf (a .media) h) p)
-        sends n1 n2 e f (value p) g = parts n1 n2 p g
+        sends n1 n2 e f (value p) g = parts n1 n2 p s e f g
         sends n1 n2 e f (refusal n) g = refuses n (inl (s, inr (inr (n1, (n2, (e, (f, g)))))))
 
         go : (x y : Answer Float) → indexHere O a ≡ x → indexBeyond O a h ≡ y → Q (betweenOf (O .config .«min_power_threshold») a h (beyondOf (a .media) h) x y)
@@ -94,27 +102,31 @@ module _ (Q : Step → Type 0) (a : ActiveRay) where
 
     mirror-way : (rho : Float) → O .finish (h .«object_id») ≡ Mirror rho → Q (mirrorOf (O .config .«min_power_threshold») a h rho)
     unfolding mirrorOf mirrorFromOf
-    mirror-way rho s = go (lt (O .config .«min_power_threshold») power) refl
+    mirror-way rho s = go (lt (O .config .«min_power_threshold») (atMirror a rho)) refl
       where
-        power : Float
-        power = mirroredPowerOf (a .ray .energy) rho
-
-        left : Float
-        left = sub binary64 (a .ray .energy) power
-
-        sends : lt (O .config .«min_power_threshold») power ≡ true → (r : Answer Ray) → mirroredOf (a .ray) h power ≡ r → Q (mirrorFromOf a left r)
-        sends e (value r) g = mirrors power left r g
+        sends : lt (O .config .«min_power_threshold») (atMirror a rho) ≡ true → (r : Answer Ray) → mirroredOf (a .ray) h (atMirror a rho) ≡ r → Q (mirrorFromOf a (metMirror a rho) r)
+        sends e (value r) g = mirrors rho r s e g
         sends e (refusal n) g = refuses n (inr (rho, (s, (e, g))))
 
-        go : (b : Bool) → lt (O .config .«min_power_threshold») power ≡ b → Q (cond b (mirrorFromOf a left (mirroredOf (a .ray) h power)) (endsOf a (met (stopped left))))
-        go true e = sends e (mirroredOf (a .ray) h power) refl
-        go false e = stops (stopped left)
+        go : (b : Bool) → lt (O .config .«min_power_threshold») (atMirror a rho) ≡ b → Q (cond b (mirrorFromOf a (metMirror a rho) (mirroredOf (a .ray) h (atMirror a rho))) (endsOf a (met (metMirror a rho))))
+        go true e = sends e (mirroredOf (a .ray) h (atMirror a rho)) refl
+        go false e = drops rho s e
 
-    pub by-surface : Q (surfaceOf O a h)
+    pub by-finish : Q (surfaceOf O a h)
     unfolding surfaceOf surfaceBy
-    by-surface = go (O .finish (h .«object_id»)) refl
+    by-finish = go (O .finish (h .«object_id»)) refl
       where
         go : (f : SurfaceFinish) → O .finish (h .«object_id») ≡ f → Q (surfaceBy O a h f)
         go Specular e = clear-way e
         go (Mirror rho) e = mirror-way rho e
-        go Absorber e = stops (stopped (a .ray .energy))
+        go Absorber e = stops e
+
+  -- by what a surface makes of it, whatever its finish
+  module _ (O : Optics) (h : NonSeqHit)
+      (stops : (m : Meeting) → Q (endsOf a (met m)))
+      (refuses : (n : ℕ) → Refuses O a h n → Q (endsOf a (refusing n)))
+      (mirrors : (power : Float) (m : Meeting) (r : Ray) → mirroredOf (a .ray) h power ≡ value r → Q (mirrorFromOf a m (value r)))
+      (parts : (n1 n2 : Float) (p : FresnelInteraction) → computeSnellFresnelInteractionOf (a .ray) h n1 n2 (a .ray .energy) ≡ value p → Q (partedBy (O .config .«min_power_threshold») a (beyondOf (a .media) h) p)) where
+    pub by-surface : Q (surfaceOf O a h)
+    by-surface =
+        by-finish O h (λ e. stops _) refuses (λ rho e f. stops _) (λ rho r e f g. mirrors _ _ r g) (λ n1 n2 p e i j g. parts n1 n2 p g)

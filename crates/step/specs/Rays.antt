@@ -42,13 +42,14 @@ listedOptics x k g = record { finish = finishAtOf x k; medium = mediumAtOf x k; 
 abbrev pub listedScene : List Float → List ℕ → ℕ → Faces → NonSeqTraceConfig → Scene
 listedScene x k n fs g = record { solids = n; solid = objectAtOf x k; faces = fs; optics = listedOptics x k g }
 
--- what a solid makes of a ray's power: a power left at an absorber or a mirror; the powers reflected and transmitted at
--- a clear surface, and whether the radicand was at most 0
+-- what a solid makes of a ray's power: an absorber stops it; a mirror keeps some and reflects some; a clear surface
+-- reflects some and transmits some, and the flag says whether the radicand was at most 0
 pub data Meeting : Type 0 where
   stopped : Float → Meeting
+  mirrored : Float → Float → Meeting
   parted : Float → Float → Bool → Meeting
 
--- what becomes of the newest ray: at most the threshold; bounced to the limit; lost to the dark; caught by a detector;
+-- what becomes of the newest ray: at most the threshold; bounced to the limit; nothing ahead; caught by a detector;
 -- met by a solid; a refusal
 pub data End : Type 0 where
   dim : End
@@ -99,6 +100,7 @@ transmittedOf a r m =
 -- what the code's answers say
 abbrev pub asMeeting : meetings.Meeting → Meeting
 asMeeting (meetings.the-variants.Stopped p) = stopped p
+asMeeting (meetings.the-variants.Mirrored k r) = mirrored k r
 asMeeting (meetings.the-variants.Parted r t total) = parted r t total
 
 abbrev pub asEnd : ends.End → End

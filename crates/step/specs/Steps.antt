@@ -22,7 +22,7 @@ use Rattle.faces.specs.Faces.{nearestDetectorOf}
 use Rattle.step.specs.declared.ActiveRay.{ActiveRay}
 use Rattle.step.specs.declared.ahead.Ahead as code
 use Rattle.step.specs.Rays.{Optics, Scene, Step, endsOf, dim, spent, gone, caught, met, refusing}
-use Rattle.step.specs.Rays.{stopped, parted, reflectedOf, transmittedOf}
+use Rattle.step.specs.Rays.{Meeting, stopped, mirrored, parted, reflectedOf, transmittedOf}
 use Rattle.doubles.specs.Doubles.{#0}
 
 -- ---- a clear surface
@@ -84,23 +84,23 @@ clearOf O a h =
 
 -- ---- a mirror
 
-unfoldable pub mirrorFromOf : ActiveRay → Float → Answer Ray → Step
-mirrorFromOf a left (value r) =
+unfoldable pub mirrorFromOf : ActiveRay → Meeting → Answer Ray → Step
+mirrorFromOf a m (value r) =
     record {
-      end = met (stopped left);
+      end = met m;
       «first» = true;
       reflected = reflectedOf false a r;
       second = false;
       transmitted = a;
     }
-mirrorFromOf a left (refusal n) = endsOf a (refusing n)
+mirrorFromOf a m (refusal n) = endsOf a (refusing n)
 
--- what the mirror keeps is absorbed; its ray is made only above the threshold
+-- the reflected ray is made only above the threshold; the meeting has its power in either case
 unfoldable pub mirrorOf : Float → ActiveRay → NonSeqHit → Float → Step
 mirrorOf threshold a h rho =
     let power = mirroredPowerOf (a .ray .energy) rho in
-    let left = sub binary64 (a .ray .energy) power in
-    cond (lt threshold power) (mirrorFromOf a left (mirroredOf (a .ray) h power)) (endsOf a (met (stopped left)))
+    let m = mirrored (sub binary64 (a .ray .energy) power) power in
+    cond (lt threshold power) (mirrorFromOf a m (mirroredOf (a .ray) h power)) (endsOf a (met m))
 
 -- ---- what a ray meets
 

@@ -38,8 +38,13 @@ pub struct ActiveRay {
 
 // What a solid makes of a ray's power.
 pub enum Meeting {
-    // an absorber or a mirror keeps this power
+    // an absorber stops this power
     Stopped(f64),
+    // a mirror keeps and reflects these powers
+    Mirrored {
+        kept: f64,
+        reflected: f64,
+    },
     // a clear surface reflects and transmits these powers; `total` where the radicand is at most 0
     Parted {
         reflected: f64,

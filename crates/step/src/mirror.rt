@@ -7,16 +7,16 @@ use rays::NewRay;
 use scene::NonSeqHit;
 ghost use mathlib.Core.Path.{_≡_};
 ghost use Rattle.rays.specs.Rays.{asRay};
-ghost use Rattle.step.specs.Rays.{asStep};
+ghost use Rattle.step.specs.Rays.{asMeeting, asStep};
 ghost use Rattle.step.specs.Steps.{mirrorFromOf, mirrorOf};
 
-// The ray is on its way again, and the rest of its power stays; or it could not be made.
-fn mirror_from(a: ActiveRay, left: f64, made: NewRay) -> Step
-    ensures { λ r. ⌜ asStep r ≡ mirrorFromOf a left (asRay made) ⌝ }
+// The ray is on its way again, or it could not be made.
+fn mirror_from(a: ActiveRay, meeting: Meeting, made: NewRay) -> Step
+    ensures { λ r. ⌜ asStep r ≡ mirrorFromOf a (asMeeting meeting) (asRay made) ⌝ }
 {
     match made {
         NewRay::Made(ray) => Step {
-            end: End::Met(Meeting::Stopped(left)),
+            end: End::Met(meeting),
             first: true,
             reflected: a.reflected(false, ray),
             second: false,
@@ -32,9 +32,12 @@ pub(crate) fn mirror(threshold: f64, a: ActiveRay, hit: NonSeqHit, reflectance: 
 {
     let ray = a.ray;
     let power = surface::mirrored_power(ray.energy, reflectance);
-    let left = ray.energy - power;
+    let meeting = Meeting::Mirrored {
+        kept: ray.energy - power,
+        reflected: power,
+    };
     if power > threshold {
-        return mirror_from(a, left, surface::mirrored(ray, hit, power));
+        return mirror_from(a, meeting, surface::mirrored(ray, hit, power));
     }
-    a.ends(End::Met(Meeting::Stopped(left)))
+    a.ends(End::Met(meeting))
 }

@@ -15,7 +15,7 @@ use Rattle.detector.specs.declared.DetectorHit.{DetectorHit}
 use Rattle.faces.specs.declared.Sight.{Sight}
 use Rattle.faces.specs.Faces.{sightDistance, sightFrom, sights, faceCountOf, nearestDetectorOf}
 use Rattle.step.specs.declared.ActiveRay.{ActiveRay}
-use Rattle.step.specs.Rays.{Scene, Step, End, dim, spent, gone, caught, met, refusing}
+use Rattle.step.specs.Rays.{Scene, Step, Meeting, End, dim, spent, gone, caught, met, refusing}
 use Rattle.step.specs.Steps.{partedBy, mirrorFromOf, takeStepOf}
 use Rattle.step.proofs.Ways.{by-tests, by-ahead, by-surface}
 use Rattle.theorems_runs.proofs.Bred.{false-true}
@@ -56,9 +56,9 @@ unfolding partedBy
 parted-there n threshold a m (total r) = tt
 parted-there n threshold a m (split r t) = tt
 
-mirror-there : (n : ℕ) (a : ActiveRay) (left : Float) (r : Ray) → There n (mirrorFromOf a left (value r) .end)
+mirror-there : (n : ℕ) (a : ActiveRay) (m : Meeting) (r : Ray) → There n (mirrorFromOf a m (value r) .end)
 unfolding mirrorFromOf
-mirror-there n a left r = tt
+mirror-there n a m r = tt
 
 step-there : (S : Scene) (a : ActiveRay) → There (faceCountOf (S .faces .count)) (takeStepOf S a .end)
 unfolding nearestDetectorOf
@@ -68,9 +68,9 @@ step-there S a =
     by-tests Q a S (λ e. tt) (λ e. tt)
     (λ e f.
     by-ahead Q a S
-    (seen-there (sights (S .faces .list) (a .ray)) n (λ i s q. sight-number i _ s q) _ (nearest-is Sight sightDistance (sights (S .faces .list) (a .ray)) n))
-    (λ h q. by-surface Q a (S .optics) h (λ m. tt) (λ k g. tt) (λ power left r g. mirror-there n a left r) (λ n1 n2 p g. parted-there n _ a _ p))
-    tt)
+    (λ s q z. seen-there (sights (S .faces .list) (a .ray)) n (λ i s q. sight-number i _ s q) _ (nearest-is Sight sightDistance (sights (S .faces .list) (a .ray)) n) s q)
+    (λ h q. by-surface Q a (S .optics) h (λ m. tt) (λ k g. tt) (λ power m r g. mirror-there n a m r) (λ n1 n2 p g. parted-there n _ a _ p))
+    (λ q. tt))
 
 -- a hit that a step brings
 pub brought-there : (P : ActiveRay → Type 0) (S : Scene) (h : DetectorHit) → Brought P S h → h .detector .0 < faceCountOf (S .faces .count)

@@ -16,7 +16,7 @@ use Rattle.scene.specs.declared.NonSeqHit.{NonSeqHit}
 use Rattle.surface.specs.Fresnel.{leavingOf, cosineOf, radicandOf, reflectedDirectionOf, refractedDirectionOf, amplitudeOf, reflectanceOf, total, split, bothOf, refractOf, computeSnellFresnelInteractionOf, mirroredPowerOf}
 use Rattle.detector.proofs.Marks.{m8}
 use Rattle.step.specs.declared.ActiveRay.{ActiveRay}
-use Rattle.step.specs.Rays.{endsOf, stopped, met}
+use Rattle.step.specs.Rays.{endsOf, mirrored, met}
 use Rattle.step.specs.Steps.{mirrorOf, nearerOf, firstAheadOf}
 use Rattle.report.specs.Report.{absorbOf, ledgerMetOf, ledgerAfterOf, moreIfOf, addSurfaceOf, talliesMetOf, talliesAfterOf, reportAfterOf}
 use Rattle.theorems_marks.specs.Marks.{#-0, #¼, #¾, #+x, #+z, #-z, #000, upward, sideways, facing, sentRay, M1, M2, M6, M7, M9, M10, M11, Marks}
@@ -102,7 +102,7 @@ m9 s h e = rw (e, below-itself (h .t))
 pub m10 : M10
 m10 = ((λ M put ds B m z. uninteracting put ds B m z), uninteracted)
 
-left-half : (a : ActiveRay) (h : NonSeqHit) → a .ray .energy ≡ #1 → mirrorOf #½ a h #½ ≡ endsOf a (met (stopped #½))
+left-half : (a : ActiveRay) (h : NonSeqHit) → a .ray .energy ≡ #1 → mirrorOf #½ a h #½ ≡ endsOf a (met (mirrored #½ #½))
 unfolding mirrorOf mirroredPowerOf clampOf sub mul lt ofBits
 left-half a h e = rw e
 

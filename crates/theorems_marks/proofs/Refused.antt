@@ -23,7 +23,7 @@ use Rattle.media.specs.declared.Media.{Media}
 use Rattle.detector.specs.declared.DetectorHit.{DetectorHit}
 use Rattle.memory.specs.Memory.{Memory, Outcome, done, refused, memoryLeft, judged, putOf, recordOf, hasPixel, capacity, cellIn, hitDetector, writtenAt}
 use Rattle.step.specs.declared.ActiveRay.{ActiveRay}
-use Rattle.step.specs.Rays.{Optics, Scene, Step, End, dim, spent, gone, caught, met, refusing}
+use Rattle.step.specs.Rays.{Optics, Scene, Step, Meeting, End, dim, spent, gone, caught, met, refusing}
 use Rattle.step.specs.Steps.{indexInOf, partedBy, mirrorFromOf, surfaceOf, caughtByOf, takeStepOf}
 use Rattle.step.proofs.Ways.{Refuses, by-tests, by-ahead, by-surface}
 use Rattle.report.specs.declared.NonSeqTraceReport.{NonSeqTraceReport}
@@ -225,23 +225,23 @@ module _ (O : Optics) (a : ActiveRay) (h : NonSeqHit) (n : ℕ) where
   parted-ends threshold m (total r) x = absurd (other _ refl x)
   parted-ends threshold m (split r t) x = absurd (other _ refl x)
 
-  mirrored-ends : (left : Float) (r : Ray) → mirrorFromOf a left (value r) .end ≡ refusing n → SurfaceRefused O a h n
+  mirrored-ends : (m : Meeting) (r : Ray) → mirrorFromOf a m (value r) .end ≡ refusing n → SurfaceRefused O a h n
   unfolding mirrorFromOf
-  mirrored-ends left r x = absurd (other _ refl x)
+  mirrored-ends m r x = absurd (other _ refl x)
 
   pub surface-refuses : surfaceOf O a h .end ≡ refusing n → SurfaceRefused O a h n
   surface-refuses =
       by-surface (λ (s : Step). (s .end ≡ refusing n → SurfaceRefused O a h n)) a O h (λ m x. absurd (other (met m) refl x))
       (λ k g x. why-refuses (subst (Refuses O a h) (ap refusalNo x) g))
-      (λ power left r g. mirrored-ends left r) (λ n1 n2 p g. parted-ends _ _ p)
+      (λ power m r g. mirrored-ends m r) (λ n1 n2 p g. parted-ends _ _ p)
 
 pub ray-refuses : (S : Scene) (a : ActiveRay) (n : ℕ) → takeStepOf S a .end ≡ refusing n → RayRefused S a n
 ray-refuses S a n =
     let Q : Step → Type 0 = λ s. (s .end ≡ refusing n → RayRefused S a n) in
     by-tests Q a S (λ e x. absurd (other dim refl x)) (λ e x. absurd (other spent refl x))
     (λ e f.
-    by-ahead Q a S (λ s q x. absurd (other (caught (caughtByOf a s)) refl x)) (λ h q x. (e, (f, (h, (q, surface-refuses (S .optics) a h n x)))))
-    (λ x. absurd (other gone refl x)))
+    by-ahead Q a S (λ s q z x. absurd (other (caught (caughtByOf a s)) refl x)) (λ h q x. (e, (f, (h, (q, surface-refuses (S .optics) a h n x)))))
+    (λ q x. absurd (other gone refl x)))
 
 -- ---- a step
 

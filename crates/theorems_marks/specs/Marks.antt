@@ -25,7 +25,7 @@ use Rattle.detector.specs.declared.DetectorHit.{DetectorHit}
 use Rattle.memory.specs.Memory.{Memory, Outcome}
 use Rattle.faces.specs.declared.Sight.{Sight}
 use Rattle.step.specs.declared.ActiveRay.{ActiveRay}
-use Rattle.step.specs.Rays.{stopped, met}
+use Rattle.step.specs.Rays.{mirrored, met}
 use Rattle.step.specs.Steps.{firstAheadOf, solid, mirrorOf}
 use Rattle.report.specs.declared.NonSeqTraceReport.{NonSeqTraceReport}
 use Rattle.report.specs.Report.{reportAfterOf}
@@ -144,7 +144,7 @@ abbrev pub M11 : Type 0
 M11 =
     (a : ActiveRay) (h : NonSeqHit) (r : NonSeqTraceReport) → a .ray .energy ≡ #1
     → r .ledger .«absorbed_flux_watts» ≡ #0
-    → (mirrorOf #½ a h #½ .end ≡ met (stopped #½)) × (mirrorOf #½ a h #½ .«first» ≡ false) ×
+    → (mirrorOf #½ a h #½ .end ≡ met (mirrored #½ #½)) × (mirrorOf #½ a h #½ .«first» ≡ false) ×
     (mirrorOf #½ a h #½ .second ≡ false)
     × (reportAfterOf r #1 (mirrorOf #½ a h #½) .ledger .«absorbed_flux_watts» ≡ #½)
     × (reportAfterOf r #1 (mirrorOf #½ a h #½) .tallies .made ≡ r .tallies .made)

@@ -71,8 +71,7 @@ tallied t (caught d) f s r x y h k =
     let q : moreOf (t .caught) ≡ t .caught + 1 = more-is (t .caught) (omega arith) in
     record { made = omega (arith, no-flag f x, no-flag s y); over = omega (arith, q); met = omega (arith, q) }
 tallied t (met m) f s r x y h k =
-    let (w, (z, e)) = met-surface t m f s in
-    subst (λ (u : Tallies). Added t u (met m) f s) (sym e) (surfacing-added t (met m) f s w z refl h k)
+    subst (λ (u : Tallies). Added t u (met m) f s) (sym (met-surface t m f s)) (surfacing-added t (met m) f s _ _ refl h k)
 tallied t (refusing n) f s r x y h k = false-true (sym r)
 
 -- ---- sums of ones

@@ -17,7 +17,7 @@ use Rattle.surface.specs.Fresnel.{FresnelInteraction, total, split}
 use Rattle.media.specs.declared.Media.{Media}
 use Rattle.media.specs.Media.{enteredOf, leftOf, lastPlaceOf, moveDownOf, withoutPlace, solidIn, maxMedia}
 use Rattle.step.specs.declared.ActiveRay.{ActiveRay}
-use Rattle.step.specs.Rays.{Scene, Step, End, endsOf, dim, spent, gone, caught, met, refusing, moreOf, reflectedOf, transmittedOf}
+use Rattle.step.specs.Rays.{Scene, Step, Meeting, End, endsOf, dim, spent, gone, caught, met, refusing, moreOf, reflectedOf, transmittedOf}
 use Rattle.step.specs.Steps.{beyondOf, partedBy, mirrorFromOf, takeStepOf}
 use Rattle.step.proofs.Ways.{by-tests, by-ahead, by-surface}
 use Rattle.report.specs.Report.{isInteractionOf}
@@ -134,9 +134,9 @@ module _ (b : ℕ) (a : ActiveRay) (low : a .«bounce_count» < b) where
         later-two = transmitted-later a t m d;
       }
 
-  mirrored-bred : (left : Float) (r : Ray) → Bred b a (mirrorFromOf a left (value r))
+  mirrored-bred : (m : Meeting) (r : Ray) → Bred b a (mirrorFromOf a m (value r))
   unfolding mirrorFromOf reflectedOf isSurface
-  mirrored-bred left r =
+  mirrored-bred m r =
       record {
         busy = λ q. low;
         one = λ q. refl;
@@ -155,11 +155,11 @@ bred S a =
     by-tests Q a S (λ e. ended-bred b a dim (λ z. false-true z)) (λ e. ended-bred b a spent (λ z. false-true z))
     (λ e f.
     let low : a .«bounce_count» < b = leb-false b (a .«bounce_count») f in
-    by-ahead Q a S (λ s q. ended-bred b a _ (λ z. low))
+    by-ahead Q a S (λ s q g. ended-bred b a _ (λ z. low))
     (λ h q.
     by-surface Q a (S .optics) h (λ m. ended-bred b a (met m) (λ z. low)) (λ n g. ended-bred b a (refusing n) (λ z. low))
-    (λ power left r g. mirrored-bred b a low left r) (λ n1 n2 p g. parted-bred b a low _ (beyondOf (a .media) h) p (beyond (a .media) h)))
-    (ended-bred b a gone (λ z. low)))
+    (λ power m r g. mirrored-bred b a low m r) (λ n1 n2 p g. parted-bred b a low _ (beyondOf (a .media) h) p (beyond (a .media) h)))
+    (λ q. ended-bred b a gone (λ z. low)))
 
 -- a ray made at a surface is made in an interaction
 pub surface-busy : (e : End) → isSurface e ≡ true → isInteractionOf e ≡ true

@@ -50,8 +50,7 @@ module _ (n w v : ℕ) (less : w + 2 ≤ v) where
   tallies-small t gone f s h = record { made = omega (arith, h .made); dim = omega (arith, h .dim); spent = omega (arith, h .spent); caught = omega (arith, h .caught); gone = omega (arith, h .gone, more-most (t .gone)); surface = omega (arith, h .surface); weak = omega (arith, h .weak) }
   tallies-small t (caught d) f s h = record { made = omega (arith, h .made); dim = omega (arith, h .dim); spent = omega (arith, h .spent); caught = omega (arith, h .caught, more-most (t .caught)); gone = omega (arith, h .gone); surface = omega (arith, h .surface); weak = omega (arith, h .weak) }
   tallies-small t (met m) f s h =
-      let (x, (y, e)) = met-surface t m f s in
-      subst (SmallTallies n w) (sym e) (surfacing-small t f s x y h)
+      subst (SmallTallies n w) (sym (met-surface t m f s)) (surfacing-small t f s _ _ h)
   tallies-small t (refusing k) f s h = record { made = omega (arith, h .made); dim = omega (arith, h .dim); spent = omega (arith, h .spent); caught = omega (arith, h .caught); gone = omega (arith, h .gone); surface = omega (arith, h .surface); weak = omega (arith, h .weak) }
 
   after-small : (r : NonSeqTraceReport) (power : Float) (s : Step) → SmallCounts n v r → SmallCounts n w (reportAfterOf r power s)

@@ -12,7 +12,7 @@ use Rattle.scene.specs.declared.NonSeqHit.{NonSeqHit}
 use Rattle.surface.specs.Fresnel.{leavingOf, cosineOf, radicandOf, reflectedDirectionOf, refractedDirectionOf, reflectanceOf, FresnelInteraction, total, split, totalOf, bothOf, refractOf, computeSnellFresnelInteractionOf, mirroredOf}
 use Rattle.media.specs.declared.Media.{Media}
 use Rattle.step.specs.declared.ActiveRay.{ActiveRay}
-use Rattle.step.specs.Rays.{Scene, Step, reflectedOf, transmittedOf}
+use Rattle.step.specs.Rays.{Scene, Step, Meeting, reflectedOf, transmittedOf}
 use Rattle.step.specs.Steps.{partedBy, mirrorFromOf, takeStepOf}
 use Rattle.step.proofs.Ways.{by-tests, by-ahead, by-surface}
 use Rattle.theorems_runs.specs.Room.{EachMade, Keeps, Admitted}
@@ -66,9 +66,9 @@ mirror-wave r h power = leaving-wave r _ _ power
 abbrev Same : ActiveRay → ActiveRay → Type 0
 Same a c = c .ray .«wavelength_nm» ≡ a .ray .«wavelength_nm»
 
-mirrored-same : (a : ActiveRay) (left : Float) (r : Ray) → r .«wavelength_nm» ≡ a .ray .«wavelength_nm» → EachMade (Same a) (mirrorFromOf a left (value r))
+mirrored-same : (a : ActiveRay) (m : Meeting) (r : Ray) → r .«wavelength_nm» ≡ a .ray .«wavelength_nm» → EachMade (Same a) (mirrorFromOf a m (value r))
 unfolding mirrorFromOf reflectedOf
-mirrored-same a left r e = ((λ q. e), (λ q. refl))
+mirrored-same a m r e = ((λ q. e), (λ q. refl))
 
 parted-same : (threshold : Float) (a : ActiveRay) (m : Media) (p : FresnelInteraction) → Parts (a .ray .«wavelength_nm») (value p) → EachMade (Same a) (partedBy threshold a m p)
 unfolding partedBy reflectedOf transmittedOf
@@ -80,12 +80,12 @@ same-wave S a =
     let Q : Step → Type 0 = EachMade (Same a) in
     by-tests Q a S (λ e. none) (λ e. none)
     (λ e f.
-    by-ahead Q a S (λ s q. none)
+    by-ahead Q a S (λ s q z. none)
     (λ h q.
     by-surface Q a (S .optics) h (λ m. none) (λ n g. none)
-    (λ power left r g. mirrored-same a left r (subst (OneWave (a .ray .«wavelength_nm»)) g (mirror-wave (a .ray) h power)))
+    (λ power m r g. mirrored-same a m r (subst (OneWave (a .ray .«wavelength_nm»)) g (mirror-wave (a .ray) h power)))
     (λ n1 n2 p g. parted-same _ a _ p (subst (Parts (a .ray .«wavelength_nm»)) g (snell-wave (a .ray) h n1 n2 (a .ray .energy)))))
-    none)
+    (λ q. none))
   where
     none : (false ≡ true → Same a a) × (false ≡ true → Same a a)
     none = ((λ q. refl), (λ q. refl))

@@ -1,5 +1,5 @@
 -- `step::mirror::mirror_from` meets its contract. Assumes nothing.
-use Rattle.step.specs.Steps.{mirrorFromOf, mirrorOf}
+use Rattle.step.specs.Steps.{mirrorFromOf}
 use borrow.Author.Needs.{needs}
 use Rattle.step.proofs.mirror.mirror_from.Statement.{statement}
 use Rattle.step.proofs.mirror.mirror_from.Tie as tie
@@ -17,11 +17,11 @@ ends-requires : tie.Need-ends-requires
 ends-requires c κs = search needs
 
 returns : tie.Need-returns
-unfolding mirrorFromOf mirrorOf
+unfolding mirrorFromOf
 returns c = simp (c .before .before .made .given .1, ← c .reflected .ensures)
 
 returns-2 : tie.Need-returns-2
-unfolding mirrorFromOf mirrorOf
+unfolding mirrorFromOf
 returns-2 c = simp (c .before .before .made2 .given .1, ← c .ends .ensures)
 
 pub mirror-from-spec : {M : Type 1} → statement M

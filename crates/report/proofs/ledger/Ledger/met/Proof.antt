@@ -13,6 +13,12 @@ absorb-requires c κs = search needs
 enum-known-meeting-2 : tie.Need-enum-known-meeting-2
 enum-known-meeting-2 c = search needs
 
+absorb-requires-2 : tie.Need-absorb-requires-2
+absorb-requires-2 c κs = search needs
+
+enum-known-meeting-3 : tie.Need-enum-known-meeting-3
+enum-known-meeting-3 c = search needs
+
 unless-made-requires : tie.Need-unless-made-requires
 unless-made-requires c κs = search needs
 
@@ -25,7 +31,11 @@ returns c = simp (c .before .before .meeting .given .1, ← c .absorb .ensures)
 
 returns-2 : tie.Need-returns-2
 unfolding ledgerMetOf
-returns-2 c = simp (c .before .before .before .meeting2 .given .1, ← c .before .unless-made .ensures, ← c .unless-made2 .ensures)
+returns-2 c = simp (c .before .before .meeting2 .given .1, ← c .absorb2 .ensures)
+
+returns-3 : tie.Need-returns-3
+unfolding ledgerMetOf
+returns-3 c = simp (c .before .before .before .meeting3 .given .1, ← c .before .unless-made .ensures, ← c .unless-made2 .ensures)
 
 pub met-spec : {M : Type 1} → statement M
 met-spec =
@@ -34,7 +44,10 @@ met-spec =
     enum-known-meeting
     absorb-requires
     enum-known-meeting-2
+    absorb-requires-2
+    enum-known-meeting-3
     unless-made-requires
     unless-made-requires-2
     returns
-    returns-2)
+    returns-2
+    returns-3)

@@ -10,6 +10,12 @@ enum-told c = search needs
 add-surface-requires : tie.Need-add-surface-requires
 add-surface-requires c κs = search needs
 
+enum-told-2 : tie.Need-enum-told-2
+enum-told-2 c = search needs
+
+add-surface-requires-2 : tie.Need-add-surface-requires-2
+add-surface-requires-2 c κs = search needs
+
 enum-known-meeting : tie.Need-enum-known-meeting
 enum-known-meeting c = search needs
 
@@ -19,8 +25,8 @@ opposite-requires c κs = search needs
 faint-requires : tie.Need-faint-requires
 faint-requires c κs = search needs
 
-add-surface-requires-2 : tie.Need-add-surface-requires-2
-add-surface-requires-2 c κs = search needs
+add-surface-requires-3 : tie.Need-add-surface-requires-3
+add-surface-requires-3 c κs = search needs
 
 returns : tie.Need-returns
 unfolding talliesMetOf
@@ -28,12 +34,16 @@ returns c = simp (c .before .enum-told .given .1, ← c .add-surface .ensures)
 
 returns-2 : tie.Need-returns-2
 unfolding talliesMetOf
-returns-2 c =
+returns-2 c = simp (c .before .enum-told2 .given .1, ← c .add-surface2 .ensures)
+
+returns-3 : tie.Need-returns-3
+unfolding talliesMetOf
+returns-3 c =
     simp (
       c .before .before .before .before .meeting .given .1,
       ← c .before .before .opposite .ensures,
       ← c .before .faint .ensures,
-      ← c .add-surface2 .ensures,
+      ← c .add-surface3 .ensures,
     )
 
 pub met-spec : {M : Type 1} → statement M
@@ -42,9 +52,12 @@ met-spec =
     (tie.spec
     enum-told
     add-surface-requires
+    enum-told-2
+    add-surface-requires-2
     enum-known-meeting
     opposite-requires
     faint-requires
-    add-surface-requires-2
+    add-surface-requires-3
     returns
-    returns-2)
+    returns-2
+    returns-3)
