@@ -34,11 +34,11 @@ use Rattle.fields.specs.Split.{bytes}
 
 -- ---- lines
 
-ledger-short : (r : NonSeqTraceReport) → length (ledgerText r) ≤ 163
+ledger-short : (r : NonSeqTraceReport) → length (ledgerText r) ≤ 185
 unfolding ledgerText bytes
 ledger-short r =
     let l = r .ledger in
-    omega (arith, row-short (r .«total_rays_traced» ∷ r .«total_interactions» ∷ []) (l .«launched_flux_watts» ∷ l .«detected_flux_watts» ∷ l .«absorbed_flux_watts» ∷ l .«escaped_flux_watts» ∷ []))
+    omega (arith, row-short (r .«total_rays_traced» ∷ r .«total_interactions» ∷ []) (l .«launched_flux_watts» ∷ l .«detected_flux_watts» ∷ l .«absorbed_flux_watts» ∷ l .«escaped_flux_watts» ∷ l .«lost_flux_watts» ∷ []))
 
 tallies-short : (t : Tallies) → length (talliesText t) ≤ 187
 unfolding talliesText bytes
@@ -217,7 +217,7 @@ module _ (f : RayPathFilter) (m : Held) (few : length (m .flux) ≤ textPixels) 
 
 -- ---- all of it
 
-pub answer-short : (r : NonSeqTraceReport) (f : RayPathFilter) (m : Held) → length (m .flux) ≤ textPixels → length (answerText r f m) ≤ 119994
+pub answer-short : (r : NonSeqTraceReport) (f : RayPathFilter) (m : Held) → length (m .flux) ≤ textPixels → length (answerText r f m) ≤ 120016
 unfolding answerText
 answer-short r f m few =
     let a = ledger-short r in

@@ -31,9 +31,10 @@ named s = bytes s ++ 10 ∷ []
 unfoldable pub ledgerText : NonSeqTraceReport → List ℕ
 ledgerText r =
     let l = r .ledger in
-    named "rays interactions launched detected absorbed escaped"
+    named "rays interactions launched detected absorbed escaped lost"
     ++ rowText (r .«total_rays_traced» ∷ r .«total_interactions» ∷ [])
-    (l .«launched_flux_watts» ∷ l .«detected_flux_watts» ∷ l .«absorbed_flux_watts» ∷ l .«escaped_flux_watts» ∷ [])
+    (l .«launched_flux_watts» ∷ l .«detected_flux_watts» ∷ l .«absorbed_flux_watts» ∷ l .«escaped_flux_watts»
+    ∷ l .«lost_flux_watts» ∷ [])
 
 unfoldable pub talliesText : Tallies → List ℕ
 talliesText t =

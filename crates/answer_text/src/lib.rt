@@ -32,11 +32,12 @@ fn put_ledger(buf: &mut [u8], at: usize, report: NonSeqTraceReport) -> usize
         l.detected_flux_watts,
         l.absorbed_flux_watts,
         l.escaped_flux_watts,
+        l.lost_flux_watts,
     ];
     let p = printing::put_all(
         buf,
         at,
-        b"rays interactions launched detected absorbed escaped\n",
+        b"rays interactions launched detected absorbed escaped lost\n",
     );
     printing::put_row(buf, p, &wholes, &powers)
 }

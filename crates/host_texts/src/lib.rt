@@ -269,7 +269,7 @@ pub extern "C" fn nonseq_stray_map(buf: &mut [u8], text: &[u8]) -> usize
     put_whole(buf, front(&t, n))
 }
 
-// Detected, absorbed and escaped power over launched; 1 where none was launched.
+// Detected, absorbed and escaped power over launched, without lost; 1 where none was launched.
 #[no_mangle]
 pub extern "C" fn nonseq_energy_conservation_ratio(ledger: Ledger) -> f64
     ensures { λ r. ⌜ r ≡ energyConservationRatioOf ledger ⌝ }

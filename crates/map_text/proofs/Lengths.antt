@@ -14,11 +14,11 @@ use Rattle.answer_text.proofs.Lengths.{answer-short, refusal-short}
 use Rattle.map_text.specs.Tables.{memoryIn, outcomeText, tracedText}
 use Rattle.doubles.specs.Doubles.{#0}
 
-outcome-short : (f : RayPathFilter) (r : NonSeqTraceReport) (o : Outcome Memory) → length (memoryLeft o .flux) ≤ textPixels → length (outcomeText f r o) ≤ 119994
+outcome-short : (f : RayPathFilter) (r : NonSeqTraceReport) (o : Outcome Memory) → length (memoryLeft o .flux) ≤ textPixels → length (outcomeText f r o) ≤ 120016
 outcome-short f r (done m) h = answer-short r f (held (m .detectors) (m .flux) (m .hitValues) (m .hitTags) (m .used)) h
 outcome-short f r (refused n place m) h = omega (arith, refusal-short n place)
 
-pub trace-short : (f : RayPathFilter) (t : Trace Memory) → length (memoryLeft (t .outcome) .flux) ≤ textPixels → length (tracedText f t) ≤ 119994
+pub trace-short : (f : RayPathFilter) (t : Trace Memory) → length (memoryLeft (t .outcome) .flux) ≤ textPixels → length (tracedText f t) ≤ 120016
 unfolding tracedText
 trace-short f t = outcome-short f (t .report) (t .outcome)
 

@@ -18,6 +18,7 @@ detectOf l x =
       «detected_flux_watts» = add binary64 (l .«detected_flux_watts») x;
       «absorbed_flux_watts» = l .«absorbed_flux_watts»;
       «escaped_flux_watts» = l .«escaped_flux_watts»;
+      «lost_flux_watts» = l .«lost_flux_watts»;
     }
 
 unfoldable pub absorbOf : Ledger → Float → Ledger
@@ -27,6 +28,7 @@ absorbOf l x =
       «detected_flux_watts» = l .«detected_flux_watts»;
       «absorbed_flux_watts» = add binary64 (l .«absorbed_flux_watts») x;
       «escaped_flux_watts» = l .«escaped_flux_watts»;
+      «lost_flux_watts» = l .«lost_flux_watts»;
     }
 
 unfoldable pub escapeOf : Ledger → Float → Ledger
@@ -36,17 +38,31 @@ escapeOf l x =
       «detected_flux_watts» = l .«detected_flux_watts»;
       «absorbed_flux_watts» = l .«absorbed_flux_watts»;
       «escaped_flux_watts» = add binary64 (l .«escaped_flux_watts») x;
+      «lost_flux_watts» = l .«lost_flux_watts»;
     }
 
--- the power of a ray that is not made is absorbed
-unfoldable pub unlessMadeOf : Bool → Ledger → Float → Ledger
-unlessMadeOf made l x = cond made l (absorbOf l x)
+unfoldable pub loseOf : Ledger → Float → Ledger
+loseOf l x =
+    record {
+      «launched_flux_watts» = l .«launched_flux_watts»;
+      «detected_flux_watts» = l .«detected_flux_watts»;
+      «absorbed_flux_watts» = l .«absorbed_flux_watts»;
+      «escaped_flux_watts» = l .«escaped_flux_watts»;
+      «lost_flux_watts» = add binary64 (l .«lost_flux_watts») x;
+    }
+
+-- the power of a ray that is not made: absorbed at a clear surface, lost at a mirror
+unfoldable pub absorbUnlessOf : Bool → Ledger → Float → Ledger
+absorbUnlessOf made l x = cond made l (absorbOf l x)
+
+unfoldable pub loseUnlessOf : Bool → Ledger → Float → Ledger
+loseUnlessOf made l x = cond made l (loseOf l x)
 
 -- made and also are the step's two flags
 unfoldable pub ledgerMetOf : Ledger → Meeting → Bool → Bool → Ledger
 ledgerMetOf l (stopped x) made also = absorbOf l x
-ledgerMetOf l (mirrored kept r) made also = absorbOf l kept
-ledgerMetOf l (parted r t total) made also = unlessMadeOf also (unlessMadeOf made l r) t
+ledgerMetOf l (mirrored kept r) made also = loseUnlessOf made (absorbOf l kept) r
+ledgerMetOf l (parted r t total) made also = absorbUnlessOf also (absorbUnlessOf made l r) t
 
 -- power is the ray's
 unfoldable pub ledgerAfterOf : Ledger → Float → End → Bool → Bool → Ledger
@@ -110,8 +126,7 @@ addGoneOf t =
       weak = t .weak;
     }
 
--- a solid was nearest: up to two rays are made; the flags after them say whether the threshold left one unmade at a
--- clear surface
+-- a solid was nearest: up to two rays are made; the flags after them say whether the threshold left one unmade
 unfoldable pub addSurfaceOf : Tallies → Bool → Bool → Bool → Bool → Tallies
 addSurfaceOf t made also weak faint =
     record {
@@ -130,7 +145,7 @@ faintOf total also = cond total false (cond also false true)
 
 unfoldable pub talliesMetOf : Tallies → Meeting → Bool → Bool → Tallies
 talliesMetOf t (stopped x) made also = addSurfaceOf t made also false false
-talliesMetOf t (mirrored kept r) made also = addSurfaceOf t made also false false
+talliesMetOf t (mirrored kept r) made also = addSurfaceOf t made also (cond made false true) false
 talliesMetOf t (parted r p total) made also = addSurfaceOf t made also (cond made false true) (faintOf total also)
 
 unfoldable pub talliesAfterOf : Tallies → End → Bool → Bool → Tallies
@@ -180,13 +195,14 @@ startReportOf rays launched =
         «detected_flux_watts» = #0;
         «absorbed_flux_watts» = #0;
         «escaped_flux_watts» = #0;
+        «lost_flux_watts» = #0;
       };
       «total_rays_traced» = rays;
       «total_interactions» = 0;
       tallies = record { made = 0; dim = 0; spent = 0; caught = 0; gone = 0; surface = 0; weak = 0 };
     }
 
--- detected, absorbed and escaped over launched; 1 where nothing was launched
+-- detected, absorbed and escaped over launched, without lost; 1 where nothing was launched
 unfoldable pub energyConservationRatioOf : Ledger → Float
 energyConservationRatioOf l =
     cond (le (l .«launched_flux_watts») #0) (ofBits binary64 0x3ff0000000000000)

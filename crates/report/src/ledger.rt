@@ -3,7 +3,7 @@ use step::End;
 use step::Meeting;
 ghost use mathlib.Core.Path.{_≡_};
 ghost use Rattle.step.specs.Rays.{asMeeting, asEnd};
-ghost use Rattle.report.specs.Report.{detectOf, absorbOf, escapeOf, unlessMadeOf, ledgerMetOf, ledgerAfterOf, energyConservationRatioOf};
+ghost use Rattle.report.specs.Report.{detectOf, absorbOf, escapeOf, loseOf, absorbUnlessOf, loseUnlessOf, ledgerMetOf, ledgerAfterOf, energyConservationRatioOf};
 
 #[repr(C)]
 pub struct Ledger {
@@ -11,50 +11,60 @@ pub struct Ledger {
     pub detected_flux_watts: f64,
     pub absorbed_flux_watts: f64,
     pub escaped_flux_watts: f64,
+    pub lost_flux_watts: f64,
 }
 
 impl Ledger {
     fn detect(self, power: f64) -> Ledger
         ensures { λ r. ⌜ r ≡ detectOf self power ⌝ }
     {
-        Ledger {
-            launched_flux_watts: self.launched_flux_watts,
-            detected_flux_watts: self.detected_flux_watts + power,
-            absorbed_flux_watts: self.absorbed_flux_watts,
-            escaped_flux_watts: self.escaped_flux_watts,
-        }
+        let mut l = self;
+        l.detected_flux_watts = self.detected_flux_watts + power;
+        l
     }
 
     fn absorb(self, power: f64) -> Ledger
         ensures { λ r. ⌜ r ≡ absorbOf self power ⌝ }
     {
-        Ledger {
-            launched_flux_watts: self.launched_flux_watts,
-            detected_flux_watts: self.detected_flux_watts,
-            absorbed_flux_watts: self.absorbed_flux_watts + power,
-            escaped_flux_watts: self.escaped_flux_watts,
-        }
+        let mut l = self;
+        l.absorbed_flux_watts = self.absorbed_flux_watts + power;
+        l
     }
 
     fn escape(self, power: f64) -> Ledger
         ensures { λ r. ⌜ r ≡ escapeOf self power ⌝ }
     {
-        Ledger {
-            launched_flux_watts: self.launched_flux_watts,
-            detected_flux_watts: self.detected_flux_watts,
-            absorbed_flux_watts: self.absorbed_flux_watts,
-            escaped_flux_watts: self.escaped_flux_watts + power,
-        }
+        let mut l = self;
+        l.escaped_flux_watts = self.escaped_flux_watts + power;
+        l
     }
 
-    // The power of a ray that is not made is absorbed.
-    fn unless_made(self, made: bool, power: f64) -> Ledger
-        ensures { λ r. ⌜ r ≡ unlessMadeOf made self power ⌝ }
+    fn lose(self, power: f64) -> Ledger
+        ensures { λ r. ⌜ r ≡ loseOf self power ⌝ }
+    {
+        let mut l = self;
+        l.lost_flux_watts = self.lost_flux_watts + power;
+        l
+    }
+
+    // The power of a ray that is not made at a clear surface is absorbed.
+    fn absorb_unless(self, made: bool, power: f64) -> Ledger
+        ensures { λ r. ⌜ r ≡ absorbUnlessOf made self power ⌝ }
     {
         if made {
             return self;
         }
         self.absorb(power)
+    }
+
+    // The power of a mirrored ray that is not made is lost.
+    fn lose_unless(self, made: bool, power: f64) -> Ledger
+        ensures { λ r. ⌜ r ≡ loseUnlessOf made self power ⌝ }
+    {
+        if made {
+            return self;
+        }
+        self.lose(power)
     }
 
     // After what a solid made of a ray; the flags say which of its rays were made.
@@ -63,14 +73,17 @@ impl Ledger {
     {
         match meeting {
             Meeting::Stopped(power) => self.absorb(power),
-            Meeting::Mirrored { kept, reflected: _ } => self.absorb(kept),
+            Meeting::Mirrored { kept, reflected } => {
+                let l = self.absorb(kept);
+                l.lose_unless(first, reflected)
+            }
             Meeting::Parted {
                 reflected,
                 transmitted,
                 total: _,
             } => {
-                let l = self.unless_made(first, reflected);
-                l.unless_made(second, transmitted)
+                let l = self.absorb_unless(first, reflected);
+                l.absorb_unless(second, transmitted)
             }
         }
     }
@@ -89,7 +102,7 @@ impl Ledger {
         }
     }
 
-    // Detected, absorbed and escaped power over launched; 1 where none was launched.
+    // Detected, absorbed and escaped power over launched, without lost; 1 where none was launched.
     pub fn energy_conservation_ratio(self) -> f64
         ensures { λ r. ⌜ r ≡ energyConservationRatioOf self ⌝ }
     {

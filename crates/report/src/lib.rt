@@ -46,6 +46,7 @@ impl NonSeqTraceReport {
                 detected_flux_watts: 0.0,
                 absorbed_flux_watts: 0.0,
                 escaped_flux_watts: 0.0,
+                lost_flux_watts: 0.0,
             },
             total_rays_traced: rays,
             total_interactions: 0,

@@ -101,7 +101,7 @@ impl Tallies {
             Meeting::Mirrored {
                 kept: _,
                 reflected: _,
-            } => self.add_surface(first, second, false, false),
+            } => self.add_surface(first, second, opposite(first), false),
             Meeting::Parted {
                 reflected: _,
                 transmitted: _,

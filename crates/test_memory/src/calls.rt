@@ -128,6 +128,7 @@ fn put_report(numbers: &mut [u64], r: NonSeqTraceReport) {
         doubles::to_bits(l.detected_flux_watts),
         doubles::to_bits(l.absorbed_flux_watts),
         doubles::to_bits(l.escaped_flux_watts),
+        doubles::to_bits(l.lost_flux_watts),
         r.total_rays_traced as u64,
         r.total_interactions as u64,
         t.made as u64,

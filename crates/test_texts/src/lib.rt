@@ -232,22 +232,23 @@ fn last_ledger(numbers: &[u64]) -> Ledger {
         detected_flux_watts: lists::bits_at(numbers, world::REPORT + 1),
         absorbed_flux_watts: lists::bits_at(numbers, world::REPORT + 2),
         escaped_flux_watts: lists::bits_at(numbers, world::REPORT + 3),
+        lost_flux_watts: lists::bits_at(numbers, world::REPORT + 4),
     }
 }
 
 fn last_report(numbers: &[u64]) -> NonSeqTraceReport {
     NonSeqTraceReport {
         ledger: last_ledger(numbers),
-        total_rays_traced: lists::low_at(numbers, world::REPORT + 4),
-        total_interactions: lists::low_at(numbers, world::REPORT + 5),
+        total_rays_traced: lists::low_at(numbers, world::REPORT + 5),
+        total_interactions: lists::low_at(numbers, world::REPORT + 6),
         tallies: Tallies {
-            made: lists::low_at(numbers, world::REPORT + 6),
-            dim: lists::low_at(numbers, world::REPORT + 7),
-            spent: lists::low_at(numbers, world::REPORT + 8),
-            caught: lists::low_at(numbers, world::REPORT + 9),
-            gone: lists::low_at(numbers, world::REPORT + 10),
-            surface: lists::low_at(numbers, world::REPORT + 11),
-            weak: lists::low_at(numbers, world::REPORT + 12),
+            made: lists::low_at(numbers, world::REPORT + 7),
+            dim: lists::low_at(numbers, world::REPORT + 8),
+            spent: lists::low_at(numbers, world::REPORT + 9),
+            caught: lists::low_at(numbers, world::REPORT + 10),
+            gone: lists::low_at(numbers, world::REPORT + 11),
+            surface: lists::low_at(numbers, world::REPORT + 12),
+            weak: lists::low_at(numbers, world::REPORT + 13),
         },
     }
 }
@@ -328,6 +329,7 @@ pub fn ratio(numbers: &mut [u64]) -> Ran {
         detected_flux_watts: world::given_double(numbers, 1),
         absorbed_flux_watts: world::given_double(numbers, 2),
         escaped_flux_watts: world::given_double(numbers, 3),
+        lost_flux_watts: world::given_double(numbers, 4),
     };
     world::tell_double(
         numbers,

@@ -61,9 +61,9 @@ pub const COMPARED: usize = 4;
 pub const DIFFER: usize = 5;
 
 // Scripts in the file, lines of the index.
-pub const IN_FILE: usize = 81;
+pub const IN_FILE: usize = 82;
 
-pub const INDEXED: usize = 82;
+pub const INDEXED: usize = 83;
 
 // Of the script, zeros where it begins.
 pub const OF_SCRIPT: usize = 6;
@@ -93,15 +93,15 @@ pub const TOTALS: usize = 16;
 
 pub const COUNTS: usize = 24;
 
-// The last report: four powers, rays, interactions, seven tallies.
+// The last report: five powers, rays, interactions, seven tallies.
 pub const REPORT: usize = 32;
 
 // What a line gives, and what it is answered.
-pub const GIVEN: usize = 45;
+pub const GIVEN: usize = 46;
 
-pub const TOLD: usize = 61;
+pub const TOLD: usize = 62;
 
-pub const NUMBERS: usize = 83;
+pub const NUMBERS: usize = 84;
 
 // What the line gives at place i: as it is, as a number below 2^32, as a double.
 pub fn given(numbers: &[u64], i: usize) -> usize {

@@ -18,7 +18,8 @@ use Rattle.detector.proofs.Marks.{m8}
 use Rattle.step.specs.declared.ActiveRay.{ActiveRay}
 use Rattle.step.specs.Rays.{endsOf, mirrored, met}
 use Rattle.step.specs.Steps.{mirrorOf, nearerOf, firstAheadOf}
-use Rattle.report.specs.Report.{absorbOf, ledgerMetOf, ledgerAfterOf, moreIfOf, addSurfaceOf, talliesMetOf, talliesAfterOf, reportAfterOf}
+use Rattle.report.specs.Report.{absorbOf, loseOf, loseUnlessOf, ledgerMetOf, ledgerAfterOf, moreIfOf, addSurfaceOf, talliesMetOf, talliesAfterOf, reportAfterOf}
+use Rattle.theorems_runs.proofs.Weights.{more-is}
 use Rattle.theorems_marks.specs.Marks.{#-0, #¼, #¾, #+x, #+z, #-z, #000, upward, sideways, facing, sentRay, M1, M2, M6, M7, M9, M10, M11, Marks}
 use Rattle.theorems_marks.proofs.Itself.{below-itself, above-zero}
 use Rattle.theorems_marks.proofs.Sent.{sent}
@@ -111,10 +112,10 @@ unfolding add ofBits
 half = refl
 
 pub m11 : M11
-unfolding reportAfterOf ledgerAfterOf ledgerMetOf absorbOf talliesAfterOf talliesMetOf addSurfaceOf moreIfOf
-m11 a h r e z =
+unfolding reportAfterOf ledgerAfterOf ledgerMetOf absorbOf loseUnlessOf loseOf talliesAfterOf talliesMetOf addSurfaceOf moreIfOf
+m11 a h r e z y w =
     let s = left-half a h e in
-    (rw s, rw s, rw s, rw (s, z) half, rw s, rw s)
+    (rw s, rw s, rw s, rw (s, z) half, rw s, rw s (more-is (r .tallies .weak) w), rw (s, y) half)
 
 -- ---- all of them
 

@@ -1,10 +1,10 @@
--- Document 01's marked facts M1 to M11 as statements about the definitions.
+-- Document 01's marked facts M1 to M11, the last as document 02 (b) has it, as statements about the definitions.
 use mathlib.Core.Path.{_≡_}
 use mathlib.Core.Logic.{_⊎_}
 use mathlib.Core.Bool.{true, false}
 use mathlib.Core.Option.{none, some}
 use mathlib.Core.List.{List, [], _∷_}
-use Prim.Native.Nat.{ℕ}
+use Prim.Native.Nat.{ℕ, _+_, _<_}
 use lib.Ieee.{Float, nan, binary64, neg, lt, ofBits}
 use Rattle.doubles.specs.Doubles.{isFiniteOf, #0, #½, #1, #2, #3, #4, #5}
 use Rattle.doubles.specs.Root.{sqrtOf}
@@ -19,7 +19,7 @@ use Rattle.geometry.specs.Hits.{hitAt}
 use Rattle.geometry.specs.Shapes.{intersectLocalOf}
 use Rattle.scene.specs.declared.NonSeqHit.{NonSeqHit}
 use Rattle.surface.specs.Fresnel.{cosineOf, reflectedDirectionOf, total, split, computeSnellFresnelInteractionOf}
-use Rattle.detector.specs.Pixels.{indexAlongOf}
+use Rattle.detector.specs.Pixels.{indexAlongOf, maxCount}
 use Rattle.detectors.specs.declared.Detectors.{Detectors}
 use Rattle.detector.specs.declared.DetectorHit.{DetectorHit}
 use Rattle.memory.specs.Memory.{Memory, Outcome}
@@ -139,16 +139,17 @@ M10 =
     → B .config .«max_bounces» ≡ 0 → runOn put ds B m .progress .report .«total_interactions» ≡ 0)
     × ((B : Batch) (s : Memory) → B .config .«max_bounces» ≡ 0 → traceRaysOf B s .report .«total_interactions» ≡ 0)
 
--- Mirror 0.5, power 1, threshold 0.5: absorbed 0.5, no child, weak unchanged
+-- Mirror 0.5, power 1, threshold 0.5: absorbed 0.5, no child, weak raised by 1, lost 0.5
 abbrev pub M11 : Type 0
 M11 =
     (a : ActiveRay) (h : NonSeqHit) (r : NonSeqTraceReport) → a .ray .energy ≡ #1
-    → r .ledger .«absorbed_flux_watts» ≡ #0
+    → r .ledger .«absorbed_flux_watts» ≡ #0 → r .ledger .«lost_flux_watts» ≡ #0 → r .tallies .weak < maxCount
     → (mirrorOf #½ a h #½ .end ≡ met (mirrored #½ #½)) × (mirrorOf #½ a h #½ .«first» ≡ false) ×
     (mirrorOf #½ a h #½ .second ≡ false)
     × (reportAfterOf r #1 (mirrorOf #½ a h #½) .ledger .«absorbed_flux_watts» ≡ #½)
     × (reportAfterOf r #1 (mirrorOf #½ a h #½) .tallies .made ≡ r .tallies .made)
-    × (reportAfterOf r #1 (mirrorOf #½ a h #½) .tallies .weak ≡ r .tallies .weak)
+    × (reportAfterOf r #1 (mirrorOf #½ a h #½) .tallies .weak ≡ r .tallies .weak + 1)
+    × (reportAfterOf r #1 (mirrorOf #½ a h #½) .ledger .«lost_flux_watts» ≡ #½)
 
 abbrev pub Marks : Type 1
 Marks = M1 × M2 × M3 × M4 × M5 × M6 × M7 × M8 × M9 × M10 × M11

@@ -39,19 +39,19 @@ module _ (B : Batch) (s : Memory) where
 
 -- ---- the answer
 
-map-short : (t : Tables) → length (mapText t) ≤ 119994
+map-short : (t : Tables) → length (mapText t) ≤ 120016
 unfolding mapText
 map-short t =
     let m = memoryIn (detectorsOf (t .detectorValues) (t .detectorTags) (t .detectors)) in
     trace-short (meantOf (wholeOf (t .runTags) 1)) (traceRaysOf (batchIn t) m) (rw (left-flux (batchIn t) m) (memory-short (detectorsOf (t .detectorValues) (t .detectorTags) (t .detectors))))
 
-read-short : (c : Checked Unit) (a : Answer) → length (readText c a) ≤ 119994
+read-short : (c : Checked Unit) (a : Answer) → length (readText c a) ≤ 120016
 read-short (passed u) a =
     let m = a .left in
     map-short (tables (m .runValues) (m .runTags) (m .solidValues) (m .solidTags) (a .solids) (m .detectorValues) (m .detectorTags) (a .detectors) (m .rayValues) (m .rayTags) (a .rays))
 read-short (refusedAt n place) a = omega (arith, refusal-short n place)
 
-pub answer-most : (s : List ℕ) → length (strayMapText s) ≤ 119994
+pub answer-most : (s : List ℕ) → length (strayMapText s) ≤ 120016
 unfolding strayMapText answerTo
 answer-most s = read-short (readSceneOf s room .check) (readSceneOf s room)
 

@@ -16,14 +16,17 @@ enum-known-meeting-2 c = search needs
 absorb-requires-2 : tie.Need-absorb-requires-2
 absorb-requires-2 c κs = search needs
 
+lose-unless-requires : tie.Need-lose-unless-requires
+lose-unless-requires c κs = search needs
+
 enum-known-meeting-3 : tie.Need-enum-known-meeting-3
 enum-known-meeting-3 c = search needs
 
-unless-made-requires : tie.Need-unless-made-requires
-unless-made-requires c κs = search needs
+absorb-unless-requires : tie.Need-absorb-unless-requires
+absorb-unless-requires c κs = search needs
 
-unless-made-requires-2 : tie.Need-unless-made-requires-2
-unless-made-requires-2 c κs = search needs
+absorb-unless-requires-2 : tie.Need-absorb-unless-requires-2
+absorb-unless-requires-2 c κs = search needs
 
 returns : tie.Need-returns
 unfolding ledgerMetOf
@@ -31,11 +34,11 @@ returns c = simp (c .before .before .meeting .given .1, ← c .absorb .ensures)
 
 returns-2 : tie.Need-returns-2
 unfolding ledgerMetOf
-returns-2 c = simp (c .before .before .meeting2 .given .1, ← c .absorb2 .ensures)
+returns-2 c = simp (c .before .before .before .meeting2 .given .1, ← c .before .absorb2 .ensures, ← c .lose-unless .ensures)
 
 returns-3 : tie.Need-returns-3
 unfolding ledgerMetOf
-returns-3 c = simp (c .before .before .before .meeting3 .given .1, ← c .before .unless-made .ensures, ← c .unless-made2 .ensures)
+returns-3 c = simp (c .before .before .before .meeting3 .given .1, ← c .before .absorb-unless .ensures, ← c .absorb-unless2 .ensures)
 
 pub met-spec : {M : Type 1} → statement M
 met-spec =
@@ -45,9 +48,10 @@ met-spec =
     absorb-requires
     enum-known-meeting-2
     absorb-requires-2
+    lose-unless-requires
     enum-known-meeting-3
-    unless-made-requires
-    unless-made-requires-2
+    absorb-unless-requires
+    absorb-unless-requires-2
     returns
     returns-2
     returns-3)

@@ -13,14 +13,17 @@ add-surface-requires c κs = search needs
 enum-told-2 : tie.Need-enum-told-2
 enum-told-2 c = search needs
 
+opposite-requires : tie.Need-opposite-requires
+opposite-requires c κs = search needs
+
 add-surface-requires-2 : tie.Need-add-surface-requires-2
 add-surface-requires-2 c κs = search needs
 
 enum-known-meeting : tie.Need-enum-known-meeting
 enum-known-meeting c = search needs
 
-opposite-requires : tie.Need-opposite-requires
-opposite-requires c κs = search needs
+opposite-requires-2 : tie.Need-opposite-requires-2
+opposite-requires-2 c κs = search needs
 
 faint-requires : tie.Need-faint-requires
 faint-requires c κs = search needs
@@ -34,14 +37,14 @@ returns c = simp (c .before .enum-told .given .1, ← c .add-surface .ensures)
 
 returns-2 : tie.Need-returns-2
 unfolding talliesMetOf
-returns-2 c = simp (c .before .enum-told2 .given .1, ← c .add-surface2 .ensures)
+returns-2 c = simp (c .before .before .enum-told2 .given .1, ← c .before .opposite .ensures, ← c .add-surface2 .ensures)
 
 returns-3 : tie.Need-returns-3
 unfolding talliesMetOf
 returns-3 c =
     simp (
       c .before .before .before .before .meeting .given .1,
-      ← c .before .before .opposite .ensures,
+      ← c .before .before .opposite2 .ensures,
       ← c .before .faint .ensures,
       ← c .add-surface3 .ensures,
     )
@@ -53,9 +56,10 @@ met-spec =
     enum-told
     add-surface-requires
     enum-told-2
+    opposite-requires
     add-surface-requires-2
     enum-known-meeting
-    opposite-requires
+    opposite-requires-2
     faint-requires
     add-surface-requires-3
     returns
