@@ -34,7 +34,7 @@ unfolding moreIfOf
 more-if true n h = more-is n h
 more-if false n h = omega arith
 
-flag-most : (t : Bool) → cond t 1 0 ≤ 1
+pub flag-most : (t : Bool) → cond t 1 0 ≤ 1
 flag-most true = omega arith
 flag-most false = omega arith
 

@@ -1,12 +1,13 @@
 -- A batch that passed the checks is as the theorems ask, so they hold of every tracing. Assumes nothing.
 use Prim.Native.Nat.{ℕ, zero, suc, _≤_, _<_, _+_, _*_}
-use mathlib.Core.Path.{_≡_, refl, ap}
+use mathlib.Core.Path.{_≡_, refl, ap, _∙_}
 use mathlib.Core.Bool.{Bool, true, false, _&&_}
+use mathlib.Core.List.{List}
 use native.Mathlib.Omega.{arith}
 use native.Mathlib.Nat.{add-zero, zero-add}
 use lib.Dec.{leb}
 use borrow.Author.Tests.{leb-true}
-use lib.Ieee.{le}
+use lib.Ieee.{Float, le}
 use Rattle.doubles.specs.Doubles.{isFiniteOf, #0}
 use Rattle.error.specs.Refusals.{Checked, passed, refusedAt}
 use Rattle.rays.specs.declared.Ray.{Ray}
@@ -20,15 +21,19 @@ use Rattle.report.specs.declared.tallies.Tallies.{Tallies}
 use Rattle.report.specs.Report.{startReportOf}
 use Rattle.given_rays.specs.Given.{validMediaOf, checkRayOf, checkRaysOf}
 use Rattle.run.specs.Run.{isLeft, drive}
-use Rattle.trace.specs.Trace.{Batch, raysIn, checkConfigOf, checkBatch, startOf, sceneIn, runOn, traceAfter, traceRaysOf}
+use Rattle.trace.specs.Trace.{Batch, raysIn, checkConfigOf, checkBatch, allSteps, startOf, sceneIn, runOn, traceAfter, traceRaysOf}
 use Rattle.trace.proofs.Pieces.{passes as pieces-of}
 use Rattle.theorems_runs.specs.Sums.{mostInteractions}
 use Rattle.theorems_runs.specs.Room.{EachGiven, Admitted, nextRay}
+use Rattle.theorems_runs.specs.Dropped.{raysTaken, allDropped, addedTo, allWeak}
 use Rattle.theorems_runs.proofs.Bred.{pick, false-true}
 use Rattle.theorems_runs.proofs.Tracings.{enough, bound}
 use Rattle.theorems_runs.proofs.Balance.{balance, balance-met}
 use Rattle.theorems_runs.proofs.Held.{every-ray}
 use Rattle.theorems_runs.proofs.Waves.{admitted-kept}
+use Rattle.theorems_runs.proofs.Counts.{start-kept}
+use Rattle.theorems_runs.proofs.Lost.{run-lost}
+use Rattle.theorems_runs.proofs.Weak.{run-weak}
 use Rattle.doubles.proofs.Floats.{and-left, and-right}
 use Rattle.detectors.proofs.Passed.{both-passed}
 
@@ -151,6 +156,38 @@ module _ (B : Batch) (s : Memory) where
 
   pub trace-balance : (z : Memory) → traceRaysOf B s .outcome ≡ done z → B .rays + tallies .made ≡ tallies .dim + tallies .spent + tallies .caught + tallies .gone + tallies .surface
   trace-balance z e = let f : Fit B = fit B s (ran z e .passes) in rw (ran z e .reports, tallies) (balance recordOf (s .detectors) B s z (f .limit) (f .few) (ran z e .run))
+
+  -- the rays that it takes, in step order, if it passed the checks
+  abbrev pub taken : List ActiveRay
+  taken = raysTaken recordOf (sceneIn B (s .detectors)) (raysIn B) allSteps s (startOf (raysIn B) (B .rays))
+
+  start-lost : startOf (raysIn B) (B .rays) .report .ledger .«lost_flux_watts» ≡ #0
+  unfolding startOf startReportOf
+  start-lost = refl
+
+  start-weak : startOf (raysIn B) (B .rays) .report .tallies .weak ≡ 0
+  unfolding startOf startReportOf
+  start-weak = refl
+
+  -- of a tracing that passed the checks, refused in the run or not, lost is the sum in step order of what mirrors dropped
+  pub trace-lost : checkBatch B s ≡ passed tt → traceRaysOf B s .report .ledger .«lost_flux_watts» ≡ addedTo #0 (allDropped (sceneIn B (s .detectors)) taken)
+  unfolding runOn
+  trace-lost q =
+      rw (after-passed q)
+      (run-lost recordOf (sceneIn B (s .detectors)) (raysIn B) allSteps s (startOf (raysIn B) (B .rays))
+      ∙ ap (λ (x : Float). addedTo x (allDropped (sceneIn B (s .detectors)) taken)) start-lost)
+
+  -- and weak counts the rays that the threshold left unmade
+  pub trace-weak : checkBatch B s ≡ passed tt → tallies .weak ≡ allWeak (sceneIn B (s .detectors)) taken
+  unfolding runOn
+  trace-weak q =
+      let f : Fit B = fit B s q in
+      rw (after-passed q, tallies)
+      (omega (
+        arith,
+        run-weak recordOf (sceneIn B (s .detectors)) (raysIn B) 1073733632 (omega arith) (f .limit) allSteps s (startOf (raysIn B) (B .rays)) (start-kept (raysIn B) (B .config .«max_bounces») (B .rays) (f .limit) (f .few)),
+        start-weak,
+      ))
 
   pub trace-met : (z : Memory) → traceRaysOf B s .outcome ≡ done z → traceRaysOf B s .report .«total_interactions» ≡ tallies .caught + tallies .gone + tallies .surface
   trace-met z e = let f : Fit B = fit B s (ran z e .passes) in rw (ran z e .reports, tallies) (balance-met recordOf (s .detectors) B s z (f .limit) (f .few) (ran z e .run))

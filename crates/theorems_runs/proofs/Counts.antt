@@ -79,9 +79,10 @@ module _ {M : Type 0} (put : M → DetectorHit → Outcome M) (Q : NonSeqTraceRe
   settle-either m place r after c (some d) h k = put-either place r after (put m d) h k
   settle-either m place r after c none h k = h
 
-record Kept (given : ℕ → ActiveRay) (b n : ℕ) (p : Progress) : Type 0 where
-  full : Full (p .stack)
-  small : SmallCounts n (2 * sumLeft (heft b) given p) (p .report)
+-- the counts of a report, with all that the rays left can lead to, are at most n
+pub record Kept (given : ℕ → ActiveRay) (b n : ℕ) (p : Progress) : Type 0 where
+  pub full : Full (p .stack)
+  pub small : SmallCounts n (2 * sumLeft (heft b) given p) (p .report)
 
 module _ {M : Type 0} (put : M → DetectorHit → Outcome M) (S : Scene) (given : ℕ → ActiveRay) (n : ℕ) (lim : S .optics .config .«max_bounces» ≤ 16) where
   next-small : (m : M) (p : Progress) (w : ℕ) (v : ℕ) → w + 2 ≤ v → SmallCounts n v (p .report) → SmallCounts n w (next put S given m p .report)
@@ -93,7 +94,7 @@ module _ {M : Type 0} (put : M → DetectorHit → Outcome M) (S : Scene) (given
       settle-either put (SmallCounts n w) m place (p .report) (reportAfterOf (p .report) (a .ray .energy) s) (refusalInOf (s .end) place) (hitInOf (s .end))
       (after-small n w v less (p .report) (a .ray .energy) s h) (counted-small n w v less (p .report) h)
 
-  next-kept : (m : M) (p : Progress) → isLeft p ≡ true → Kept given (S .optics .config .«max_bounces») n p → Kept given (S .optics .config .«max_bounces») n (next put S given m p)
+  pub next-kept : (m : M) (p : Progress) → isLeft p ≡ true → Kept given (S .optics .config .«max_bounces») n p → Kept given (S .optics .config .«max_bounces») n (next put S given m p)
   next-kept m p l k =
       record {
         full = next-full put S given m p (k .full);
@@ -113,6 +114,13 @@ less-small n w r k =
     let h : SmallTallies n w (r .tallies) = k .tallies in
     record { tallies = record { made = omega (arith, h .made); dim = omega (arith, h .dim); spent = omega (arith, h .spent); caught = omega (arith, h .caught); gone = omega (arith, h .gone); surface = omega (arith, h .surface); weak = omega (arith, h .weak) }; interactions = omega (arith, k .interactions) }
 
+pub start-kept : (given : ℕ → ActiveRay) (b n : ℕ) → b ≤ 16 → n ≤ 4096 → Kept given b 1073733632 (startOf given n)
+start-kept given b n lim few =
+    record {
+      full = start-full given n;
+      small = start-small given n _ 1073733632 (omega (arith, start-weight b given n lim few));
+    }
+
 -- after any k steps, refused or not, no count of the report is above 1073733632
 pub counts-small : {M : Type 0} (put : M → DetectorHit → Outcome M) (ds : Detectors) (B : Batch) (m : M) (k : ℕ) → B .config .«max_bounces» ≤ 16 → B .rays ≤ 4096
     → SmallCounts 1073733632 0 (drive put (sceneIn B ds) (raysIn B) k m (startOf (raysIn B) (B .rays)) .progress .report)
@@ -121,8 +129,5 @@ counts-small put ds B m k lim few =
     let start : Progress = startOf (raysIn B) (B .rays) in
     let r : Kept (raysIn B) b 1073733632 (drive put (sceneIn B ds) (raysIn B) k m start .progress) =
     drive-keeps put (sceneIn B ds) (raysIn B) (Kept (raysIn B) b 1073733632) (λ u p l h. next-kept put (sceneIn B ds) (raysIn B) 1073733632 lim u p l h) k m start
-    (record {
-      full = start-full (raysIn B) (B .rays);
-      small = start-small (raysIn B) (B .rays) _ 1073733632 (omega (arith, start-weight b (raysIn B) (B .rays) lim few));
-    }) in
+    (start-kept (raysIn B) b (B .rays) lim few) in
     less-small 1073733632 _ _ (r .small)

@@ -9,5 +9,9 @@ pub mod Held
 pub mod Waves
 pub mod Balance
 pub mod Roomy
-pub mod Checked
 pub mod Counts
+pub mod Amounts
+pub mod Surfaces
+pub mod Lost
+pub mod Weak
+pub mod Checked
