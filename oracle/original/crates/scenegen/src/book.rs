@@ -136,17 +136,17 @@ impl Detectors {
     }
 }
 
-/// What a tracing reports: launched, detected, absorbed, escaped; rays, interactions, made, dim, spent, caught, gone,
-/// surface, weak. None is what the original can't say.
+/// What a tracing reports: launched, detected, absorbed, escaped, lost; rays, interactions, made, dim, spent, caught,
+/// gone, surface, weak. None is what the original can't say.
 #[derive(Clone)]
 pub struct Report {
-    pub powers: [Option<f64>; 4],
+    pub powers: [Option<f64>; 5],
     pub counts: [Option<u64>; 9],
 }
 
 impl Report {
     pub fn zeros() -> Report {
-        Report { powers: [Some(0.0); 4], counts: [Some(0); 9] }
+        Report { powers: [Some(0.0); 5], counts: [Some(0); 9] }
     }
 }
 
@@ -311,7 +311,7 @@ fn report_text(r: &Report) -> Option<String> {
     let powers: Option<Vec<String>> = r.powers.iter().map(|p| p.map(hx)).collect();
     let counts: Option<Vec<String>> = r.counts.iter().map(|n| n.map(|n| n.to_string())).collect();
     let (powers, counts) = (powers?, counts?);
-    let first = format!("rays interactions launched detected absorbed escaped\n{} {}\n", counts[..2].join(" "), powers.join(" "));
+    let first = format!("rays interactions launched detected absorbed escaped lost\n{} {}\n", counts[..2].join(" "), powers.join(" "));
     Some(format!("{first}made dim spent caught gone surface weak\n{}\n", counts[2..].join(" ")))
 }
 

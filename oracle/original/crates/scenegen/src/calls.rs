@@ -61,7 +61,10 @@ fn peeks(st: &mut Stage, s: &mut Sm) {
         0 => { let d = any_face(st, s); st.caught(d) }
         1 => { let i = below(s, st.memory.flux.len()); st.pixel(i) }
         2 if st.memory.used > 0 => { let i = below(s, st.memory.used as usize); st.hit(i) }
-        _ => st.ratio([s.pick(&[1.0, 2.0, 0.0]), 0.25, 0.5, s.pick(&[0.25, 0.1])]),
+        _ => {
+            let lost = [0.0, 0.5, f64::NAN, 1e300, f64::INFINITY][st.calls() % 5];
+            st.ratio([s.pick(&[1.0, 2.0, 0.0]), 0.25, 0.5, s.pick(&[0.25, 0.1]), lost])
+        }
     }
 }
 

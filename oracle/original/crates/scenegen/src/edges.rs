@@ -487,8 +487,12 @@ fn buffers() -> Vec<Stage> {
 fn ratios() -> Vec<Stage> {
     let mut st = Stage::new("ratios");
     let (nan, inf) = (f64::NAN, f64::INFINITY);
-    for launched in [0.0, -0.0, -1.0, 1.0, 3.0, nan, inf, 5e-324] { st.ratio([launched, 0.25, 0.5, 0.1]); }
-    for [a, b, c] in [[nan, 0.0, 0.0], [inf, -inf, 0.0], [1e308, 1e308, -1e308], [0.3, 0.3, 0.3], [0.1, 0.2, 0.3]] { st.ratio([3.0, a, b, c]); }
+    for launched in [0.0, -0.0, -1.0, 1.0, 3.0, nan, inf, 5e-324] { st.ratio([launched, 0.25, 0.5, 0.1, 0.0]); }
+    for [a, b, c] in [[nan, 0.0, 0.0], [inf, -inf, 0.0], [1e308, 1e308, -1e308], [0.3, 0.3, 0.3], [0.1, 0.2, 0.3]] { st.ratio([3.0, a, b, c, 0.0]); }
+    st.note("lost has no part in it");
+    for lost in [0.0, -0.0, 0.5, 2.15, -1.0, 1e300, f64::MAX, 5e-324, nan, inf, -inf] {
+        for launched in [3.0, 1.0, 0.0, nan] { st.ratio([launched, 0.25, 0.5, 0.1, lost]); }
+    }
     vec![st]
 }
 

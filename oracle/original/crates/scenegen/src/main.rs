@@ -17,7 +17,7 @@ use optics_nonseq::geometry::{PrimitiveGeometry, Transform3D};
 use optics_nonseq::material::{NonSeqMaterial, OpticalMedium, SurfaceFinish};
 use optics_nonseq::scene::{NonSeqObject, NonSeqScene};
 use optics_nonseq::source::NonSeqRay;
-use optics_nonseq::trace::{NonSeqTraceConfig, NonSeqTraceReport, NonSeqTracer};
+use optics_nonseq::trace::{NonSeqTraceConfig, NonSeqTraceReport, NonSeqTracer, RayPathSegment};
 use std::fmt::Write as _;
 
 mod book;
@@ -459,7 +459,17 @@ fn number(e: &NonSeqError) -> u32 {
     }
 }
 
-struct Done { scene: NonSeqScene, rep: NonSeqTraceReport, tallies: Option<([u64; 7], bool)> }
+struct Done { scene: NonSeqScene, rep: NonSeqTraceReport, lost: f64, tallies: Option<([u64; 7], bool)> }
+
+/// Whether a step is a mirror's that drops its ray: what it mirrors is not above the threshold.
+fn is_dropped(c: &Case, p: &RayPathSegment) -> bool {
+    p.interaction == "MirrorReflection" && !(p.power_watts > c.threshold)
+}
+
+/// What mirrors dropped, added up in the order of the steps.
+fn lost<'a>(c: &Case, paths: impl IntoIterator<Item = &'a RayPathSegment>) -> f64 {
+    paths.into_iter().filter(|p| is_dropped(c, p)).fold(0.0, |sum, p| sum + p.power_watts)
+}
 
 /// The tallies of a run that was not refused, and whether `weak` is sure: from the recorded paths and a
 /// second run with one more bounce.
@@ -475,10 +485,9 @@ fn tallies(c: &Case, rays: &[NonSeqRay], rep: &NonSeqTraceReport) -> Option<([u6
         let gone = n("EscapedToInfinity");
         let surface = rep.paths.len() as u64 - caught - gone;
         let made = dim + spent + caught + gone + surface - rays.len() as u64;
-        let mirrored = rep.paths.iter().filter(|p| p.interaction == "MirrorReflection" && p.power_watts > c.threshold).count() as u64;
         // A total reflection told by power alone (radicand above 0) would be one short here:
         // where indices are wild and such a segment occurs, weak is left open (?).
-        let weak = 2 * n("SnellFresnelSplit") + n("TotalInternalReflection") - (made - mirrored);
+        let weak = 2 * n("SnellFresnelSplit") + n("TotalInternalReflection") + n("MirrorReflection") - made;
         let sure = !c.wild || n("TotalInternalReflection") == 0;
         ([made, dim, spent, caught, gone, surface, weak], sure)
     })
@@ -490,8 +499,8 @@ fn solve(c: &Case) -> Result<Done, (u32, usize)> {
     let hits: usize = scene.detectors.iter().map(|d| d.hits.len()).sum();
     match res {
         Ok(rep) if hits <= 1024 => {
-            let tallies = tallies(c, &c.rays, &rep);
-            Ok(Done { scene, rep, tallies })
+            let (lost, tallies) = (lost(c, &rep.paths), tallies(c, &c.rays, &rep));
+            Ok(Done { scene, rep, lost, tallies })
         }
         _ => {
             let mut used = 0;
@@ -514,9 +523,10 @@ fn answer(a: &Result<Done, (u32, usize)>, filter: u32) -> String {
         Ok(d) => d,
     };
     let f = |k: u32| [RayPathFilter::All, RayPathFilter::SignalOnly, RayPathFilter::GhostsOnly, RayPathFilter::TirOnly, RayPathFilter::StrayLight][k as usize];
-    let _ = writeln!(o, "rays interactions launched detected absorbed escaped");
+    let _ = writeln!(o, "rays interactions launched detected absorbed escaped lost");
     let r = &d.rep;
-    let _ = writeln!(o, "{} {} {} {} {} {}", r.total_rays_traced, r.total_interactions, hx(r.launched_flux_watts), hx(r.detected_flux_watts), hx(r.absorbed_flux_watts), hx(r.escaped_flux_watts));
+    let powers = [r.launched_flux_watts, r.detected_flux_watts, r.absorbed_flux_watts, r.escaped_flux_watts, d.lost].map(hx);
+    let _ = writeln!(o, "{} {} {}", r.total_rays_traced, r.total_interactions, powers.join(" "));
     let _ = writeln!(o, "made dim spent caught gone surface weak");
     match &d.tallies {
         Some((t, sure)) => {

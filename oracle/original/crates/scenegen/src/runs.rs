@@ -1,7 +1,9 @@
 //! A tracing: the checks before its run, from document 01, and the run by the original. Its hits come in the order of
 //! the recorded paths and are put into the plain memory one by one. Where the run is refused, by the original or
 //! because a hit has no place, the batch is traced again a ray at a time, last to first; the report is then known where
-//! the refused step is the first of its ray, in part where a hit had no place, and else but for what was launched.
+//! the refused step is the first of its ray, in part where a hit had no place or the step is that behind the mirrors that
+//! its ray met first or into a solid that has no index, and else but for what was launched. Where there is no mirror
+//! nothing is lost.
 use super::book::*;
 use super::reader::Lists;
 use super::*;
@@ -12,6 +14,8 @@ const MOST_BOUNCES: u32 = 16;
 const MOST_MEDIA: u32 = 8;
 /// An index above it may let so little through that a total reflection is told by its power alone.
 const LARGE: f64 = 1e6;
+/// A surface that is met at a smaller cosine is not surely entered.
+const SLANT: f64 = 1e-6;
 
 /// What a tracing is given: lists with so many solids and rays said to be in them. The original places a solid by its
 /// transform, of which the lists hold the matrices.
@@ -132,7 +136,7 @@ fn medium_by(n: u32, v: &[f64]) -> OpticalMedium {
 
 /// A report of the original, of these rays.
 fn told(c: &Case, rays: &[NonSeqRay], rep: &NonSeqTraceReport) -> Report {
-    let powers = [rep.launched_flux_watts, rep.detected_flux_watts, rep.absorbed_flux_watts, rep.escaped_flux_watts].map(Some);
+    let powers = [rep.launched_flux_watts, rep.detected_flux_watts, rep.absorbed_flux_watts, rep.escaped_flux_watts, lost(c, &rep.paths)].map(Some);
     let mut counts = [None; 9];
     counts[0] = Some(rays.len() as u64);
     counts[1] = Some(rep.total_interactions as u64);
@@ -170,7 +174,7 @@ fn run(c: &Case, dets: &Detectors, m: &mut Memory) -> Option<Ran> {
         let one = Alone::traced(c, i)?;
         let (kept, full) = put_all(dets, m, &one.hits);
         if let Some(n) = full.or(one.refusal) {
-            let report = if full.is_some() { one.full_at(c, i, kept) } else { one.refused_at(c, i) };
+            let report = if full.is_some() { one.full_at(c, i, kept) } else { Alone::refused_at(c, i) };
             return Some(Ran { refusal: Some((n, i)), report });
         }
     }
@@ -200,8 +204,10 @@ impl Alone {
     /// What is known of the report whatever was refused.
     fn least(c: &Case) -> Report {
         let launched = cfg(c, 0, false).trace_rays(&mut c.scene.clone(), &c.rays, None).unwrap().launched_flux_watts;
-        let mut r = Report { powers: [None; 4], counts: [None; 9] };
+        let is_mirror = |o: &NonSeqObject| o.is_active && matches!(o.material.finish, SurfaceFinish::Mirror { .. });
+        let mut r = Report { powers: [None; 5], counts: [None; 9] };
         r.powers[0] = Some(launched);
+        r.powers[4] = (!c.scene.objects.iter().any(is_mirror)).then_some(0.0);
         r.counts[0] = Some(c.rays.len() as u64);
         r
     }
@@ -218,29 +224,71 @@ impl Alone {
         r.counts[1] = r.counts[1].map(|n| n + 1);
         r
     }
-    /// The report where the original refuses ray i.
-    fn refused_at(&self, c: &Case, i: usize) -> Report {
-        let first = cfg(c, c.rays[i].bounce_count + 1, false).trace_rays(&mut c.scene.clone(), &c.rays[i..i + 1], None);
-        if first.is_err() { Self::at_once(c, i) } else { Self::least(c) }
+    /// The report where the original refuses ray i: in its first step, or in that behind the mirrors that it meets first,
+    /// or where it comes into a solid that has no index.
+    fn refused_at(c: &Case, i: usize) -> Report {
+        let mirrors = Self::until_clear(c, i);
+        let behind = cfg(c, c.rays[i].bounce_count + mirrors.len() + 1, false).trace_rays(&mut c.scene.clone(), &c.rays[i..i + 1], None);
+        match behind {
+            Err(_) if mirrors.is_empty() => Self::at_once(c, i),
+            Err(_) => Self::up_to(c, i, &mirrors),
+            Ok(_) => Self::until_index(c, i).map_or_else(|| Self::least(c), |own| Self::up_to(c, i, &own)),
+        }
     }
-    /// The report where ray i has a hit without a place after so many that had one: up to it the recorded paths say
-    /// all but what was absorbed and what came of surfaces.
+    /// The report where ray i has a hit without a place after so many that had one.
     fn full_at(&self, c: &Case, i: usize, kept: usize) -> Report {
         let Some(own) = &self.report else { return Self::least(c) };
         let stop = own.paths.iter().enumerate().filter(|p| p.1.hit_detector_id.is_some()).nth(kept).unwrap().0;
-        if stop == 0 { return Self::at_once(c, i); }
+        if stop == 0 { Self::at_once(c, i) } else { Self::up_to(c, i, &own.paths[..stop]) }
+    }
+    /// The recorded paths of ray i where some of the clear solids are absorbers: up to the first of these they are those
+    /// that the scene has.
+    fn to_absorbers(c: &Case, i: usize, which: impl Fn(&OpticalMedium) -> bool) -> Option<Vec<RayPathSegment>> {
+        let mut scene = c.scene.clone();
+        let clear = scene.objects.iter_mut().map(|o| &mut o.material).filter(|m| m.finish == SurfaceFinish::Specular);
+        clear.filter(|m| which(&m.medium)).for_each(|m| m.finish = SurfaceFinish::Absorber);
+        Some(cfg(c, c.bounces, true).trace_rays(&mut scene, &c.rays[i..i + 1], None).ok()?.paths)
+    }
+    /// The mirrors that ray i meets before anything else.
+    fn until_clear(c: &Case, i: usize) -> Vec<RayPathSegment> {
+        let all = Self::to_absorbers(c, i, |_| true).unwrap();
+        all.into_iter().take_while(|p| p.interaction == "MirrorReflection").collect()
+    }
+    /// The paths up to the step in which ray i comes into a clear solid that has no index, where it is refused.
+    fn until_index(c: &Case, i: usize) -> Option<Vec<RayPathSegment>> {
+        let ray = &c.rays[i].ray;
+        let without = |m: &OpticalMedium| m.refractive_index(ray.wavelength_nm, None).is_err();
+        let is_it = |o: &NonSeqObject| o.material.finish == SurfaceFinish::Specular && without(&o.material.medium);
+        let all = Self::to_absorbers(c, i, without)?;
+        let stop = all.iter().position(|p| p.hit_object_id.is_some_and(|k| is_it(&c.scene.objects[k])))?;
+        let p = &all[stop];
+        let way = Ray { origin: p.start, direction: (p.end - p.start).normalize(), ..*ray };
+        let hit = c.scene.intersect_closest_object(&way)?;
+        let enters = Some(hit.object_id) == p.hit_object_id && way.direction.dot(&hit.geometric_normal) < -SLANT;
+        enters.then(|| all[..stop].to_vec())
+    }
+    /// The report up to a step of ray i, with its paths before that: they say all but what was absorbed and what came
+    /// of clear surfaces.
+    fn up_to(c: &Case, i: usize, own: &[RayPathSegment]) -> Report {
         let before = Self::before(c, i);
-        let paths = || before.paths.iter().chain(&own.paths[..stop]);
+        let paths = || before.paths.iter().chain(own);
         let of = |kind: &str| paths().filter(|p| p.interaction == kind).count() as u64;
-        let sum = |start: f64, kind: &str| own.paths[..stop].iter().filter(|p| p.interaction == kind).fold(start, |a, p| a + p.power_watts);
+        let sum = |start: f64, kind: &str| own.iter().filter(|p| p.interaction == kind).fold(start, |a, p| a + p.power_watts);
         let (caught, gone) = (of("DetectorHit"), of("EscapedToInfinity"));
         let mut r = Self::least(c);
         r.powers[1] = Some(sum(before.detected_flux_watts, "DetectorHit"));
         r.powers[3] = Some(sum(before.escaped_flux_watts, "EscapedToInfinity"));
-        r.counts[1] = Some((before.total_interactions + stop + 1) as u64);
+        r.powers[4] = Some(lost(c, paths()));
+        r.counts[1] = Some((before.total_interactions + own.len() + 1) as u64);
         r.counts[5] = Some(caught);
         r.counts[6] = Some(gone);
         r.counts[7] = Some(paths().count() as u64 - caught - gone);
+        if own.iter().all(|p| p.interaction == "MirrorReflection") { Self::add_mirrored(&mut r, &told(c, &c.rays[i + 1..], &before), own.len()); }
         r
+    }
+    /// A ray that met so many mirrors and nothing else: each made one ray of it, and dropped none.
+    fn add_mirrored(r: &mut Report, before: &Report, mirrors: usize) {
+        r.counts[2] = before.counts[2].map(|made| made + mirrors as u64);
+        for k in [3, 4, 8] { r.counts[k] = before.counts[k]; }
     }
 }

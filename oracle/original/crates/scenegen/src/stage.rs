@@ -429,8 +429,9 @@ impl Stage {
     pub fn trace_lent(&mut self, lengths: [usize; 4], n: u32) -> bool {
         self.traced(format!("trace_lent {} {n}", joined(lengths)), 0, lengths, self.solids, n)
     }
-    pub fn ratio(&mut self, powers: [f64; 4]) {
-        let [launched_flux_watts, detected_flux_watts, absorbed_flux_watts, escaped_flux_watts] = powers;
+    /// Of launched, detected, absorbed, escaped and lost, which has no part in it.
+    pub fn ratio(&mut self, powers: [f64; 5]) {
+        let [launched_flux_watts, detected_flux_watts, absorbed_flux_watts, escaped_flux_watts, _] = powers;
         let r = NonSeqTraceReport { launched_flux_watts, detected_flux_watts, absorbed_flux_watts, escaped_flux_watts, total_rays_traced: 0, total_interactions: 0, paths: Vec::new() };
         self.call(format!("ratio {}", joined(powers.map(given))), expected(r.energy_conservation_ratio()));
     }
