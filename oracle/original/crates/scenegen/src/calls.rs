@@ -456,7 +456,7 @@ fn in_parts(s: &mut Sm, st: &mut Stage, parts: &[(usize, usize)], at: Option<Ref
 
 /// A batch whole, and in parts: two scripts that leave one memory. Two of three pairs at least are refused in the
 /// run, and one of four has an empty part.
-pub fn pair(s: &mut Sm, from: &Source, k: usize, style: usize, split: &mut Split) -> Vec<Stage> {
+fn pair(s: &mut Sm, from: &Source, k: usize, style: usize, split: &mut Split) -> Vec<Stage> {
     let (p, room, at) = divisible(s, from, style, split.pairs % 3 > 0);
     let rays = p.beams.len();
     let cut = parts_of(s, rays, at, split.pairs % 4 == 1);
@@ -487,7 +487,7 @@ fn recorded_in_both(s: &mut Sm, a: &mut Stage, b: &mut Stage) {
 }
 
 /// A list of any calls, one of them refused by this number.
-pub fn list(s: &mut Sm, from: &Source, k: usize, style: usize, wanted: u32) -> Vec<Stage> {
+fn list(s: &mut Sm, from: &Source, k: usize, style: usize, wanted: u32) -> Vec<Stage> {
     let (p, hits) = scene(s, from, style);
     // 13 to 16 need a list that is not full
     let room = if wanted > 12 || s.chance(0.6) { 3 * hits + 6 } else { tight(s, hits) };
@@ -509,7 +509,7 @@ pub fn list(s: &mut Sm, from: &Source, k: usize, style: usize, wanted: u32) -> V
 }
 
 /// What a refusal's list is best made of.
-pub fn style_for(s: &mut Sm, wanted: u32) -> usize {
+fn style_for(s: &mut Sm, wanted: u32) -> usize {
     match wanted {
         14 => s.pick(&[1, 3, 4, 6]),
         15 => s.pick(&[1, 4, 5]),
@@ -518,15 +518,14 @@ pub fn style_for(s: &mut Sm, wanted: u32) -> usize {
     }
 }
 
-fn stages(seed: u64) -> (Vec<Stage>, Split) {
-    let s = &mut Sm(seed);
-    let from = Source { name: "", plan };
+/// So many lists, one of three of them a batch whole and in parts.
+pub fn lists(s: &mut Sm, from: &Source, lists: usize) -> (Vec<Stage>, Split) {
     let (mut all, mut split, mut k) = (Vec::new(), Split::default(), 0);
-    while all.len() < LISTS {
+    while all.len() < lists {
         k += 1;
         let wanted = 1 + (k as u32 % 17);
         let style = style_for(s, if k % 3 == 0 { 1 } else { wanted });
-        all.extend(if k % 3 == 0 { pair(s, &from, k, style, &mut split) } else { list(s, &from, k, style, wanted) });
+        all.extend(if k % 3 == 0 { pair(s, from, k, style, &mut split) } else { list(s, from, k, style, wanted) });
     }
     (all, split)
 }
@@ -534,7 +533,7 @@ fn stages(seed: u64) -> (Vec<Stage>, Split) {
 /// The scripts, and a table of what they have. Every refusal comes, hits stay where a run is refused, and batches in
 /// parts are refused behind a part that passed.
 pub fn calls(seed: u64) -> (Vec<Script>, String) {
-    let (all, split) = stages(seed);
+    let (all, split) = lists(&mut Sm(seed), &Source { name: "", plan }, LISTS);
     let sum = Tally::of(&all);
     assert!(all.iter().all(|st| (5..15).contains(&st.calls())));
     assert!(sum.refused[1..].iter().all(|&n| n >= LEAST) && sum.kept >= LEAST);

@@ -1,6 +1,6 @@
 //! Scripts about document 02's closed cylinder: small scenes, lists of calls, batches whole and in parts, and limits:
 //! the numbers of shapes, ends that fall together, rims, odd sizes, short ways to an end.
-use super::calls::{list, pair, style_for, Source, Split};
+use super::calls::{self, Source};
 use super::edges::{again, all, beam, face_at, moved, ready, with};
 use super::plans::closed_plan;
 use super::script::Script;
@@ -138,26 +138,17 @@ fn near_ends() -> Stage {
 
 // ---- all
 
-fn lists(s: &mut Sm) -> (Vec<Stage>, Split) {
-    let from = Source { name: "closed_", plan: closed_plan };
-    let (mut out, mut split, mut k) = (Vec::new(), Split::default(), 0);
-    while out.len() < LISTS {
-        k += 1;
-        let wanted = 1 + k as u32 % 17;
-        let style = style_for(s, if k % 3 == 0 { 1 } else { wanted });
-        out.extend(if k % 3 == 0 { pair(s, &from, k, style, &mut split) } else { list(s, &from, k, style, wanted) });
-    }
-    (out, split)
-}
-
 /// The scripts, and tables of what they have.
 pub fn scripts(seed: u64) -> (Vec<Script>, String) {
     let s = &mut Sm(seed.wrapping_add(2));
-    let (mut out, scenes) = scenes::closed(s, SCENES);
-    let (lists, split) = lists(s);
+    let (mut out, scenes) = scenes::of_kind(s, &scenes::CLOSED, SCENES, usize::MAX);
+    for (what, least) in [("sides of closed cylinders", 20), ("ends of closed cylinders", 20), ("closed mirrors", 3), ("closed absorbers", 3)] {
+        assert!(scenes.met(what) >= least, "{what}");
+    }
+    let (lists, split) = calls::lists(s, &Source { name: "closed_", plan: closed_plan }, LISTS);
     let limits = [numbers_in_texts(), numbers_in_lists(), thin(), odd_sizes(), rims(), near_ends()];
     out.extend(lists.iter().chain(&limits).map(Stage::script));
     let lists_table = Tally::of(&lists).table("lists of calls with closed cylinders", &lists) + &split.rows();
     let limits_table = Tally::of(&limits).table("scripts about limits of closed cylinders", &limits);
-    (out, [scenes, lists_table, limits_table].join("\n"))
+    (out, [scenes.table("scenes with closed cylinders"), lists_table, limits_table].join("\n"))
 }

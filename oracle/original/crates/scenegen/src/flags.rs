@@ -3,21 +3,23 @@ use super::book::Memory;
 use super::stage::Stage;
 use super::*;
 
-pub const FLAGS: [&str; 37] = [
+pub const KINDS: usize = 42;
+pub const FLAGS: [&str; KINDS] = [
     "nested media", "total reflections", "chains of total reflections", "mirrors", "mirrors at the threshold", "mirrors just above it", "mirrors just below it", "absorbers",
     "several detectors hit", "given bounces", "threshold 0", "threshold above 0", "scaled solids", "planes", "disks", "spheres",
     "cylinders", "boxes", "closed cylinders", "air", "constant indices", "Sellmeier indices", "Schott indices", "memory used before", "hit list filled to its end",
     "weak rays", "dim rays", "spent rays", "escaped rays", "inactive solids", "all tallies known", "refused and all powers known", "two reasons to refuse",
-    "sides of closed cylinders", "ends of closed cylinders", "closed mirrors", "closed absorbers",
+    "sides of closed cylinders", "ends of closed cylinders", "closed mirrors", "closed absorbers", "dropped rays", "drops whose order shows",
+    "lost 0 with dropped rays", "lost NaN", "refused after dropped rays",
 ];
 
 #[derive(Clone)]
-pub struct Flags(pub [bool; 37]);
+pub struct Flags(pub [bool; KINDS]);
 
 impl Flags {
     /// What a tracing that was made on this memory showed.
     pub fn of(c: &Case, before: &Memory, after: &Stage) -> Flags {
-        let mut f = Flags([false; 37]);
+        let mut f = Flags([false; KINDS]);
         f.set("threshold 0", c.threshold == 0.0);
         f.set("threshold above 0", c.threshold > 0.0);
         match after.last {
@@ -30,6 +32,7 @@ impl Flags {
                 f.met(&Case { rays: c.rays[i + 1..].to_vec(), ..c.clone() });
                 f.reported(after);
                 f.set("refused and all powers known", after.report.powers.iter().all(Option::is_some));
+                f.set("refused after dropped rays", after.report.powers[4].is_some_and(|lost| lost != 0.0));
             }
             Err(_) => {}
         }
@@ -61,6 +64,7 @@ impl Flags {
         self.set("spent rays", tallies[2] > Some(0));
         self.set("weak rays", tallies[6] > Some(0));
         self.set("all tallies known", tallies.iter().all(Option::is_some));
+        self.set("lost NaN", after.report.powers[4].is_some_and(f64::is_nan));
     }
 
     /// What rays that are not refused meet.
@@ -74,6 +78,7 @@ impl Flags {
             if p.interaction == "MirrorReflection" { self.met_mirror(c.threshold, p.power_watts); }
             if let Some(k) = p.hit_object_id { self.met_solid(&c.scene.objects[k], p.end); }
         }
+        self.dropped(&rep.paths.iter().filter(|p| is_dropped(c, p)).map(|p| p.power_watts).collect::<Vec<_>>());
         c.rays.iter().for_each(|r| self.met_first(c, r));
         self.set("inactive solids", c.scene.objects.iter().any(|o| !o.is_active));
     }
@@ -101,6 +106,15 @@ impl Flags {
             self.set("mirrors just above it", near(threshold, power));
             self.set("mirrors just below it", near(power, threshold));
         }
+    }
+
+    /// What mirrors dropped, in the order of the steps.
+    fn dropped(&mut self, powers: &[f64]) {
+        let sum = |sum: f64, x: &f64| sum + x;
+        let (forth, back) = (powers.iter().fold(0.0, sum), powers.iter().rev().fold(0.0, sum));
+        self.set("dropped rays", !powers.is_empty());
+        self.set("drops whose order shows", forth < back || back < forth);
+        self.set("lost 0 with dropped rays", !powers.is_empty() && forth == 0.0);
     }
 
     /// What the first step of a given ray meets.

@@ -1,7 +1,7 @@
 //! Small scenes as scripts: each is read, traced into an emptied memory, and then either more rays go into the same memory
 //! or the scene is changed so that a check before the run refuses it.
 use super::book::{Memory, Refusal};
-use super::flags::{Flags, FLAGS};
+use super::flags::{Flags, FLAGS, KINDS};
 use super::script::Script;
 use super::stage::Stage;
 use super::*;
@@ -227,7 +227,7 @@ fn spoilt(s: &mut Sm, first: &Scene, used: usize) -> Option<Second> {
 struct Traced { refusal: u32, bounces: usize, flags: Flags }
 
 /// A script in the making: the number of its first scene, and its tracings.
-struct Making { number: usize, stage: Stage, traced: Vec<Traced> }
+pub struct Making { number: usize, stage: Stage, traced: Vec<Traced> }
 
 impl Making {
     /// A scene and what comes after it; none where the original can't say enough.
@@ -360,7 +360,7 @@ impl Making {
 }
 
 /// How many scenes there are, and of what kinds.
-struct Tally { all: usize, refusals: [usize; 18], limits: [usize; 17], flags: [usize; 37] }
+pub struct Tally { all: usize, refusals: [usize; 18], limits: [usize; 17], flags: [usize; KINDS] }
 
 impl Tally {
     fn count(&mut self, t: &Traced) {
@@ -370,11 +370,15 @@ impl Tally {
         for (n, &f) in self.flags.iter_mut().zip(&t.flags.0) { *n += f as usize; }
     }
 
-    fn new() -> Tally {
-        Tally { all: 0, refusals: [0; 18], limits: [0; 17], flags: [0; 37] }
+    pub fn met(&self, name: &str) -> usize {
+        self.flags[FLAGS.iter().position(|&f| f == name).unwrap()]
     }
 
-    fn table(&self, what: &str) -> String {
+    fn new() -> Tally {
+        Tally { all: 0, refusals: [0; 18], limits: [0; 17], flags: [0; KINDS] }
+    }
+
+    pub fn table(&self, what: &str) -> String {
         let numbered = |ns: &[usize]| {
             ns.iter().enumerate().filter(|n| *n.1 > 0).map(|(k, n)| format!("{k}: {n}")).collect::<Vec<_>>().join(", ")
         };
@@ -395,14 +399,26 @@ fn close(s: &mut Sm, c: &mut Case) {
     }
 }
 
-/// The next scene, of a list of this name; none where it takes too many steps, the original can't say enough, or little happens.
-fn next(s: &mut Sm, name: &str, style: u64, number: usize) -> Option<Making> {
+/// What a list of small scenes is made of.
+pub struct Kind {
+    name: &'static str,
+    styles: &'static [u64],
+    change: fn(&mut Sm, &mut Case),
+    keeps: fn(&Making) -> bool,
+    answered: bool,
+}
+
+const PLAIN: Kind = Kind { name: "scene", styles: &[0, 1, 2, 3, 4, 5, 6, 7, 8, 9, 10, 1, 4, 6], change: |_, _| (), keeps: |_| true, answered: false };
+pub const CLOSED: Kind = Kind { name: "closed", styles: &[0, 1, 2, 3, 5, 6, 7, 8, 9, 10, 1, 2], change: close, keeps: Making::is_closed, answered: true };
+
+/// The next scene; none where it takes too many steps, the original can't say enough, or little happens.
+fn next(s: &mut Sm, kind: &Kind, style: u64, number: usize) -> Option<Making> {
     let mut case = small(s, style);
-    if name == "closed" { close(s, &mut case); }
+    (kind.change)(s, &mut case);
     let n = brought(&case)?;
     let told = told(s, &case, 0, n);
     let first = Scene { case, told };
-    let alone = Making::of(name, number, &first, None)?;
+    let alone = Making::of(kind.name, number, &first, None)?;
     let little = alone.stage.last.is_ok() && alone.stage.report.counts[1] < Some(2);
     if little && !s.chance(if first.case.bounces == 0 { 0.5 } else { 0.15 }) { return None; }
     let used = alone.stage.memory.used as usize;
@@ -413,37 +429,25 @@ fn next(s: &mut Sm, name: &str, style: u64, number: usize) -> Option<Making> {
     } else {
         None
     };
-    second.and_then(|x| Making::of(name, number, &first, Some(&x))).or(Some(alone))
+    second.and_then(|x| Making::of(kind.name, number, &first, Some(&x))).or(Some(alone))
+}
+
+/// Scripts of a kind until there are so many of them or so many scenes, and what is in them.
+pub fn of_kind(s: &mut Sm, kind: &Kind, scripts: usize, scenes: usize) -> (Vec<Script>, Tally) {
+    let (mut tally, mut out, mut turn) = (Tally::new(), Vec::new(), 0);
+    while out.len() < scripts && tally.all < scenes {
+        turn += 1;
+        let style = kind.styles[turn % kind.styles.len()];
+        let Some(mut m) = next(s, kind, style, tally.all).filter(kind.keeps) else { continue };
+        if kind.answered { m.answers(); }
+        m.traced.iter().for_each(|t| tally.count(t));
+        out.push(m.stage.script());
+    }
+    (out, tally)
 }
 
 /// The scripts, and a table of what is in them.
 pub fn scripts(seed: u64) -> (Vec<Script>, String) {
-    let s = &mut Sm(seed);
-    let mut tally = Tally::new();
-    let mut out = Vec::new();
-    let mut turn = 0;
-    while tally.all < SCENES {
-        turn += 1;
-        let style = [0, 1, 2, 3, 4, 5, 6, 7, 8, 9, 10, 1, 4, 6][turn % 14];
-        let Some(m) = next(s, "scene", style, tally.all) else { continue };
-        m.traced.iter().for_each(|t| tally.count(t));
-        out.push(m.stage.script());
-    }
+    let (out, tally) = of_kind(&mut Sm(seed), &PLAIN, usize::MAX, SCENES);
     (out, tally.table("scenes"))
-}
-
-/// Such scripts of scenes with closed cylinders, answered under every filter.
-pub fn closed(s: &mut Sm, scripts: usize) -> (Vec<Script>, String) {
-    let (mut tally, mut out, mut turn) = (Tally::new(), Vec::new(), 0);
-    while out.len() < scripts {
-        turn += 1;
-        let style = [0, 1, 2, 3, 5, 6, 7, 8, 9, 10, 1, 2][turn % 12];
-        let Some(mut m) = next(s, "closed", style, tally.all).filter(Making::is_closed) else { continue };
-        m.answers();
-        m.traced.iter().for_each(|t| tally.count(t));
-        out.push(m.stage.script());
-    }
-    let met = |name: &str| tally.flags[FLAGS.iter().position(|&f| f == name).unwrap()];
-    assert!(met("sides of closed cylinders") >= 20 && met("ends of closed cylinders") >= 20 && met("closed mirrors") >= 3 && met("closed absorbers") >= 3);
-    (out, tally.table("scenes with closed cylinders"))
 }

@@ -70,6 +70,8 @@ pub struct Tally {
     pub refused: [usize; 18],
     /// tracings refused in the run whose hits before it stay
     pub kept: usize,
+    /// tracings whose lost is not 0, is NaN, is not known
+    pub lost: [usize; 3],
     pub calls: std::collections::BTreeMap<String, usize>,
 }
 
@@ -80,6 +82,7 @@ impl Tally {
         for t in all.iter().map(|st| &st.tally) {
             (0..18).for_each(|n| sum.refused[n] += t.refused[n]);
             sum.kept += t.kept;
+            (0..3).for_each(|k| sum.lost[k] += t.lost[k]);
             for (verb, n) in &t.calls { *sum.calls.entry(verb.clone()).or_default() += n; }
         }
         sum
@@ -90,7 +93,8 @@ impl Tally {
         let calls = self.calls.iter().map(|(verb, n)| format!("`{verb}` {n}")).collect::<Vec<_>>().join(", ");
         let sum: usize = self.calls.values().sum();
         let kept = format!("| refused in the run, with hits before it that stay | {} |\n", self.kept);
-        format!("| of {} {what} | {sum} calls |\n|---|---|\n| refused | {refused} |\n{kept}| calls | {calls} |\n", all.len())
+        let lost = format!("| lost not 0, NaN, not known | {} |\n", self.lost.map(|n| n.to_string()).join(", "));
+        format!("| of {} {what} | {sum} calls |\n|---|---|\n| refused | {refused} |\n{kept}{lost}| calls | {calls} |\n", all.len())
     }
 }
 
@@ -417,6 +421,9 @@ impl Stage {
         let Some(ran) = batch.trace(&dets, &mut self.memory) else { return false };
         self.tally.kept += (ran.refusal.is_some() && self.memory.used > used) as usize;
         self.report = ran.report;
+        let lost = self.report.powers[4];
+        let kinds = [lost.is_some_and(|x| x != 0.0), lost.is_some_and(f64::is_nan), lost.is_none()];
+        (0..3).for_each(|k| self.tally.lost[k] += kinds[k] as usize);
         let counts = self.report.counts.map(|n| known(n, |n: u64| n.to_string()));
         let rest = format!("{} {} {}", self.memory.used, joined(self.report.powers.map(|p| known(p, expected))), joined(counts));
         self.judged(call, ran.refusal.map_or(Ok(()), Err), rest);
