@@ -1,10 +1,11 @@
 //! Scripts about document 02's closed cylinder: small scenes, lists of calls, batches whole and in parts, and limits:
 //! the numbers of shapes, ends that fall together, rims, odd sizes, short ways to an end.
-use super::calls::{self, Source};
+use super::calls::Source;
 use super::edges::{again, all, beam, face_at, moved, ready, with};
 use super::plans::closed_plan;
 use super::script::Script;
-use super::stage::{Beam, Plan, Stage, Tally};
+use super::scripts::About;
+use super::stage::{Beam, Plan, Stage};
 use super::*;
 
 const SCENES: usize = 72;
@@ -138,17 +139,16 @@ fn near_ends() -> Stage {
 
 // ---- all
 
-/// The scripts, and tables of what they have.
+const ABOUT: About = About {
+    what: "closed cylinders",
+    kind: &scenes::CLOSED,
+    scenes: SCENES,
+    least: &[("sides of closed cylinders", 20), ("ends of closed cylinders", 20), ("closed mirrors", 3), ("closed absorbers", 3)],
+    source: Source { name: "closed_", plan: closed_plan },
+    lists: LISTS,
+};
+
 pub fn scripts(seed: u64) -> (Vec<Script>, String) {
-    let s = &mut Sm(seed.wrapping_add(2));
-    let (mut out, scenes) = scenes::of_kind(s, &scenes::CLOSED, SCENES, usize::MAX);
-    for (what, least) in [("sides of closed cylinders", 20), ("ends of closed cylinders", 20), ("closed mirrors", 3), ("closed absorbers", 3)] {
-        assert!(scenes.met(what) >= least, "{what}");
-    }
-    let (lists, split) = calls::lists(s, &Source { name: "closed_", plan: closed_plan }, LISTS);
     let limits = [numbers_in_texts(), numbers_in_lists(), thin(), odd_sizes(), rims(), near_ends()];
-    out.extend(lists.iter().chain(&limits).map(Stage::script));
-    let lists_table = Tally::of(&lists).table("lists of calls with closed cylinders", &lists) + &split.rows();
-    let limits_table = Tally::of(&limits).table("scripts about limits of closed cylinders", &limits);
-    (out, [scenes.table("scenes with closed cylinders"), lists_table, limits_table].join("\n"))
+    ABOUT.scripts(&mut Sm(seed.wrapping_add(2)), &limits)
 }

@@ -10,7 +10,7 @@ pub fn moved(x: f64, z: f64) -> Transform3D {
     Transform3D { translation: Vec3::new(x, 0.0, z), rotation_euler_deg: Vec3::zeros(), scale: Vec3::new(1.0, 1.0, 1.0) }
 }
 
-fn slab(x: f64, z: f64, n: f64) -> NonSeqObject {
+pub fn slab(x: f64, z: f64, n: f64) -> NonSeqObject {
     obj(PrimitiveGeometry::Box { half_x: 4.0, half_y: 4.0, half_z: 0.5 }, moved(x, z), OpticalMedium::Constant { n }, SurfaceFinish::Specular)
 }
 
@@ -379,7 +379,7 @@ fn not_finite() -> Vec<Stage> {
 
 // ---- ties, mirrors, short ways, media
 
-fn screen(z: f64, finish: SurfaceFinish) -> NonSeqObject {
+pub fn screen(z: f64, finish: SurfaceFinish) -> NonSeqObject {
     obj(PrimitiveGeometry::Plane { half_width: 4.0, half_height: 4.0 }, moved(0.0, z), OpticalMedium::Air, finish)
 }
 

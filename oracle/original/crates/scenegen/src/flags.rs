@@ -10,7 +10,7 @@ pub const FLAGS: [&str; KINDS] = [
     "cylinders", "boxes", "closed cylinders", "air", "constant indices", "Sellmeier indices", "Schott indices", "memory used before", "hit list filled to its end",
     "weak rays", "dim rays", "spent rays", "escaped rays", "inactive solids", "all tallies known", "refused and all powers known", "two reasons to refuse",
     "sides of closed cylinders", "ends of closed cylinders", "closed mirrors", "closed absorbers", "dropped rays", "drops whose order shows",
-    "lost 0 with dropped rays", "lost NaN", "refused after dropped rays",
+    "lost 0 with dropped rays", "lost NaN", "refused with something lost",
 ];
 
 #[derive(Clone)]
@@ -32,7 +32,7 @@ impl Flags {
                 f.met(&Case { rays: c.rays[i + 1..].to_vec(), ..c.clone() });
                 f.reported(after);
                 f.set("refused and all powers known", after.report.powers.iter().all(Option::is_some));
-                f.set("refused after dropped rays", after.report.powers[4].is_some_and(|lost| lost != 0.0));
+                f.set("refused with something lost", after.report.powers[4].is_some_and(|lost| lost != 0.0));
             }
             Err(_) => {}
         }
@@ -78,7 +78,7 @@ impl Flags {
             if p.interaction == "MirrorReflection" { self.met_mirror(c.threshold, p.power_watts); }
             if let Some(k) = p.hit_object_id { self.met_solid(&c.scene.objects[k], p.end); }
         }
-        self.dropped(&rep.paths.iter().filter(|p| is_dropped(c, p)).map(|p| p.power_watts).collect::<Vec<_>>());
+        self.dropped(c, &rep.paths);
         c.rays.iter().for_each(|r| self.met_first(c, r));
         self.set("inactive solids", c.scene.objects.iter().any(|o| !o.is_active));
     }
@@ -108,13 +108,13 @@ impl Flags {
         }
     }
 
-    /// What mirrors dropped, in the order of the steps.
-    fn dropped(&mut self, powers: &[f64]) {
-        let sum = |sum: f64, x: &f64| sum + x;
-        let (forth, back) = (powers.iter().fold(0.0, sum), powers.iter().rev().fold(0.0, sum));
-        self.set("dropped rays", !powers.is_empty());
+    /// What mirrors dropped, in the order of the steps and the other way.
+    fn dropped(&mut self, c: &Case, paths: &[RayPathSegment]) {
+        let (forth, back) = (lost(c, paths), lost(c, paths.iter().rev()));
+        let some = paths.iter().any(|p| is_dropped(c, p));
+        self.set("dropped rays", some);
         self.set("drops whose order shows", forth < back || back < forth);
-        self.set("lost 0 with dropped rays", !powers.is_empty() && forth == 0.0);
+        self.set("lost 0 with dropped rays", some && forth == 0.0);
     }
 
     /// What the first step of a given ray meets.

@@ -3,8 +3,9 @@
 //!
 //!   scenegen scene SEED          scene text (filter -)
 //!   scenegen answer SEED FILTER  the original's answer under filter 0..4
-//!   scenegen batch FROM COUNT DIR [closed]   writes DIR/SEED.F.in and DIR/SEED.F.out, F in 0..4; with `closed` every
-//!                                cylinder and every second box of a scene is a closed cylinder of its sizes
+//!   scenegen batch FROM COUNT DIR [closed] [mirrors]   writes DIR/SEED.F.in and DIR/SEED.F.out, F in 0..4; with
+//!                                `closed` every cylinder and every second box of a scene is a closed cylinder of its
+//!                                sizes, with `mirrors` solids are mirrors at the threshold (head of mirrors.rs)
 //!   scenegen bench SEED N        ns per interaction of the original
 //!   scenegen vectors DIR         tables of single functions of the original (hex bits, printed style)
 //!   scenegen scripts DIR SEED    the scripts of crates/test_scripts and what it is to print (head of scripts.rs)
@@ -28,6 +29,8 @@ mod damage;
 mod edges;
 mod flags;
 mod limits;
+mod mirror_scripts;
+mod mirrors;
 mod plans;
 mod reader;
 mod runs;
@@ -827,6 +830,25 @@ fn solids(s: &mut Sm, put: &dyn Fn(&str, String), name: &str, lines: usize, make
     eprintln!("{hits} of {lines} lines of {name} are hits");
 }
 
+/// So many scenes from a seed on, under every filter, with the original's answers.
+fn batch(from: u64, count: u64, dir: &str, changes: &[String]) {
+    let changed = |how: &str| changes.iter().any(|w| w == how);
+    let mut drops = mirrors::Drops::default();
+    for seed in from..from + count {
+        let mut c = generate(seed);
+        if changed("closed") { closed::close(&mut c.scene.objects); }
+        if changed("mirrors") { mirrors::at_threshold(&mut Sm(seed.wrapping_mul(0x9E3779B97F4A7C15)), &mut c); }
+        if scene_text(&c, "-").len() > 65536 { continue; }
+        let s = solve(&c);
+        drops.count(&c, &s);
+        for f in 0..5u32 {
+            std::fs::write(format!("{dir}/{seed}.{f}.in"), scene_text(&c, &f.to_string())).unwrap();
+            std::fs::write(format!("{dir}/{seed}.{f}.out"), answer(&s, f)).unwrap();
+        }
+    }
+    if changed("mirrors") { println!("{}", drops.told()); }
+}
+
 fn main() {
     let a: Vec<String> = std::env::args().collect();
     match a[1].as_str() {
@@ -834,21 +856,7 @@ fn main() {
         "answer" => print!("{}", answer(&solve(&case_of(&a[2])), a[3].parse().unwrap())),
         "vectors" => vectors(&a[2]),
         "scripts" => scripts::write(&a[2], a[3].parse().unwrap()),
-        "batch" => {
-            let from: u64 = a[2].parse().unwrap();
-            let count: u64 = a[3].parse().unwrap();
-            for seed in from..from + count {
-                let mut c = generate(seed);
-                if a.get(5).is_some_and(|w| w == "closed") { closed::close(&mut c.scene.objects); }
-                let t = scene_text(&c, "-");
-                if t.len() > 65536 { continue; }
-                let s = solve(&c);
-                for f in 0..5u32 {
-                    std::fs::write(format!("{}/{}.{}.in", a[4], seed, f), scene_text(&c, &f.to_string())).unwrap();
-                    std::fs::write(format!("{}/{}.{}.out", a[4], seed, f), answer(&s, f)).unwrap();
-                }
-            }
-        }
+        "batch" => batch(a[2].parse().unwrap(), a[3].parse().unwrap(), &a[4], &a[5..]),
         "bench" => {
             let c = case_of(&a[2]);
             let n: usize = a[3].parse().unwrap();

@@ -1,9 +1,10 @@
 //! A tracing: the checks before its run, from document 01, and the run by the original. Its hits come in the order of
 //! the recorded paths and are put into the plain memory one by one. Where the run is refused, by the original or
-//! because a hit has no place, the batch is traced again a ray at a time, last to first; the report is then known where
-//! the refused step is the first of its ray, in part where a hit had no place or the step is that behind the mirrors that
-//! its ray met first or into a solid that has no index, and else but for what was launched. Where there is no mirror
-//! nothing is lost.
+//! because a hit has no place, the batch is traced again a ray at a time, last to first. The report is then known
+//!   - whole where the refused step is the first of its ray;
+//!   - up to that step, but for what was absorbed and what came of clear surfaces, where a hit had no place, where the
+//!     ray met mirrors alone before it, and where it comes into a solid that has no index;
+//!   - else by what was launched alone, and nothing is lost where there is no mirror.
 use super::book::*;
 use super::reader::Lists;
 use super::*;
@@ -249,7 +250,8 @@ impl Alone {
         clear.filter(|m| which(&m.medium)).for_each(|m| m.finish = SurfaceFinish::Absorber);
         Some(cfg(c, c.bounces, true).trace_rays(&mut scene, &c.rays[i..i + 1], None).ok()?.paths)
     }
-    /// The mirrors that ray i meets before anything else.
+    /// The mirrors that ray i meets before anything else. Neither they nor absorbers ask for an index, and the
+    /// original's solids have finite normals, so this run is not refused.
     fn until_clear(c: &Case, i: usize) -> Vec<RayPathSegment> {
         let all = Self::to_absorbers(c, i, |_| true).unwrap();
         all.into_iter().take_while(|p| p.interaction == "MirrorReflection").collect()

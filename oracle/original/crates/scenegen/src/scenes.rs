@@ -102,7 +102,7 @@ fn rays(s: &mut Sm, c: &mut Case, style: u64) {
             2 => { let k = s.n(n as u64) as usize; media = vec![k]; let d = Vec3::new(s.r(-0.4, 0.4), s.r(-0.4, 0.4), s.pick(&[1.0, -1.0])).normalize(); (c.scene.objects[k].transform.translation + s.unit() * s.r(0.0, 0.4), d) }
             3 => (Vec3::new(s.n(5) as f64 - 2.0, s.n(5) as f64 - 2.0, s.n(13) as f64 - 6.0), if s.chance(0.7) { s.axis() } else { Vec3::new(s.pick(&[0.6, -0.6]), 0.0, s.pick(&[0.8, -0.8])) }),
             4 => {
-                // what the mirror leaves of it is the threshold, or a bit more or less
+                // what the mirror reflects of it is the threshold, or a bit more or less
                 let rho = match c.scene.objects[0].material.finish { SurfaceFinish::Mirror { reflectance } if reflectance > 0.0 && reflectance < 1.0 => reflectance, _ => 0.5 };
                 let x = c.threshold / rho / s.pick(&[1.0, 1.0, rho]);
                 if c.threshold > 0.0 && s.chance(0.8) { p = f64::from_bits((x.to_bits() as i64 + s.pick(&[0i64, 0, 1, -1, 2, -2])) as u64); }
@@ -348,6 +348,12 @@ impl Making {
         first.flags.has("closed cylinders") || active && (12..17).contains(&first.refusal)
     }
 
+    /// Whether its first tracing dropped a mirrored ray, or nearly did.
+    fn drops_or_nearly(&self) -> bool {
+        let first = &self.traced[0];
+        ["dropped rays", "mirrors just above it", "refused with something lost"].iter().any(|name| first.flags.has(name))
+    }
+
     /// The answers under every filter, from the memory and to the text, where they are known.
     fn answers(&mut self) {
         let place = self.stage.filter_place();
@@ -410,6 +416,7 @@ pub struct Kind {
 
 const PLAIN: Kind = Kind { name: "scene", styles: &[0, 1, 2, 3, 4, 5, 6, 7, 8, 9, 10, 1, 4, 6], change: |_, _| (), keeps: |_| true, answered: false };
 pub const CLOSED: Kind = Kind { name: "closed", styles: &[0, 1, 2, 3, 5, 6, 7, 8, 9, 10, 1, 2], change: close, keeps: Making::is_closed, answered: true };
+pub const MIRRORS: Kind = Kind { name: "mirrors", styles: &[0, 1, 2, 3, 4, 5, 6, 7, 8, 9, 1, 4, 6], change: mirrors::at_threshold, keeps: Making::drops_or_nearly, answered: true };
 
 /// The next scene; none where it takes too many steps, the original can't say enough, or little happens.
 fn next(s: &mut Sm, kind: &Kind, style: u64, number: usize) -> Option<Making> {

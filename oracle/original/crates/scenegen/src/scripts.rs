@@ -1,7 +1,9 @@
 //! Every script of crates/test_scripts/data: `scenegen scripts DIR SEED` writes the files of scripts and index.txt there,
 //! the worked scenes to DIR/scenes, to DIR/stdout what a run prints in which nothing differs, and to DIR/table.md what
-//! the small scenes, lists of calls, limits and closed cylinders cover.
+//! the small scenes, lists of calls, limits, closed cylinders and mirrors cover.
+use super::calls::Source;
 use super::script::Script;
+use super::stage::{Stage, Tally};
 use super::*;
 
 /// The seed of the scripts that are stored, and the first seed of their random scenes under each filter.
@@ -12,12 +14,39 @@ const FILE_BYTES: usize = 400_000;
 /// The bytes that an answer is written to.
 pub const ANSWER_BYTES: usize = 131_072;
 
+/// What the scripts about one of document 02's additions are made of: so many small scenes of a kind, in which some
+/// things must be met so often at least, and so many lists of calls on scenes from a source.
+pub struct About {
+    pub what: &'static str,
+    pub kind: &'static scenes::Kind,
+    pub scenes: usize,
+    pub least: &'static [(&'static str, usize)],
+    pub source: Source,
+    pub lists: usize,
+}
+
+impl About {
+    /// The scripts, with these about limits behind them, and tables of what they have.
+    pub fn scripts(&self, s: &mut Sm, limits: &[Stage]) -> (Vec<Script>, String) {
+        let (mut out, scenes) = scenes::of_kind(s, self.kind, self.scenes, usize::MAX);
+        for &(what, least) in self.least {
+            assert!(scenes.met(what) >= least, "{what}");
+        }
+        let (lists, split) = calls::lists(s, &self.source, self.lists);
+        out.extend(lists.iter().chain(limits).map(Stage::script));
+        let lists_table = Tally::of(&lists).table(&format!("lists of calls with {}", self.what), &lists) + &split.rows();
+        let limits_table = Tally::of(limits).table(&format!("scripts about limits of {}", self.what), limits);
+        (out, [scenes.table(&format!("scenes with {}", self.what)), lists_table, limits_table].join("\n"))
+    }
+}
+
 /// Every list of scripts by the name of its files, and the table.
 fn all(dir: &str, seed: u64) -> (Vec<(&'static str, Vec<Script>)>, String) {
     let (scenes, scenes_table) = scenes::scripts(seed);
     let (calls, calls_table) = calls::calls(seed);
     let (limits, limits_table) = limits::limits();
     let (closed, closed_table) = closed_scripts::scripts(seed);
+    let (mirrors, mirrors_table) = mirror_scripts::scripts(seed);
     let sample = STORED_SAMPLE.wrapping_add((seed ^ STORED).wrapping_mul(1000));
     let lists = vec![
         ("worked", worked::scripts(&format!("{dir}/scenes"))),
@@ -26,8 +55,9 @@ fn all(dir: &str, seed: u64) -> (Vec<(&'static str, Vec<Script>)>, String) {
         ("calls", calls),
         ("limits", limits),
         ("closed", closed),
+        ("mirrors", mirrors),
     ];
-    (lists, [scenes_table, calls_table, limits_table, closed_table].join("\n"))
+    (lists, [scenes_table, calls_table, limits_table, closed_table, mirrors_table].join("\n"))
 }
 
 /// The files of one list as they are written.
