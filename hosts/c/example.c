@@ -22,10 +22,10 @@ static void layout(void)
     expect("its total stands at 96", offsetof(nonseq_detector, total_flux_watts) == 96);
     expect("the detectors have 904 bytes", sizeof(nonseq_detectors) == 904);
     expect("a hit has 48 bytes", sizeof(nonseq_hit) == 48);
-    expect("a report has 72 bytes", sizeof(nonseq_report) == 72);
+    expect("a report has 80 bytes", sizeof(nonseq_report) == 80);
     expect("the rules have 64 bytes", sizeof(nonseq_config) == 64);
     expect("a given ray has 104 bytes", sizeof(nonseq_given_ray) == 104);
-    expect("a tracing's answer has 992 bytes", sizeof(nonseq_traced) == 992);
+    expect("a tracing's answer has 1000 bytes", sizeof(nonseq_traced) == 1000);
 }
 
 static void numbers(void)
@@ -60,7 +60,7 @@ int main(void)
 
     t = nonseq_trace_given_rays(config, solid_values, 0, solid_tags, 0, 0, &ray, 1, detectors, flux, 4, hits, 4, hit_values, 8, hit_tags, 8, 0);
     expect("the ray is traced", t.refusal == NONSEQ_DONE && t.used == 1);
-    expect("nothing is lost", nonseq_energy_conservation_ratio(t.report.ledger) == 1);
+    expect("all of it is detected", nonseq_energy_conservation_ratio(t.report.ledger) == 1 && t.report.ledger.lost_flux_watts == 0);
     a = nonseq_put_answer(text, sizeof text, t.report, t.detectors, NONSEQ_ALL, flux, 4, hit_values, 8, hit_tags, 8, t.used);
     expect("the answer fits", a.refusal == NONSEQ_DONE && a.length <= sizeof text);
     fwrite(text, 1, a.length, stdout);

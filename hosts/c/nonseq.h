@@ -113,8 +113,10 @@ typedef struct {
 
 typedef struct {
     double launched_flux_watts, detected_flux_watts, absorbed_flux_watts, escaped_flux_watts;
+    double lost_flux_watts; /* of mirrored rays that were not above the threshold, and so not made */
 } nonseq_ledger;
 
+/* weak: rays that the threshold left unmade, at clear solids and mirrors */
 typedef struct { uint32_t made, dim, spent, caught, gone, surface, weak; } nonseq_tallies;
 
 typedef struct {
@@ -193,7 +195,7 @@ nonseq_traced nonseq_trace_given_rays(nonseq_config config, const double *solid_
     const nonseq_given_ray *rays, size_t rays_len, nonseq_detectors detectors, double *flux, size_t flux_len,
     uint32_t *hits, size_t hits_len, double *hit_values, size_t hit_values_len,
     uint32_t *hit_tags, size_t hit_tags_len, size_t used);
-/* Detected, absorbed and escaped power over launched; 1 where none was launched. */
+/* Detected, absorbed and escaped power over launched, without lost; 1 where none was launched. */
 double nonseq_energy_conservation_ratio(nonseq_ledger ledger);
 
 /* A scene text into eight slices, the numbers of each block in the text's order (17 with the line's number leaves

@@ -227,10 +227,12 @@ pub struct Ledger {
     pub absorbed_flux_watts: f64,
     /// Of rays that met nothing more.
     pub escaped_flux_watts: f64,
+    /// Of mirrored rays that were not above the threshold, and so not made.
+    pub lost_flux_watts: f64,
 }
 
 impl Ledger {
-    /// Detected, absorbed and escaped over launched; 1 where nothing was launched.
+    /// Detected, absorbed and escaped over launched, without lost; 1 where nothing was launched.
     pub fn energy_conservation_ratio(&self) -> f64 {
         unsafe { ffi::nonseq_energy_conservation_ratio(*self) }
     }
@@ -252,7 +254,7 @@ pub struct Tallies {
     pub gone: u32,
     /// Rays that met a solid.
     pub surface: u32,
-    /// Rays that the threshold left unmade at clear solids.
+    /// Rays that the threshold left unmade at clear solids and mirrors.
     pub weak: u32,
 }
 

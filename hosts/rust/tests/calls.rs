@@ -110,6 +110,22 @@ fn tubes_with_ends() {
     assert_eq!(hits(Shape::ClosedCylinder { radius: 0.5, half_length: 2.0 }), (2, 0.0));
 }
 
+/// A mirrored ray that is not above the threshold is not made: its power is lost, it is weak, and the ratio is the
+/// Rust's, without it.
+#[test]
+fn mirrors_at_the_threshold() {
+    let mut scene = Scene::new();
+    scene.push(&block(8.0, Medium::Air, Finish::Mirror { reflectance: 0.5 }));
+    let mut m = Memory::new(&[screen(20.0, 2)], 4).unwrap();
+    let mut traced = |energy| m.trace(&Config { min_power_threshold: 0.5, ..config() }, &scene, &[ray(0.5, 0.5, energy)]).unwrap();
+    let (dropped, made) = (traced(1.0), traced(1.25));
+    assert_eq!((dropped.ledger.absorbed_flux_watts, dropped.ledger.lost_flux_watts), (0.5, 0.5));
+    assert_eq!((dropped.tallies.made, dropped.tallies.weak), (0, 1));
+    assert_eq!(dropped.ledger.energy_conservation_ratio(), 0.5);
+    assert_eq!((made.ledger.absorbed_flux_watts, made.ledger.lost_flux_watts), (0.625, 0.0));
+    assert_eq!((made.tallies.made, made.tallies.weak), (1, 0));
+}
+
 /// Structs and numbers leave the same memory, bit for bit, rays that are refused too.
 #[test]
 fn structs_and_numbers_alike() {

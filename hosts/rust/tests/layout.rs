@@ -11,10 +11,10 @@ fn sizes() {
     assert_eq!((size_of::<Detector>(), offset_of!(Detector, res_x), offset_of!(Detector, total_flux_watts)), (112, 88, 96));
     assert_eq!((size_of::<Detectors>(), offset_of!(Detectors, count)), (904, 896));
     assert_eq!((size_of::<Hit>(), offset_of!(Hit, detector)), (48, 32));
-    assert_eq!((size_of::<Report>(), offset_of!(Report, tallies)), (72, 40));
+    assert_eq!((size_of::<Report>(), offset_of!(Report, tallies)), (80, 48));
     assert_eq!((size_of::<HostConfig>(), offset_of!(HostConfig, a)), (64, 16));
     assert_eq!((size_of::<GivenRay>(), offset_of!(GivenRay, media)), (104, 72));
-    assert_eq!((size_of::<ffi::HostTraced>(), offset_of!(ffi::HostTraced, detectors)), (992, 88));
+    assert_eq!((size_of::<ffi::HostTraced>(), offset_of!(ffi::HostTraced, detectors)), (1000, 96));
     assert_eq!(size_of::<ffi::HostRecorded>(), 920);
     assert_eq!((size_of::<ffi::HostText>(), offset_of!(ffi::HostText, length)), (16, 8));
 }
@@ -67,7 +67,7 @@ fn hits_are_written() {
 
 #[test]
 fn ledgers_are_read() {
-    let l = Ledger { launched_flux_watts: 8.0, detected_flux_watts: 1.0, absorbed_flux_watts: 2.0, escaped_flux_watts: 4.0 };
+    let l = Ledger { launched_flux_watts: 8.0, detected_flux_watts: 1.0, absorbed_flux_watts: 2.0, escaped_flux_watts: 4.0, lost_flux_watts: 1.0 };
     assert_eq!(l.energy_conservation_ratio(), 7.0 / 8.0);
     assert_eq!(Ledger { launched_flux_watts: 2.0, ..l }.energy_conservation_ratio(), 3.5);
     assert_eq!(Ledger { launched_flux_watts: 0.0, ..l }.energy_conservation_ratio(), 1.0);
@@ -77,13 +77,13 @@ fn ledgers_are_read() {
 #[test]
 fn reports_are_written() {
     let mut report = Report::default();
-    report.ledger = Ledger { launched_flux_watts: 1.0, detected_flux_watts: 2.0, absorbed_flux_watts: 4.0, escaped_flux_watts: 8.0 };
+    report.ledger = Ledger { launched_flux_watts: 1.0, detected_flux_watts: 2.0, absorbed_flux_watts: 4.0, escaped_flux_watts: 8.0, lost_flux_watts: 16.0 };
     report.total_rays_traced = 21;
     report.total_interactions = 22;
     report.tallies = nonseq::Tallies { made: 1, dim: 2, spent: 3, caught: 4, gone: 5, surface: 6, weak: 7 };
     let memory = nonseq::Memory::new(&[], 1).unwrap();
     let text = nonseq::write_answer(&memory, &report, nonseq::Filter::All).unwrap();
     let lines: Vec<&str> = std::str::from_utf8(&text).unwrap().lines().collect();
-    assert_eq!(lines[1], "21 22 3ff 4 401 402");
+    assert_eq!(lines[1], "21 22 3ff 4 401 402 403");
     assert_eq!(lines[3], "1 2 3 4 5 6 7");
 }

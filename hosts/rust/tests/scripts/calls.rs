@@ -175,9 +175,9 @@ fn irradiance(words: &mut Words, state: &State) -> Result<Answer, String> {
 }
 
 fn ratio(words: &mut Words) -> Result<Answer, String> {
-    let [launched_flux_watts, detected_flux_watts, absorbed_flux_watts, escaped_flux_watts] = words.doubles()?;
+    let [launched_flux_watts, detected_flux_watts, absorbed_flux_watts, escaped_flux_watts, lost_flux_watts] = words.doubles()?;
     words.end()?;
-    let ledger = Ledger { launched_flux_watts, detected_flux_watts, absorbed_flux_watts, escaped_flux_watts };
+    let ledger = Ledger { launched_flux_watts, detected_flux_watts, absorbed_flux_watts, escaped_flux_watts, lost_flux_watts };
     let answer = Answer::default().double(unsafe { ffi::nonseq_energy_conservation_ratio(ledger) });
     let second = safe::same("ratio", &answer, Answer::default().double(ledger.energy_conservation_ratio()));
     Ok(answer.beside(second))

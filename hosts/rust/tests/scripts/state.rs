@@ -176,9 +176,9 @@ fn same_face(a: &Detector, b: &Detector) -> bool {
 }
 
 /// All words of a tracing's answer but the detectors.
-pub fn traced_numbers(r: &HostTraced) -> ([f64; 4], [u32; 9]) {
+pub fn traced_numbers(r: &HostTraced) -> ([f64; 5], [u32; 9]) {
     let (l, t) = (&r.report.ledger, &r.report.tallies);
-    let watts = [l.launched_flux_watts, l.detected_flux_watts, l.absorbed_flux_watts, l.escaped_flux_watts];
+    let watts = [l.launched_flux_watts, l.detected_flux_watts, l.absorbed_flux_watts, l.escaped_flux_watts, l.lost_flux_watts];
     let tallies = [t.made, t.dim, t.spent, t.caught, t.gone, t.surface, t.weak];
     let [a, b, c, d, e, f, g] = tallies;
     (watts, [r.report.total_rays_traced, r.report.total_interactions, a, b, c, d, e, f, g])

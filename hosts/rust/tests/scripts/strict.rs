@@ -21,22 +21,22 @@ check_all = 0 0
 area 0 = 0 0 3ed0c6f7a0b5ed8d
 cross 0 3ff 3ff 0 0 0 3ff 40813 3ff = 0 0 1 4024 3ff 3ff
 part 0 = 0 0 0 4
-trace 0 1 = 0 0 1 3ff 3ff 0 0 1 1 0 0 0 1 0 0 0
+trace 0 1 = 0 0 1 3ff 3ff 0 0 0 1 1 0 0 0 1 0 0 0
 hit 0 = 3ff 3ff 3ff 40813 0 0 0 0
-answer 0 131072 = 0 0 197 ?
+answer 0 131072 = 0 0 204 ?
 written answer.txt = 1
 irradiance 0 1 1 = 0 0 410e848
 refilter 0 1 4 = 0 0 3ff 1 ?
-trace_lent 0 0 7 10 1 = 17 0 1 0 0 0 0 0 0 0 0 0 0 0 0 0
+trace_lent 0 0 7 10 1 = 17 0 1 0 0 0 0 0 0 0 0 0 0 0 0 0 0
 record 8 8 4 0 0 0 1 0 = 0 0 2
 record 8 8 4 0 0 0 1 0 = 12 0 2
 caught 0 = ? 2
 pixel 3 = 4008 2
-ratio 4 3ff 3ff 0 = 3ff
+ratio 4 3ff 3ff 0 3ff = 3ff
 refusal 17 4 64 = 19 ?
-map 131072 = 197 ?
+map 131072 = 204 ?
 written answer.txt = 1
-map 196 = 197 ?
+map 203 = 204 ?
 written answer.txt = 0
 byte 0 0
 map 64 = 19 ?
@@ -130,7 +130,7 @@ const DAMAGED: [(&str, &str); 52] = [
     ("trace_lent 1387 0 0 0 0 = 0", "over 1386: 1387"),
     ("answer 0 131073 = 0 0 0 0", "over 131072: 131073"),
     ("written none.txt = 0", "no file none.txt"),
-    ("ratio 3ff 3ff 0 = 3ff", "a word is missing"),
+    ("ratio 3ff 3ff 0 0 = 3ff", "a word is missing"),
 ];
 
 /// Lines that are well formed, and answered otherwise than they say.
