@@ -9,7 +9,7 @@ use lib.Ieee.{Float}
 use borrow.Author.Tests.{eqb-false, leb-true, le-leb}
 use Rattle.error.specs.Refusals.{Checked, passed, refusedAt}
 use Rattle.detector.specs.declared.Detector2D.{Detector2D}
-use Rattle.detector.specs.Checks.{maxRes, isSizeOf, isParallelOf, checkGridOf, checkDetectorOf}
+use Rattle.detector.specs.Checks.{maxRes, isSizeOf, checkPoseOf, checkGridOf, checkDetectorOf}
 use Rattle.detector.specs.Pixels.{indexAlongOf, pixelAtOf, pixelsOf}
 use Rattle.detector.proofs.Along.{index-in, index-most}
 
@@ -71,20 +71,19 @@ pub passed-grid : (d : Detector2D) (place : ℕ) → checkDetectorOf d place ≡
 unfolding checkDetectorOf checkGridOf
 passed-grid d place e = size (isSizeOf (d .«width_mm») && isSizeOf (d .«height_mm»)) e
   where
-    grid : (zx zy lx ly p : Bool) → eqb (d .«res_x») 0 ≡ zx → eqb (d .«res_y») 0 ≡ zy → leb (d .«res_x») maxRes ≡ lx → leb (d .«res_y») maxRes ≡ ly
-        → Passes {A = Unit {0}} (cond (zx || zy) (refusedAt 6 place) (cond (lx && ly) (cond p (refusedAt 8 place) (passed tt)) (refusedAt 7 place))) → Gridded d
+    grid : (zx zy lx ly : Bool) (pose : Checked Unit) → eqb (d .«res_x») 0 ≡ zx → eqb (d .«res_y») 0 ≡ zy → leb (d .«res_x») maxRes ≡ lx → leb (d .«res_y») maxRes ≡ ly
+        → Passes {A = Unit {0}} (cond (zx || zy) (refusedAt 6 place) (cond (lx && ly) pose (refusedAt 7 place))) → Gridded d
     grid true zy lx ly p a b c f t = absurd t
     grid false true lx ly p a b c f t = absurd t
     grid false false false ly p a b c f t = absurd t
     grid false false true false p a b c f t = absurd t
-    grid false false true true true a b c f t = absurd t
-    grid false false true true false a b c f t =
+    grid false false true true p a b c f t =
         let x = eqb-false (d .«res_x») 0 a in
         let y = eqb-false (d .«res_y») 0 b in
         record { some-x = omega arith; some-y = omega arith; most-x = leb-true _ _ c; most-y = leb-true _ _ f }
 
     size : (b : Bool) → cond b (checkGridOf d place) (refusedAt 5 place) ≡ passed tt → Gridded d
-    size true e = grid (eqb (d .«res_x») 0) (eqb (d .«res_y») 0) (leb (d .«res_x») maxRes) (leb (d .«res_y») maxRes) (isParallelOf (d .normal) (d .up)) refl refl refl refl (subst (λ c. Passes c) (sym e) tt)
+    size true e = grid (eqb (d .«res_x») 0) (eqb (d .«res_y») 0) (leb (d .«res_x») maxRes) (leb (d .«res_y») maxRes) (checkPoseOf d place) refl refl refl refl (subst (λ c. Passes c) (sym e) tt)
     size false e = never 5 place tt e
 
 -- a row and a column give a place in a grid

@@ -22,12 +22,15 @@ maxRes = 4096
 unfoldable pub isParallelOf : Vec3 → Vec3 → Bool
 isParallelOf n u = lt (ofBits binary64 0x3fefff2e48e8a71e) (absOf (dotOf (normalizeOf n) (normalizeOf u)))
 
--- 6, 7, 8
+-- 8
+unfoldable pub checkPoseOf : Detector2D → ℕ → Checked Unit
+checkPoseOf d place = cond (isParallelOf (d .normal) (d .up)) (refusedAt 8 place) (passed tt)
+
+-- 6, 7, then the pose
 unfoldable pub checkGridOf : Detector2D → ℕ → Checked Unit
 checkGridOf d place =
     cond (eqb (d .«res_x») 0 || eqb (d .«res_y») 0) (refusedAt 6 place)
-    (cond (leb (d .«res_x») maxRes && leb (d .«res_y») maxRes)
-    (cond (isParallelOf (d .normal) (d .up)) (refusedAt 8 place) (passed tt)) (refusedAt 7 place))
+    (cond (leb (d .«res_x») maxRes && leb (d .«res_y») maxRes) (checkPoseOf d place) (refusedAt 7 place))
 
 -- 5, then these
 unfoldable pub checkDetectorOf : Detector2D → ℕ → Checked Unit

@@ -5,7 +5,7 @@ use error::NonSeqError;
 use rays::Vec3;
 ghost use mathlib.Core.Path.{_≡_};
 ghost use Rattle.error.specs.Refusals.{asChecked};
-ghost use Rattle.detector.specs.Checks.{isSizeOf, isParallelOf, checkGridOf, checkDetectorOf, newDetectorOf, asDetector};
+ghost use Rattle.detector.specs.Checks.{isSizeOf, isParallelOf, checkPoseOf, checkGridOf, checkDetectorOf, newDetectorOf, asDetector};
 
 pub enum NewDetector {
     Made(Detector2D),
@@ -30,7 +30,20 @@ fn is_parallel(normal: Vec3, up: Vec3) -> bool
 }
 
 impl Detector2D {
-    // 6, 7 and 8, after the sizes.
+    // 8, after the grid.
+    fn check_pose(self, place: u32) -> Check
+        ensures { λ r. ⌜ asChecked r ≡ checkPoseOf self place ⌝ }
+    {
+        if is_parallel(self.normal, self.up) {
+            return Check::Refused {
+                error: NonSeqError::ParallelUp,
+                place,
+            };
+        }
+        Check::Passed
+    }
+
+    // 6 and 7, after the sizes, then the pose.
     fn check_grid(self, place: u32) -> Check
         ensures { λ r. ⌜ asChecked r ≡ checkGridOf self place ⌝ }
     {
@@ -48,13 +61,7 @@ impl Detector2D {
         }
         if self.res_x <= Detector2D::MAX_RES {
             if self.res_y <= Detector2D::MAX_RES {
-                if is_parallel(self.normal, self.up) {
-                    return Check::Refused {
-                        error: NonSeqError::ParallelUp,
-                        place,
-                    };
-                }
-                return Check::Passed;
+                return self.check_pose(place);
             }
         }
         Check::Refused {

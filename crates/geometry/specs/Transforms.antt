@@ -1,12 +1,12 @@
 -- Rays into a shape's own coordinates, normals back into the world. What can't be made is none.
-use lib.Ieee.{binary64, le, ofBits}
+use lib.Ieee.{le}
 use mathlib.Core.Bool.{cond}
 use mathlib.Core.Option.{Option, none, some}
 use Rattle.doubles.specs.Doubles.{isFiniteOf}
 use Rattle.error.specs.Refusals.{Answer, value, refusal}
 use Rattle.rays.specs.declared.vector.Vec3.{Vec3}
 use Rattle.rays.specs.declared.Ray.{Ray}
-use Rattle.rays.specs.Vectors.{normOf, divideOf}
+use Rattle.rays.specs.Vectors.{normOf, minLength, divideOf}
 use Rattle.rays.specs.Matrices.{transformPointOf, transformDirectionOf, transformNormalOf}
 use Rattle.rays.specs.Rays.{newRayOf}
 use Rattle.geometry.specs.declared.transform.Transform3D.{Transform3D}
@@ -26,7 +26,7 @@ asUnitVector unit.the-variants.Nothing = none
 unfoldable pub unitOf : Vec3 → Option Vec3
 unitOf v =
     let l = normOf v in
-    cond (le l (ofBits binary64 0x3cd203af9ee75616)) none (cond (isFiniteOf l) (some (divideOf v l)) none)
+    cond (le l minLength) none (cond (isFiniteOf l) (some (divideOf v l)) none)
 
 unfoldable pub madeRay : Answer Ray → Option Ray
 madeRay (value r) = some r

@@ -27,7 +27,7 @@ fn unit(v: Vec3) -> UnitVector
     ensures { λ r. ⌜ asUnitVector r ≡ unitOf v ⌝ }
 {
     let length = v.norm();
-    if length <= 1e-15 {
+    if length <= Vec3::MIN_LENGTH {
         return UnitVector::Nothing;
     }
     if doubles::is_finite(length) {

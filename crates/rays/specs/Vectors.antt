@@ -1,6 +1,6 @@
 -- Vectors of three doubles. Every sum goes left to right and starts at its first product.
 use mathlib.Core.Bool.{Bool, _&&_}
-use lib.Ieee.{Float, binary64, add, sub, mul, div, neg}
+use lib.Ieee.{Float, binary64, ofBits, add, sub, mul, div, neg}
 use Rattle.doubles.specs.Doubles.{isFiniteOf}
 use Rattle.doubles.specs.Root.{sqrtOf}
 use Rattle.rays.specs.declared.vector.Vec3.{Vec3}
@@ -38,6 +38,10 @@ negateOf a = vec3 (neg (a .x)) (neg (a .y)) (neg (a .z))
 -- the length: the root of the vector's dot product with itself
 unfoldable pub normOf : Vec3 → Float
 normOf a = sqrtOf (dotOf a a)
+
+-- 1e-15: a vector that is no longer has no direction
+abbrev pub minLength : Float
+minLength = ofBits binary64 0x3cd203af9ee75616
 
 -- each part divided by the length
 unfoldable pub normalizeOf : Vec3 → Vec3

@@ -11,6 +11,9 @@ pub struct Vec3 {
 }
 
 impl Vec3 {
+    // A vector that is no longer than this has no direction.
+    pub const MIN_LENGTH: f64 = 1e-15;
+
     pub fn dot(self, b: Vec3) -> f64
         ensures { λ r. ⌜ r ≡ dotOf self b ⌝ }
     {

@@ -9,7 +9,8 @@ use lib.Seq.{ext-getD, getD-take, getD-drop}
 use Rattle.detector.specs.declared.Detector2D.{Detector2D}
 use Rattle.detector.specs.declared.DetectorNo.{DetectorNo}
 use Rattle.detector.specs.declared.DetectorHit.{DetectorHit}
-use Rattle.detector.specs.Checks.{checkGridOf, checkDetectorOf}
+use Rattle.detector.specs.Checks.{checkDetectorOf}
+use Rattle.detector.proofs.Refused.{check-unseen}
 use Rattle.detector.specs.Faces.{faceOf}
 use Rattle.detector.specs.Pixels.{pixelsOf, pixelAtOf, areaOf, irradianceOf}
 use Rattle.detectors.specs.declared.Detectors.{Detectors}
@@ -34,8 +35,7 @@ unfolding pixelAtOf
 bare-pixel x y d = refl
 
 bare-check : (place : ℕ) (d : Detector2D) → checkDetectorOf (bareDetector d) place ≡ checkDetectorOf d place
-unfolding checkDetectorOf checkGridOf
-bare-check place d = refl
+bare-check place d = check-unseen d _ _ place
 
 bare-face : (d : Detector2D) → faceOf (bareDetector d) ≡ faceOf d
 unfolding faceOf

@@ -11,7 +11,8 @@ use Rattle.error.specs.Refusals.{Checked, passed, refusedAt, after}
 use Rattle.rays.specs.Rays.{isValidRayOf}
 use Rattle.scene.specs.Solids.{tagsFitOf, checkTagsOf, checkSolidsOf}
 use Rattle.detector.specs.declared.Detector2D.{Detector2D}
-use Rattle.detector.specs.Checks.{maxRes, isSizeOf, isParallelOf, checkGridOf, checkDetectorOf}
+use Rattle.detector.specs.Checks.{checkDetectorOf}
+use Rattle.detector.proofs.Refused.{by-check}
 use Rattle.detectors.specs.declared.Detectors.{Detectors}
 use Rattle.detectors.specs.Detectors.{maxDetectors, detectorAt, checkCountOf, checkListOf, checkEachOf}
 use Rattle.memory.specs.Memory.{Memory, areLengthsOf}
@@ -67,12 +68,8 @@ unfolding checkCountsOf checkCountOf
 counts-early solids rays detectors = if-early (leb solids 32 && leb rays 4096) _ _ (if-early (leb detectors maxDetectors) _ _ well (bad 3 0 refl)) (bad 3 0 refl)
 
 detector-early : (d : Detector2D) (place : ℕ) → early (checkDetectorOf d place) ≡ true
-unfolding checkDetectorOf checkGridOf
 detector-early d place =
-    if-early (isSizeOf (d .«width_mm») && isSizeOf (d .«height_mm»)) _ _
-    (if-early (eqb (d .«res_x») 0 || eqb (d .«res_y») 0) _ _ (bad 6 place refl)
-    (if-early (leb (d .«res_x») maxRes && leb (d .«res_y») maxRes) _ _ (if-early (isParallelOf (d .normal) (d .up)) _ _ (bad 8 place refl) well) (bad 7 place refl)))
-    (bad 5 place refl)
+    by-check (λ c. early c ≡ true) d place (bad 5 place refl) (bad 6 place refl) (bad 7 place refl) (bad 8 place refl) well
 
 from-early : (l : List Detector2D) (n i : ℕ) → early (checkListOf l n i) ≡ true
 unfolding checkListOf
