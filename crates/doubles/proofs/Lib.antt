@@ -1,4 +1,5 @@
 pub mod Floats
+pub mod Finite
 pub mod Small
 pub mod Squares
 pub mod Whole

@@ -13,8 +13,9 @@ use lib.Ieee.Fits.{up-pos, down-pos}
 use lib.Ieee.Order.{round-mono}
 use lib.Ieee.Positive.{positive}
 use Rattle.doubles.proofs.Floats.{clash}
+use Rattle.doubles.proofs.Finite.{Finite, root-of-finite, sum-of-finite}
 use Rattle.doubles.specs.Doubles.{absOf, isFiniteOf}
-use Rattle.doubles.specs.Root.{sqrtOf, sqrtIn}
+use Rattle.doubles.specs.Root.{sqrtOf}
 use Rattle.error.specs.Refusals.{value, refusal}
 use Rattle.rays.specs.declared.vector.Vec3.{Vec3}
 use Rattle.rays.specs.declared.Ray.{Ray}
@@ -25,30 +26,7 @@ use Rattle.geometry.specs.Transforms.{asUnitVector, unitOf, madeRay}
 use Rattle.geometry.specs.Contacts.{rayBy, rayFromOf}
 use Rattle.geometry.proofs.Signs.{Signed, round-signed, abs-round, length-positive, suc-not-zero, cond-no}
 
-abbrev Finite : Float → Type 0
-Finite x = isFiniteOf x ≡ true
-
--- ---- what a finite root, sum or product is made of
-
-root-of-finite : (x : Float) → Finite (sqrtOf x) → Finite x
-unfolding sqrtOf sqrtIn isFiniteOf
-root-of-finite nan h = h
-root-of-finite (inf true) h = h
-root-of-finite (inf false) h = h
-root-of-finite (fin s m e) h = refl
-
-sum-of-finite : (x y : Float) → Finite (add binary64 x y) → Finite x × Finite y
-unfolding add isFiniteOf
-sum-of-finite nan y h = absurd (clash (sym h))
-sum-of-finite (inf s) nan h = absurd (clash (sym h))
-sum-of-finite (inf true) (inf true) h = absurd (clash (sym h))
-sum-of-finite (inf true) (inf false) h = absurd (clash (sym h))
-sum-of-finite (inf false) (inf true) h = absurd (clash (sym h))
-sum-of-finite (inf false) (inf false) h = absurd (clash (sym h))
-sum-of-finite (inf s) (fin t n d) h = absurd (clash (sym h))
-sum-of-finite (fin s m e) nan h = absurd (clash (sym h))
-sum-of-finite (fin s m e) (inf t) h = absurd (clash (sym h))
-sum-of-finite (fin s m e) (fin t n d) h = (refl, refl)
+-- ---- what a finite product is made of
 
 -- below 2 ^ 512 in size
 abbrev Modest : Float → Type 0
