@@ -1,4 +1,5 @@
--- What a detector is refused for: document 01, "When it says no", 5 to 8.
+-- What a detector is refused for: document 01, "When it says no", 5 to 8, and document 02 (c), 18. The order is 5, 6,
+-- 7, 18, 8.
 use Prim.Native.Nat.{ℕ}
 use mathlib.Core.Bool.{Bool, cond, _&&_, _||_}
 use lib.Dec.{eqb, leb}
@@ -6,7 +7,7 @@ use lib.Ieee.{Float, binary64, ofBits, lt}
 use Rattle.doubles.specs.Doubles.{absOf, isFiniteOf}
 use Rattle.error.specs.Refusals.{numberOf, Checked, passed, refusedAt, after}
 use Rattle.rays.specs.declared.vector.Vec3.{Vec3}
-use Rattle.rays.specs.Vectors.{dotOf, normalizeOf}
+use Rattle.rays.specs.Vectors.{dotOf, hasDirectionOf, normalizeOf, isFiniteVecOf}
 use Rattle.detector.specs.declared.Detector2D.{Detector2D}
 use Rattle.detector.specs.declared.checks.NewDetector.{NewDetector}
 use Rattle.detector.specs.declared.checks.NewDetector.the-variants.{Made, Refused}
@@ -18,13 +19,20 @@ isSizeOf x = lt (ofBits binary64 0) x && isFiniteOf x
 abbrev pub maxRes : ℕ
 maxRes = 4096
 
--- unit normal dot unit up beyond 0.9999 in size; a NaN is not beyond
+-- the centre, normal and up of a detector that faces somewhere: every part is finite, and normal and up are longer than
+-- 1e-15 and of finite length
+unfoldable pub isPoseOf : Vec3 → Vec3 → Vec3 → Bool
+isPoseOf c n u = isFiniteVecOf c && isFiniteVecOf n && isFiniteVecOf u && hasDirectionOf n && hasDirectionOf u
+
+-- unit normal dot unit up beyond 0.9999 in size
 unfoldable pub isParallelOf : Vec3 → Vec3 → Bool
 isParallelOf n u = lt (ofBits binary64 0x3fefff2e48e8a71e) (absOf (dotOf (normalizeOf n) (normalizeOf u)))
 
--- 8
+-- 18, 8
 unfoldable pub checkPoseOf : Detector2D → ℕ → Checked Unit
-checkPoseOf d place = cond (isParallelOf (d .normal) (d .up)) (refusedAt 8 place) (passed tt)
+checkPoseOf d place =
+    cond (isPoseOf (d .center) (d .normal) (d .up))
+    (cond (isParallelOf (d .normal) (d .up)) (refusedAt 8 place) (passed tt)) (refusedAt 18 place)
 
 -- 6, 7, then the pose
 unfoldable pub checkGridOf : Detector2D → ℕ → Checked Unit

@@ -63,7 +63,7 @@ abbrev pub asCrossing : Crossed → Option Crossing
 asCrossing (At c) = some c
 asCrossing Miss = none
 
--- 5 to 8, then 10, then the crossing
+-- 5 to 8 and 18, then 10, then the crossing
 unfoldable pub intersectRayOf : Detector2D → Ray → Checked (Option Crossing)
 intersectRayOf d r =
     after (checkDetectorOf d 0) (cond (isValidRayOf r) (passed (faceIntersectRayOf (faceOf d) r)) (refusedAt 10 0))

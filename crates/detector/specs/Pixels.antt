@@ -43,7 +43,7 @@ areaOf d =
     mul binary64 (div binary64 (mul binary64 (d .«width_mm») metres) (real (d .«res_x»)))
     (div binary64 (mul binary64 (d .«height_mm») metres) (real (d .«res_y»)))
 
--- 5 to 8, then the area
+-- 5 to 8 and 18, then the area
 unfoldable pub pixelAreaM2Of : Detector2D → Checked Float
 pixelAreaM2Of d = after (checkDetectorOf d 0) (passed (areaOf d))
 

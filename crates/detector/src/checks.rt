@@ -1,11 +1,11 @@
-// What a detector is refused for (5 to 8), and the constructor.
+// What a detector is refused for (5, 6, 7, 18, 8 in this order), and the constructor.
 use crate::Detector2D;
 use error::Check;
 use error::NonSeqError;
 use rays::Vec3;
 ghost use mathlib.Core.Path.{_≡_};
 ghost use Rattle.error.specs.Refusals.{asChecked};
-ghost use Rattle.detector.specs.Checks.{isSizeOf, isParallelOf, checkPoseOf, checkGridOf, checkDetectorOf, newDetectorOf, asDetector};
+ghost use Rattle.detector.specs.Checks.{isSizeOf, isPoseOf, isParallelOf, checkPoseOf, checkGridOf, checkDetectorOf, newDetectorOf, asDetector};
 
 pub enum NewDetector {
     Made(Detector2D),
@@ -22,7 +22,18 @@ fn is_size(x: f64) -> bool
     false
 }
 
-// Whether the unit vectors' dot product is beyond 0.9999 in size. Where it is NaN it is not.
+// Whether all parts are finite, and normal and up have a direction.
+fn is_pose(center: Vec3, normal: Vec3, up: Vec3) -> bool
+    ensures { λ r. ⌜ r ≡ isPoseOf center normal up ⌝ }
+{
+    center.is_finite()
+        & normal.is_finite()
+        & up.is_finite()
+        & normal.has_direction()
+        & up.has_direction()
+}
+
+// Whether the unit vectors' dot product is beyond 0.9999 in size.
 fn is_parallel(normal: Vec3, up: Vec3) -> bool
     ensures { λ r. ⌜ r ≡ isParallelOf normal up ⌝ }
 {
@@ -30,17 +41,23 @@ fn is_parallel(normal: Vec3, up: Vec3) -> bool
 }
 
 impl Detector2D {
-    // 8, after the grid.
+    // 18, then 8, after the grid.
     fn check_pose(self, place: u32) -> Check
         ensures { λ r. ⌜ asChecked r ≡ checkPoseOf self place ⌝ }
     {
-        if is_parallel(self.normal, self.up) {
-            return Check::Refused {
-                error: NonSeqError::ParallelUp,
-                place,
-            };
+        if is_pose(self.center, self.normal, self.up) {
+            if is_parallel(self.normal, self.up) {
+                return Check::Refused {
+                    error: NonSeqError::ParallelUp,
+                    place,
+                };
+            }
+            return Check::Passed;
         }
-        Check::Passed
+        Check::Refused {
+            error: NonSeqError::InvalidDetectorPose,
+            place,
+        }
     }
 
     // 6 and 7, after the sizes, then the pose.
@@ -70,7 +87,7 @@ impl Detector2D {
         }
     }
 
-    // Whether this is a detector, as the one at a place in a list: 5, 6, 7, 8 in this order.
+    // Whether this is a detector, as the one at a place in a list: 5, 6, 7, 18, 8 in this order.
     pub fn check(self, place: u32) -> Check
         ensures { λ r. ⌜ asChecked r ≡ checkDetectorOf self place ⌝ }
     {

@@ -98,7 +98,7 @@ impl Detector2D {
         }
     }
 
-    // Where a ray crosses the detector. The detector is refused by 5 to 8, then the ray by 10.
+    // Where a ray crosses the detector. The detector is refused by 5 to 8 and 18, then the ray by 10.
     pub fn intersect_ray(self, ray: Ray) -> RayCrossing
         ensures { λ r. ⌜ asRayCrossing r ≡ intersectRayOf self ray ⌝ }
     {

@@ -52,7 +52,7 @@ impl Detector2D {
         pixel_w * pixel_h
     }
 
-    // The area of a pixel in square metres. The detector is refused by 5 to 8.
+    // The area of a pixel in square metres. The detector is refused by 5 to 8 and 18.
     pub fn pixel_area_m2(self) -> Reading
         ensures { λ r. ⌜ asReading r ≡ pixelAreaM2Of self ⌝ }
     {

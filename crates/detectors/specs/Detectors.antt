@@ -1,5 +1,5 @@
--- Up to 8 detectors: which of them, where its pixels start, and the refusals 3 and 5 to 8 of the list and 4 of an asked
--- one.
+-- Up to 8 detectors: which of them, where its pixels start, and the refusals 3, 5 to 8 and 18 of the list and 4 of an
+-- asked one.
 use Prim.Native.Nat.{ℕ, zero, suc, _+_}
 use mathlib.Core.Bool.{cond}
 use mathlib.Core.List.{List}
@@ -59,11 +59,11 @@ unfoldable pub checkListOf : List Detector2D → ℕ → ℕ → Checked Unit
 checkListOf l zero i = passed tt
 checkListOf l (suc n) i = after (checkDetectorOf (detectorAt l i) i) (checkListOf l n (i + 1))
 
--- 5 to 8 of each; a list that 3 refuses has none
+-- 5 to 8 and 18 of each; a list that 3 refuses has none
 unfoldable pub checkEachOf : Detectors → Checked Unit
 checkEachOf ds = cond (leb (ds .count) maxDetectors) (checkListOf (ds .list) (ds .count) 0) (passed tt)
 
--- 3, then 5 to 8 of each
+-- 3, then 5 to 8 and 18 of each
 unfoldable pub checkDetectorsOf : Detectors → Checked Unit
 checkDetectorsOf ds = after (checkCountOf (ds .count)) (checkEachOf ds)
 

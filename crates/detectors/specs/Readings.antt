@@ -25,6 +25,6 @@ irradianceFrom ds flux px py (passed p) =
     cond (eqb (length flux) (allPixelsOf ds)) (passed (irradianceInOf p flux px py)) (refusedAt 9 0)
 irradianceFrom ds flux px py (refusedAt n place) = refusedAt n place
 
--- 3, 5 to 8, 4, 9, then the irradiance
+-- 3, 5 to 8 and 18, 4, 9, then the irradiance
 unfoldable pub irradianceAtOf : Detectors → DetectorNo → List Float → ℕ → ℕ → Checked Float
 irradianceAtOf ds d flux px py = irradianceFrom ds flux px py (findOf ds d)

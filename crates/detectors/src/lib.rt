@@ -38,7 +38,7 @@ pub enum Spot {
     Nowhere,
 }
 
-// The first detector that is refused, by 5 to 8.
+// The first detector that is refused, by 5 to 8 and 18.
 fn check_list(list: [Detector2D; MAX_DETECTORS], count: u32) -> Check
     requires { ⌜ count ≤ maxDetectors ⌝ }
     ensures { λ r. ⌜ asChecked r ≡ checkListOf list count 0 ⌝ }
@@ -90,7 +90,7 @@ impl Detectors {
         }
     }
 
-    // 5 to 8 of each in list order; none of a list that is refused by 3.
+    // 5 to 8 and 18 of each in list order; none of a list that is refused by 3.
     pub fn check_each(self) -> Check
         ensures { λ r. ⌜ asChecked r ≡ checkEachOf self ⌝ }
     {
@@ -101,7 +101,7 @@ impl Detectors {
         Check::Passed
     }
 
-    // 3, then 5 to 8 of each.
+    // 3, then 5 to 8 and 18 of each.
     pub fn check(self) -> Check
         ensures { λ r. ⌜ asChecked r ≡ checkDetectorsOf self ⌝ }
     {

@@ -27,7 +27,7 @@ fn irradiance_in(p: Placed, flux: &[f64], px: u32, py: u32) -> f64
 }
 
 // The irradiance of pixel (px, py) of the asked detector, in watts a square metre; 0 outside the
-// resolution and where a pixel's area is at most 0. Refused by 3, 5 to 8, 4 and 9.
+// resolution and where a pixel's area is at most 0. Refused by 3, 5 to 8 and 18, 4 and 9.
 pub fn irradiance_at(
     detectors: Detectors,
     asked: DetectorNo,

@@ -1,4 +1,4 @@
--- The numbers of document 01's refusals, and what a call answers in its terms.
+-- The numbers of the documents' refusals, and what a call answers in these terms.
 use Prim.Native.Nat.{ℕ}
 use Rattle.error.specs.declared.NonSeqError.{NonSeqError}
 use Rattle.error.specs.declared.Check.{Check}
@@ -8,9 +8,9 @@ use Rattle.error.specs.declared.NonSeqError.the-variants.{NoSuchDetector
 use Rattle.error.specs.declared.NonSeqError.the-variants.{ResolutionTooLarge, ParallelUp, InvalidSliceLength}
 use Rattle.error.specs.declared.NonSeqError.the-variants.{InvalidRay, InvalidMedia, HitListFull, HitCountFull}
 use Rattle.error.specs.declared.NonSeqError.the-variants.{InvalidWavelength, InvalidIndex, RayNotFinite}
-use Rattle.error.specs.declared.NonSeqError.the-variants.{InvalidSceneText}
+use Rattle.error.specs.declared.NonSeqError.the-variants.{InvalidSceneText, InvalidDetectorPose}
 
--- the table's first column
+-- the first column of document 01's table, and document 02's number
 abbrev pub numberOf : NonSeqError → ℕ
 numberOf InvalidThreshold = 1
 numberOf BounceLimitTooLarge = 2
@@ -29,6 +29,7 @@ numberOf InvalidWavelength = 14
 numberOf InvalidIndex = 15
 numberOf RayNotFinite = 16
 numberOf InvalidSceneText = 17
+numberOf InvalidDetectorPose = 18
 
 -- what a call without a place in a list answers: its value, or the number of the refusal
 pub data Answer (A : Type 0) : Type 0 where

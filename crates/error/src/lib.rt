@@ -1,4 +1,4 @@
-// The refusals (document 01, "When it says no"), after error.rs: one case for each number.
+// The refusals (document 01, "When it says no", and document 02), after error.rs: one case for each number.
 ghost use mathlib.Core.Path.{_≡_};
 ghost use Rattle.error.specs.Refusals.{numberOf};
 
@@ -37,10 +37,13 @@ pub enum NonSeqError {
     RayNotFinite,
     // 17: the scene is not as its format says
     InvalidSceneText,
+    // 18: a detector's centre, normal or up has a part that is not finite, or its normal or up a length that is at
+    // most 1e-15 or not finite
+    InvalidDetectorPose,
 }
 
 impl NonSeqError {
-    // Document 01's number.
+    // The documents' number.
     pub fn number(self) -> u32
         ensures { λ r. ⌜ r ≡ numberOf self ⌝ }
     {
@@ -62,6 +65,7 @@ impl NonSeqError {
             NonSeqError::InvalidIndex => 15,
             NonSeqError::RayNotFinite => 16,
             NonSeqError::InvalidSceneText => 17,
+            NonSeqError::InvalidDetectorPose => 18,
         }
     }
 }

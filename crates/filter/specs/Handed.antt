@@ -18,7 +18,7 @@ use Rattle.filter.specs.declared.calls.Filtered.{Filtered}
 use Rattle.filter.specs.Filters.{Map, isAllOf, passesOf, refillOf}
 use Rattle.doubles.specs.Doubles.{#0}
 
--- ---- the checks: 3, 5 to 8, 4, then 9, also for All
+-- ---- the checks: 3, 5 to 8 and 18, 4, then 9, also for All
 
 unfoldable pub checkPlaced : Detectors → ℕ → ℕ → ℕ → ℕ → ℕ → Checked Placed → Checked Placed
 checkPlaced ds stored work hitValues hitTags used (passed p) =

@@ -23,7 +23,7 @@ pub struct Filtered {
     pub hit_count: usize,
 }
 
-// The asked detector, by 3, 5 to 8 and 4; then 9 unless the stored map, the work map and the hit list have
+// The asked detector, by 3, 5 to 8 and 18, and 4; then 9 unless the stored map, the work map and the hit list have
 // these lengths.
 fn check_filter(
     detectors: Detectors,

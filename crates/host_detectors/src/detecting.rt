@@ -71,7 +71,7 @@ fn refused_crossing(refusal: u32, place: u32) -> HostCrossing
     }
 }
 
-// 5 to 8.
+// 5 to 8 and 18.
 #[no_mangle]
 pub extern "C" fn nonseq_new_detector(
     center: Vec3,
@@ -99,7 +99,7 @@ pub extern "C" fn nonseq_new_detector(
     }
 }
 
-// 5 to 8 of one detector.
+// 5 to 8 and 18 of one detector.
 #[no_mangle]
 pub extern "C" fn nonseq_check_detector(detector: Detector2D) -> HostChecked
     ensures { λ r. ⌜ r ≡ checkedOf (checkDetectorOf detector 0) ⌝ }
@@ -107,7 +107,7 @@ pub extern "C" fn nonseq_check_detector(detector: Detector2D) -> HostChecked
     host_numbers::checked(detector.check(0))
 }
 
-// 3, then 5 to 8 of each.
+// 3, then 5 to 8 and 18 of each.
 #[no_mangle]
 pub extern "C" fn nonseq_check_detectors(detectors: Detectors) -> HostChecked
     ensures { λ r. ⌜ r ≡ checkedOf (checkDetectorsOf detectors) ⌝ }
@@ -115,7 +115,7 @@ pub extern "C" fn nonseq_check_detectors(detectors: Detectors) -> HostChecked
     host_numbers::checked(detectors.check())
 }
 
-// Where a ray crosses a detector: 5 to 8, then 10.
+// Where a ray crosses a detector: 5 to 8 and 18, then 10.
 #[no_mangle]
 pub extern "C" fn nonseq_intersect_ray(detector: Detector2D, ray: Ray) -> HostCrossing
     ensures { λ r. ⌜ r ≡ crossingFrom (intersectRayOf detector ray) ⌝ }
@@ -143,7 +143,7 @@ pub extern "C" fn nonseq_intersect_ray(detector: Detector2D, ray: Ray) -> HostCr
     }
 }
 
-// The area of a pixel in square metres: 5 to 8.
+// The area of a pixel in square metres: 5 to 8 and 18.
 #[no_mangle]
 pub extern "C" fn nonseq_pixel_area_m2(detector: Detector2D) -> HostReading
     ensures { λ r. ⌜ r ≡ readOf (pixelAreaM2Of detector) ⌝ }

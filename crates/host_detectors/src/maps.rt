@@ -42,7 +42,7 @@ pub struct HostPart {
     pub pixels: usize,
 }
 
-// 3, 5 to 8, 4 and 9 leave all as it is, and so do 12 and 13.
+// 3, 5 to 8 and 18, 4 and 9 leave all as it is, and so do 12 and 13.
 #[no_mangle]
 pub extern "C" fn nonseq_record_hit_classified(
     detectors: Detectors,
@@ -69,8 +69,8 @@ pub extern "C" fn nonseq_record_hit_classified(
 }
 
 // The work map zeroed and refilled with the hits of the asked detector that the filter lets through; All (0) leaves
-// it: its map is the stored one's part (`nonseq_pixels_of`). A filter over 4 is refused by 17, then 3, 5 to 8, 4, 9;
-// a refusal leaves the work map.
+// it: its map is the stored one's part (`nonseq_pixels_of`). A filter over 4 is refused by 17, then 3, 5 to 8 and 18,
+// 4, 9; a refusal leaves the work map.
 #[no_mangle]
 pub extern "C" fn nonseq_refilter(
     detectors: Detectors,
@@ -118,7 +118,7 @@ pub extern "C" fn nonseq_refilter(
     }
 }
 
-// Where the asked detector's pixels stand among those of all: 3, 5 to 8, 4.
+// Where the asked detector's pixels stand among those of all: 3, 5 to 8 and 18, 4.
 #[no_mangle]
 pub extern "C" fn nonseq_pixels_of(detectors: Detectors, asked: u32) -> HostPart
     ensures { λ r. ⌜ r ≡ partFrom (findOf detectors (record { 0 = asked })) ⌝ }
@@ -142,7 +142,7 @@ pub extern "C" fn nonseq_pixels_of(detectors: Detectors, asked: u32) -> HostPart
     }
 }
 
-// The irradiance of a pixel, in watts a square metre; 0 outside the resolution. 3, 5 to 8, 4, 9.
+// The irradiance of a pixel, in watts a square metre; 0 outside the resolution. 3, 5 to 8 and 18, 4, 9.
 #[no_mangle]
 pub extern "C" fn nonseq_irradiance_at(
     detectors: Detectors,

@@ -1,4 +1,4 @@
-// Refusals and readings in the numbers that hosts get. `refusal` is document 01's number, 0 for none, and `place` the
+// Refusals and readings in the numbers that hosts get. `refusal` is the documents' number, 0 for none, and `place` the
 // list place of what was refused.
 use detector::Reading;
 use error::Check;

@@ -47,7 +47,7 @@ putWholeOf buf t = cond (leb (length t) (length buf)) (putAll buf 0 t) (out buf 
 unfoldable pub isHeldOf : Detectors → ℕ → ℕ → ℕ → ℕ → Bool
 isHeldOf ds nf nv nt used = leb nf textPixels && (eqb nf (allPixelsOf ds) && isHitListOf nv nt used)
 
--- 3, 5 to 8, then 9
+-- 3, 5 to 8 and 18, then 9
 unfoldable pub checkHeldOf : Detectors → ℕ → ℕ → ℕ → ℕ → Checked Unit
 checkHeldOf ds nf nv nt used =
     after (checkDetectorsOf ds) (cond (isHeldOf ds nf nv nt used) (passed tt) (refusedAt 9 0))

@@ -116,7 +116,7 @@ fn is_held(
     false
 }
 
-// 3, 5 to 8, then 9.
+// 3, 5 to 8 and 18, then 9.
 fn check_held(
     detectors: Detectors,
     flux: usize,
@@ -217,8 +217,8 @@ fn put_checked(
 }
 
 // The answer of a tracing as text, whole, or nothing where it does not fit: its length, at most 131,072, is told
-// either way. A filter over 4 (17), detectors (3, 5 to 8), slices that are not theirs or more than 4,096 pixels (9)
-// are refused, and the buffer is left.
+// either way. A filter over 4 (17), detectors (3, 5 to 8 and 18), slices that are not theirs or more than 4,096 pixels
+// (9) are refused, and the buffer is left.
 #[no_mangle]
 pub extern "C" fn nonseq_put_answer(
     buf: &mut [u8],

@@ -197,7 +197,7 @@ abbrev pub unless : {A M : Type 0} → Checked A → M → Outcome M → Outcome
 unless (passed a) m o = o
 unless (refusedAt n place) m o = refused n place m
 
--- the call that is open to hosts: 3, 5 to 8, 4, 9, then 12 before 13
+-- the call that is open to hosts: 3, 5 to 8 and 18, 4, 9, then 12 before 13
 unfoldable pub recordHitClassifiedOf : Memory → DetectorHit → Outcome Memory
 recordHitClassifiedOf s h =
     unless (findOf (s .detectors) (h .detector)) s (cond (isMemory s) (recordOf s h) (refused 9 0 s))

@@ -171,7 +171,7 @@ pub fn are_lengths(
     false
 }
 
-// The recording that is open to hosts: 3, 5 to 8, 4 and 9 are judged first and leave all as it is, then
+// The recording that is open to hosts: 3, 5 to 8 and 18, 4 and 9 are judged first and leave all as it is, then
 // 12 and 13.
 pub fn record_hit_classified(
     detectors: Detectors,

@@ -1,6 +1,6 @@
 -- Vectors of three doubles. Every sum goes left to right and starts at its first product.
 use mathlib.Core.Bool.{Bool, _&&_}
-use lib.Ieee.{Float, binary64, ofBits, add, sub, mul, div, neg}
+use lib.Ieee.{Float, binary64, ofBits, add, sub, mul, div, neg, lt}
 use Rattle.doubles.specs.Doubles.{isFiniteOf}
 use Rattle.doubles.specs.Root.{sqrtOf}
 use Rattle.rays.specs.declared.vector.Vec3.{Vec3}
@@ -39,9 +39,13 @@ negateOf a = vec3 (neg (a .x)) (neg (a .y)) (neg (a .z))
 unfoldable pub normOf : Vec3 → Float
 normOf a = sqrtOf (dotOf a a)
 
--- 1e-15: a vector that is no longer has no direction
+-- 1e-15: a vector of at most this length has no direction
 abbrev pub minLength : Float
 minLength = ofBits binary64 0x3cd203af9ee75616
+
+-- a length above that and finite
+unfoldable pub hasDirectionOf : Vec3 → Bool
+hasDirectionOf a = lt minLength (normOf a) && isFiniteOf (normOf a)
 
 -- each part divided by the length
 unfoldable pub normalizeOf : Vec3 → Vec3

@@ -1,7 +1,7 @@
 // Vectors of three doubles.
 ghost use mathlib.Core.Path.{_≡_};
 ghost use mathlib.Core.Bool.{_&&_};
-ghost use Rattle.rays.specs.Vectors.{dotOf, crossOf, plusOf, minusOf, scaleOf, divideOf, negateOf, normOf, normalizeOf, isFiniteVecOf, isFiniteWithOf};
+ghost use Rattle.rays.specs.Vectors.{dotOf, crossOf, plusOf, minusOf, scaleOf, divideOf, negateOf, normOf, hasDirectionOf, normalizeOf, isFiniteVecOf, isFiniteWithOf};
 
 #[repr(C)]
 pub struct Vec3 {
@@ -11,7 +11,7 @@ pub struct Vec3 {
 }
 
 impl Vec3 {
-    // A vector that is no longer than this has no direction.
+    // A vector of at most this length has no direction.
     pub const MIN_LENGTH: f64 = 1e-15;
 
     pub fn dot(self, b: Vec3) -> f64
@@ -87,6 +87,17 @@ impl Vec3 {
         ensures { λ r. ⌜ r ≡ normOf self ⌝ }
     {
         doubles::sqrt(self.dot(self))
+    }
+
+    // Whether the length is above 1e-15 and finite.
+    pub fn has_direction(self) -> bool
+        ensures { λ r. ⌜ r ≡ hasDirectionOf self ⌝ }
+    {
+        let length = self.norm();
+        if length > Vec3::MIN_LENGTH {
+            return doubles::is_finite(length);
+        }
+        false
     }
 
     // Each part divided by the length.

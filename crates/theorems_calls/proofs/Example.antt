@@ -9,13 +9,13 @@ use Rattle.doubles.specs.Doubles.{absOf, clampOf, isFiniteOf, #0, #1, #4, #10}
 use Rattle.doubles.specs.Root.{sqrtOf}
 use Rattle.error.specs.Refusals.{passed}
 use Rattle.rays.specs.Rays.{atOf, isFiniteRayOf, isValidRayOf}
-use Rattle.rays.specs.Vectors.{vec3, dotOf, crossOf, plusOf, minusOf, scaleOf, divideOf, normOf, normalizeOf, isFiniteVecOf}
+use Rattle.rays.specs.Vectors.{vec3, dotOf, crossOf, plusOf, minusOf, scaleOf, divideOf, normOf, hasDirectionOf, normalizeOf, isFiniteVecOf}
 use Rattle.material.specs.declared.OpticalMedium.the-variants.{Air}
 use Rattle.nearest.specs.Nearest.{isNearerOf, nearerOf, nearestFrom, nearestAmong}
 use Rattle.scene.specs.Solids.{checkTagsOf, checkSolidsOf}
 use Rattle.scene.specs.Closest.{closestObjectOf}
 use Rattle.detector.specs.declared.Detector2D.{Detector2D}
-use Rattle.detector.specs.Checks.{isSizeOf, isParallelOf, checkPoseOf, checkGridOf, checkDetectorOf}
+use Rattle.detector.specs.Checks.{isSizeOf, isPoseOf, isParallelOf, checkPoseOf, checkGridOf, checkDetectorOf}
 use Rattle.detector.specs.Faces.{orthogonalOf, faceOf, acrossOf, faceIntersectRayOf}
 use Rattle.detector.specs.Pixels.{indexAlongOf, pixelsOf, pixelAtOf}
 use Rattle.detectors.specs.Detectors.{noDetector, detectorAt, firstPixelOf, allPixelsOf, checkListOf, checkDetectorsOf, checkCountOf, checkEachOf, checkAsked, placedOf, findOf}
@@ -123,11 +123,11 @@ abbrev pub calls : List Call
 calls = tracing batch ∷ recording recorded ∷ sifting ∷ tracing batch ∷ []
 
 one : bookGranted (bare memory) (wishIn (tracing batch)) [] ≡ done (traced ∷ [])
-unfolding granted wishIn bare runOn drive startOf emptyStackOf launchedOf launchedFrom givenAtOf readRayOf readMediaOf isLeft stepOn takenFrom loadOf takeStepOf interactOf nearestDetectorOf nearestAmong nearestFrom nearerOf isNearerOf sightFrom faceCountOf newFacesOf faceOf orthogonalOf faceIntersectRayOf acrossOf normalizeOf normOf dotOf crossOf minusOf plusOf scaleOf divideOf atOf closestObjectOf firstAheadOf meetsWith hitInOf refusalInOf stackAfter popped pushedIf plainHit judged cellIn cellOf placedOf firstPixelOf pixelsOf pixelAtOf indexAlongOf clampOf ofInt toUnsigned sharing capacity checkBatch checkTraceOf checkFlatOf checkSolidsOf checkTagsOf checkListsOf checkRulesOf checkConfigOf checkCountsOf checkSceneOf checksWith checkDetectorsOf checkCountOf checkEachOf checkListOf checkDetectorOf checkGridOf checkPoseOf isSizeOf isParallelOf checkLengthsOf areLengthsOf isHitListOf areHitsOf allPixelsOf isMemory findOf checkAsked checkRaysOf checkRayOf isValidRayOf validMediaOf allSolidsOf isFiniteRayOf isFiniteVecOf isFiniteOf absOf sqrtOf ofBits toBits add sub mul div neg lt le
+unfolding granted wishIn bare runOn drive startOf emptyStackOf launchedOf launchedFrom givenAtOf readRayOf readMediaOf isLeft stepOn takenFrom loadOf takeStepOf interactOf nearestDetectorOf nearestAmong nearestFrom nearerOf isNearerOf sightFrom faceCountOf newFacesOf faceOf orthogonalOf faceIntersectRayOf acrossOf normalizeOf normOf dotOf crossOf minusOf plusOf scaleOf divideOf atOf closestObjectOf firstAheadOf meetsWith hitInOf refusalInOf stackAfter popped pushedIf plainHit judged cellIn cellOf placedOf firstPixelOf pixelsOf pixelAtOf indexAlongOf clampOf ofInt toUnsigned sharing capacity checkBatch checkTraceOf checkFlatOf checkSolidsOf checkTagsOf checkListsOf checkRulesOf checkConfigOf checkCountsOf checkSceneOf checksWith checkDetectorsOf checkCountOf checkEachOf checkListOf checkDetectorOf checkGridOf checkPoseOf isSizeOf isPoseOf hasDirectionOf isParallelOf checkLengthsOf areLengthsOf isHitListOf areHitsOf allPixelsOf isMemory findOf checkAsked checkRaysOf checkRayOf isValidRayOf validMediaOf allSolidsOf isFiniteRayOf isFiniteVecOf isFiniteOf absOf sqrtOf ofBits toBits add sub mul div neg lt le
 one = refl
 
 two : bookGranted (bare memory) (wishIn (recording recorded)) (traced ∷ []) ≡ done (traced ∷ recorded ∷ [])
-unfolding granted wishIn checkHit bare checkAsked placedOf checkDetectorsOf checkCountOf checkEachOf checkListOf checkDetectorOf checkGridOf checkPoseOf isSizeOf isParallelOf isMemory areLengthsOf isHitListOf areHitsOf allPixelsOf firstPixelOf pixelsOf plainHit judged cellIn cellOf pixelAtOf indexAlongOf clampOf ofInt toUnsigned sharing capacity normalizeOf normOf dotOf divideOf isFiniteOf absOf sqrtOf ofBits toBits add sub mul div neg lt le
+unfolding granted wishIn checkHit bare checkAsked placedOf checkDetectorsOf checkCountOf checkEachOf checkListOf checkDetectorOf checkGridOf checkPoseOf isSizeOf isPoseOf hasDirectionOf isFiniteVecOf isParallelOf isMemory areLengthsOf isHitListOf areHitsOf allPixelsOf firstPixelOf pixelsOf plainHit judged cellIn cellOf pixelAtOf indexAlongOf clampOf ofInt toUnsigned sharing capacity normalizeOf normOf dotOf divideOf isFiniteOf absOf sqrtOf ofBits toBits add sub mul div neg lt le
 two = refl
 
 unasked : bookGranted (bare memory) (wishIn sifting) (traced ∷ recorded ∷ []) ≡ done (traced ∷ recorded ∷ [])
@@ -136,7 +136,7 @@ unasked = refl
 
 -- the last call ends because the list is full
 pub full : bookGranted (bare memory) (wishIn (tracing batch)) (traced ∷ recorded ∷ []) ≡ refused 12 0 (traced ∷ recorded ∷ [])
-unfolding granted wishIn bare runOn drive startOf emptyStackOf launchedOf launchedFrom givenAtOf readRayOf readMediaOf isLeft stepOn takenFrom loadOf takeStepOf interactOf nearestDetectorOf nearestAmong nearestFrom nearerOf isNearerOf sightFrom faceCountOf newFacesOf faceOf orthogonalOf faceIntersectRayOf acrossOf normalizeOf normOf dotOf crossOf minusOf plusOf scaleOf divideOf atOf closestObjectOf firstAheadOf meetsWith hitInOf refusalInOf stackAfter popped pushedIf plainHit judged cellIn cellOf placedOf firstPixelOf pixelsOf pixelAtOf indexAlongOf clampOf ofInt toUnsigned sharing capacity checkBatch checkTraceOf checkFlatOf checkSolidsOf checkTagsOf checkListsOf checkRulesOf checkConfigOf checkCountsOf checkSceneOf checksWith checkDetectorsOf checkCountOf checkEachOf checkListOf checkDetectorOf checkGridOf checkPoseOf isSizeOf isParallelOf checkLengthsOf areLengthsOf isHitListOf areHitsOf allPixelsOf isMemory findOf checkAsked checkRaysOf checkRayOf isValidRayOf validMediaOf allSolidsOf isFiniteRayOf isFiniteVecOf isFiniteOf absOf sqrtOf ofBits toBits add sub mul div neg lt le
+unfolding granted wishIn bare runOn drive startOf emptyStackOf launchedOf launchedFrom givenAtOf readRayOf readMediaOf isLeft stepOn takenFrom loadOf takeStepOf interactOf nearestDetectorOf nearestAmong nearestFrom nearerOf isNearerOf sightFrom faceCountOf newFacesOf faceOf orthogonalOf faceIntersectRayOf acrossOf normalizeOf normOf dotOf crossOf minusOf plusOf scaleOf divideOf atOf closestObjectOf firstAheadOf meetsWith hitInOf refusalInOf stackAfter popped pushedIf plainHit judged cellIn cellOf placedOf firstPixelOf pixelsOf pixelAtOf indexAlongOf clampOf ofInt toUnsigned sharing capacity checkBatch checkTraceOf checkFlatOf checkSolidsOf checkTagsOf checkListsOf checkRulesOf checkConfigOf checkCountsOf checkSceneOf checksWith checkDetectorsOf checkCountOf checkEachOf checkListOf checkDetectorOf checkGridOf checkPoseOf isSizeOf isPoseOf hasDirectionOf isParallelOf checkLengthsOf areLengthsOf isHitListOf areHitsOf allPixelsOf isMemory findOf checkAsked checkRaysOf checkRayOf isValidRayOf validMediaOf allSolidsOf isFiniteRayOf isFiniteVecOf isFiniteOf absOf sqrtOf ofBits toBits add sub mul div neg lt le
 full = refl
 
 -- the book has both hits
@@ -157,7 +157,7 @@ abbrev counting : Call
 counting = refilter (record { 0 = 0 }) All (replicate 4 #1)
 
 counted : bookAnswer (bare memory) counting (traced ∷ recorded ∷ []) ≡ filterSaid (handed (passed tt) (replicate 4 #1) #5 2)
-unfolding bookAnswer bookFiltered bookAsked bookView bare plusAll plusHit viewIn partIn checkFilterOf checkPlaced findOf checkAsked placedOf checkDetectorsOf checkCountOf checkEachOf checkListOf checkDetectorOf checkGridOf checkPoseOf isSizeOf isParallelOf isHitListOf areHitsOf allPixelsOf firstPixelOf pixelsOf pixelAtOf indexAlongOf clampOf ofInt toUnsigned normalizeOf normOf dotOf divideOf isFiniteOf absOf sqrtOf ofBits toBits add sub mul div neg lt le
+unfolding bookAnswer bookFiltered bookAsked bookView bare plusAll plusHit viewIn partIn checkFilterOf checkPlaced findOf checkAsked placedOf checkDetectorsOf checkCountOf checkEachOf checkListOf checkDetectorOf checkGridOf checkPoseOf isSizeOf isPoseOf hasDirectionOf isFiniteVecOf isParallelOf isHitListOf areHitsOf allPixelsOf firstPixelOf pixelsOf pixelAtOf indexAlongOf clampOf ofInt toUnsigned normalizeOf normOf dotOf divideOf isFiniteOf absOf sqrtOf ofBits toBits add sub mul div neg lt le
 counted = refl
 
 pub answer-example : answerIn counting (memoryAfter calls memory) ≡ filterSaid (handed (passed tt) (replicate 4 #1) #5 2)
@@ -183,11 +183,11 @@ unfolding joinedAll AllExact
 splits = record { exact = (exact #0, (exact #0, (record { rayValues = refl; rayTags = refl }, (exact #1, tt)))); whole = refl }
 
 passes : checkBatch three (roomFor 1) ≡ passed tt
-unfolding checkBatch checkTraceOf checkFlatOf checkSolidsOf checkTagsOf checkListsOf checkRulesOf checkConfigOf checkCountsOf checkSceneOf checksWith checkDetectorsOf checkCountOf checkEachOf checkListOf checkDetectorOf checkGridOf checkPoseOf isSizeOf isParallelOf checkLengthsOf areLengthsOf isHitListOf areHitsOf allPixelsOf firstPixelOf pixelsOf checkRaysOf checkRayOf givenAtOf readRayOf readMediaOf isValidRayOf validMediaOf allSolidsOf isFiniteRayOf isFiniteVecOf isFiniteOf absOf sqrtOf normalizeOf normOf dotOf divideOf ofBits toBits add sub mul div neg lt le
+unfolding checkBatch checkTraceOf checkFlatOf checkSolidsOf checkTagsOf checkListsOf checkRulesOf checkConfigOf checkCountsOf checkSceneOf checksWith checkDetectorsOf checkCountOf checkEachOf checkListOf checkDetectorOf checkGridOf checkPoseOf isSizeOf isPoseOf hasDirectionOf isParallelOf checkLengthsOf areLengthsOf isHitListOf areHitsOf allPixelsOf firstPixelOf pixelsOf checkRaysOf checkRayOf givenAtOf readRayOf readMediaOf isValidRayOf validMediaOf allSolidsOf isFiniteRayOf isFiniteVecOf isFiniteOf absOf sqrtOf normalizeOf normOf dotOf divideOf ofBits toBits add sub mul div neg lt le
 passes = refl
 
 refused-second : bookGranted (bare (roomFor 1)) (wishIn (tracing three)) [] ≡ refused 12 1 (traced ∷ [])
-unfolding granted wishIn bare runOn drive startOf emptyStackOf launchedOf launchedFrom givenAtOf readRayOf readMediaOf isLeft stepOn takenFrom loadOf takeStepOf interactOf nearestDetectorOf nearestAmong nearestFrom nearerOf isNearerOf sightFrom faceCountOf newFacesOf faceOf orthogonalOf faceIntersectRayOf acrossOf normalizeOf normOf dotOf crossOf minusOf plusOf scaleOf divideOf atOf closestObjectOf firstAheadOf meetsWith hitInOf refusalInOf stackAfter popped pushedIf plainHit judged cellIn cellOf placedOf firstPixelOf pixelsOf pixelAtOf indexAlongOf clampOf ofInt toUnsigned sharing capacity checkBatch checkTraceOf checkFlatOf checkSolidsOf checkTagsOf checkListsOf checkRulesOf checkConfigOf checkCountsOf checkSceneOf checksWith checkDetectorsOf checkCountOf checkEachOf checkListOf checkDetectorOf checkGridOf checkPoseOf isSizeOf isParallelOf checkLengthsOf areLengthsOf isHitListOf areHitsOf allPixelsOf isMemory findOf checkAsked checkRaysOf checkRayOf isValidRayOf validMediaOf allSolidsOf isFiniteRayOf isFiniteVecOf isFiniteOf absOf sqrtOf ofBits toBits add sub mul div neg lt le
+unfolding granted wishIn bare runOn drive startOf emptyStackOf launchedOf launchedFrom givenAtOf readRayOf readMediaOf isLeft stepOn takenFrom loadOf takeStepOf interactOf nearestDetectorOf nearestAmong nearestFrom nearerOf isNearerOf sightFrom faceCountOf newFacesOf faceOf orthogonalOf faceIntersectRayOf acrossOf normalizeOf normOf dotOf crossOf minusOf plusOf scaleOf divideOf atOf closestObjectOf firstAheadOf meetsWith hitInOf refusalInOf stackAfter popped pushedIf plainHit judged cellIn cellOf placedOf firstPixelOf pixelsOf pixelAtOf indexAlongOf clampOf ofInt toUnsigned sharing capacity checkBatch checkTraceOf checkFlatOf checkSolidsOf checkTagsOf checkListsOf checkRulesOf checkConfigOf checkCountsOf checkSceneOf checksWith checkDetectorsOf checkCountOf checkEachOf checkListOf checkDetectorOf checkGridOf checkPoseOf isSizeOf isPoseOf hasDirectionOf isParallelOf checkLengthsOf areLengthsOf isHitListOf areHitsOf allPixelsOf isMemory findOf checkAsked checkRaysOf checkRayOf isValidRayOf validMediaOf allSolidsOf isFiniteRayOf isFiniteVecOf isFiniteOf absOf sqrtOf ofBits toBits add sub mul div neg lt le
 refused-second = refl
 
 pub split-example : traceParts three parts (roomFor 1) ≡ refused 12 1 (added (roomFor 1) (traced ∷ []))

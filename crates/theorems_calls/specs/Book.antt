@@ -79,7 +79,7 @@ pub record Wish : Type 1 where
 unfoldable pub granted : {M : Type 0} → Wish → Memory → (M → DetectorHit → Outcome M) → M → Outcome M
 granted w s put m = unless (w .check s) m (w .write _ put (s .detectors) m)
 
--- a recording's: 3, 5 to 8, 4, then 9
+-- a recording's: 3, 5 to 8 and 18, 4, then 9
 unfoldable pub checkHit : DetectorHit → Memory → Checked Unit
 checkHit h s =
     after (checkAsked (s .detectors) (h .detector)) (cond (isMemory s) (passed tt) (refusedAt 9 0))

@@ -22,9 +22,9 @@ use Rattle.given_rays.specs.Given.{validMediaOf, checkListsOf, checkRayOf, chec
 use Rattle.trace.specs.Trace.{Batch, raysIn, checkFlatOf, checkConfigOf, checkCountsOf, checkLengthsOf, checkBatch}
 use Rattle.trace.proofs.Pieces.{of-all}
 
--- 1 to 11 and 17
+-- 1 to 11, 17 and 18
 abbrev pub isEarly : ℕ → Bool
-isEarly n = (leb 1 n && leb n 11) || eqb n 17
+isEarly n = (leb 1 n && leb n 11) || eqb n 17 || eqb n 18
 
 unfoldable early : Checked Unit → Bool
 early (passed u) = true
@@ -69,7 +69,7 @@ counts-early solids rays detectors = if-early (leb solids 32 && leb rays 4096) _
 
 detector-early : (d : Detector2D) (place : ℕ) → early (checkDetectorOf d place) ≡ true
 detector-early d place =
-    by-check (λ c. early c ≡ true) d place (bad 5 place refl) (bad 6 place refl) (bad 7 place refl) (bad 8 place refl) well
+    by-check (λ c. early c ≡ true) d place (bad 5 place refl) (bad 6 place refl) (bad 7 place refl) (bad 18 place refl) (bad 8 place refl) well
 
 from-early : (l : List Detector2D) (n i : ℕ) → early (checkListOf l n i) ≡ true
 unfolding checkListOf

@@ -71,7 +71,7 @@ checkCountsOf solids rays detectors =
 unfoldable pub checkRulesOf : NonSeqTraceConfig → ℕ → ℕ → ℕ → Checked Unit
 checkRulesOf g solids rays detectors = after (checkConfigOf g) (checkCountsOf solids rays detectors)
 
--- what comes before 9: 17, 1, 2, 3, then 5 to 8 of each detector
+-- what comes before 9: 17, 1, 2, 3, then 5 to 8 and 18 of each detector
 unfoldable pub checkSceneOf : Batch → Detectors → Checked Unit
 checkSceneOf B ds =
     after (checkFlatOf B) (after (checkRulesOf (B .config) (B .solids) (B .rays) (ds .count)) (checkEachOf ds))

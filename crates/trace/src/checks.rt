@@ -76,7 +76,8 @@ fn check_rules(config: NonSeqTraceConfig, count: u32, given: u32, detectors: u32
     }
 }
 
-// What comes before the memory's slices: the lists (17), the rules (1, 2), the numbers (3), each detector (5 to 8).
+// What comes before the memory's slices: the lists (17), the rules (1, 2), the numbers (3), each detector (5 to 8
+// and 18).
 fn check_scene(
     config: NonSeqTraceConfig,
     solid_values: &[f64],

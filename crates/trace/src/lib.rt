@@ -70,7 +70,7 @@ fn refused_before(error: NonSeqError, place: u32, detectors: Detectors, used: us
 
 // Traces `given` rays through `count` solids to the detectors, rays last to first. `solid_values` and
 // `solid_tags` are the solids, `ray_values` and `ray_tags` the given rays; `flux`, `hits`, `hit_values` and
-// `hit_tags` the memory. What is refused before the run changes nothing (17, 1, 2, 3, 5 to 8, 9, 10, 11);
+// `hit_tags` the memory. What is refused before the run changes nothing (17, 1, 2, 3, 5 to 8 and 18, 9, 10, 11);
 // what is refused in it (12 to 16) keeps the hits of the steps before.
 pub fn trace_rays(
     config: NonSeqTraceConfig,
