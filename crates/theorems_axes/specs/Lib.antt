@@ -1,0 +1,2 @@
+-- What is said of a detector's axes.
+pub mod Axes

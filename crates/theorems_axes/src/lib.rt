@@ -1,0 +1,1 @@
+// Theorems about a detector's axes.
