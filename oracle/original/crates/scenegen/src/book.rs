@@ -1,6 +1,7 @@
-//! The plain memory and what each call makes of it, written from document 01: detectors with their checks, recording,
-//! filters over the plain list of hits, readings, the texts of answers and refusals. What the original can say of one
-//! detector it says: where a ray crosses, which pixel a hit falls on, sums, filtered maps, areas, irradiance.
+//! The plain memory and what each call makes of it, written from document 01: detectors with their checks and document
+//! 02's 18, recording, filters over the plain list of hits, readings, the texts of answers and refusals. What the
+//! original can say of one detector it says: where a ray crosses, which pixel a hit falls on, sums, filtered maps,
+//! areas, irradiance.
 use super::script::Digest;
 use super::*;
 use optics_nonseq::detector::DetectorHit;
@@ -9,6 +10,8 @@ use optics_nonseq::detector::DetectorHit;
 pub type Refusal = (u32, usize);
 pub type Checked = Result<(), Refusal>;
 
+/// Refusals are numbered from 1 to this.
+pub const REFUSALS: usize = 18;
 pub const MOST_DETECTORS: u32 = 8;
 pub const MOST_RESOLUTION: u32 = 4096;
 pub const MOST_PIXELS: usize = 4096;
@@ -47,7 +50,8 @@ pub struct Face {
 }
 
 impl Face {
-    fn part(&self, k: usize) -> Vec3 {
+    /// Centre, normal or up, from value k on.
+    pub fn part(&self, k: usize) -> Vec3 {
         Vec3::new(self.values[k], self.values[k + 1], self.values[k + 2])
     }
     fn made(&self) -> Result<Detector2D, NonSeqError> {
@@ -58,6 +62,15 @@ impl Face {
     pub fn original(&self) -> Detector2D {
         self.made().unwrap()
     }
+    /// A part of centre, normal or up is not finite, or the length of normal or up is at most 1e-15 or not finite.
+    fn faces_nowhere(&self) -> bool {
+        let lengths = [3, 6].map(|k| self.part(k).norm());
+        self.values[..9].iter().any(|x| !x.is_finite()) || lengths.iter().any(|&l| l <= 1e-15 || !l.is_finite())
+    }
+    /// Normal times up, both of length 1.
+    pub fn slant(&self) -> f64 {
+        self.part(3).normalize().dot(&self.part(6).normalize())
+    }
     fn refusal(&self) -> u32 {
         let sizes = &self.values[9..];
         if sizes.iter().any(|&x| x <= 0.0 || !x.is_finite()) {
@@ -66,16 +79,20 @@ impl Face {
             6
         } else if self.tags.iter().any(|&n| n > MOST_RESOLUTION) {
             7
-        } else if self.part(3).normalize().dot(&self.part(6).normalize()).abs() > 0.9999 {
+        } else if self.faces_nowhere() {
+            18
+        } else if self.slant().abs() > 0.9999 {
             8
         } else {
+            assert!(!self.slant().is_nan());
             0
         }
     }
-    /// 5 to 8. The original knows all of them but 7.
+    /// 5, 6, 7, 18, 8. The original knows neither 7 nor 18; of a detector that 18 refuses it asks for 8 next.
     pub fn check(&self, place: usize) -> Checked {
         let n = self.refusal();
-        assert!(n == 7 || self.made().is_ok() == (n == 0));
+        let passes = n == 0 || n == 18 && !(self.slant().abs() > 0.9999);
+        assert!(n == 7 || self.made().is_ok() == passes);
         if n == 0 { Ok(()) } else { Err((n, place)) }
     }
     pub fn pixels(&self) -> usize {
@@ -110,7 +127,7 @@ pub struct Detectors {
 }
 
 impl Detectors {
-    /// 3, then 5 to 8 of each.
+    /// 3, then 5 to 8 and 18 of each.
     pub fn check(&self) -> Checked {
         if self.said > MOST_DETECTORS { return Err((3, 0)); }
         self.there().iter().enumerate().try_for_each(|(i, f)| f.check(i))
@@ -238,7 +255,7 @@ impl Memory {
         self.used += 1;
         Ok(())
     }
-    /// 3, 5 to 8, 4, 9, 12, 13.
+    /// 3, 5 to 8 and 18, 4, 9, 12, 13.
     pub fn record(&mut self, dets: &Detectors, h: &Hit) -> Checked {
         dets.check_asked(h.tags[0])?;
         self.check_lengths(dets, true)?;
@@ -268,7 +285,7 @@ impl Memory {
         o.hits = self.list().iter().filter(|h| h.tags[0] as usize == d).map(plain).collect();
         o.filtered_pixel_flux(FILTERS[filter])
     }
-    /// 17, 3, 5 to 8, 4, 9; total and count, and the work map refilled for all filters but All.
+    /// 17, 3, 5 to 8 and 18, 4, 9; total and count, and the work map refilled for all filters but All.
     pub fn refilter(&self, dets: &Detectors, d: u32, filter: u32, work: &mut Vec<f64>) -> Result<(f64, usize), Refusal> {
         if filter > 4 { return Err((17, 0)); }
         dets.check_asked(d)?;
@@ -278,13 +295,13 @@ impl Memory {
         if filter > 0 { *work = map; }
         Ok((total, count))
     }
-    /// 3, 5 to 8, 4, 9 for the flux alone.
+    /// 3, 5 to 8 and 18, 4, 9 for the flux alone.
     pub fn irradiance(&self, dets: &Detectors, d: u32, px: u32, py: u32) -> Result<f64, Refusal> {
         dets.check_asked(d)?;
         if self.flux.len() != dets.pixels() { return Err((9, 0)); }
         Ok(self.loaded(dets, d as usize).irradiance_at(px as usize, py as usize))
     }
-    /// 17, 3, 5 to 8, 9; the text of an answer, none where the report is not known.
+    /// 17, 3, 5 to 8 and 18, 9; the text of an answer, none where the report is not known.
     pub fn answer(&self, dets: &Detectors, report: &Report, filter: u32) -> Result<Option<String>, Refusal> {
         if filter > 4 { return Err((17, 0)); }
         dets.check()?;

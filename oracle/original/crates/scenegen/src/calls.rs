@@ -1,6 +1,6 @@
 //! Lists of calls on one memory, from the empty one: batches whole, and the same batches in parts, last part first and
-//! empty ones included, on a script of their own, with recordings, filters, readings and answers between, and every
-//! refusal. What a refused call needs is set before it and set back behind it. The memory's digest stands behind every
+//! empty ones included, on a script of their own, with recordings, filters, readings and answers between, and refusals.
+//! What a refused call needs is set before it and set back behind it. The memory's digest stands behind every
 //! call that may write.
 use super::book::{Hit, Refusal};
 use super::plans::{plan, STYLES};
@@ -173,7 +173,7 @@ fn too_many(st: &mut Stage, s: &mut Sm) {
     }
 }
 
-/// 5 to 8 of some detector, by a call for all or for that one.
+/// 5 to 8 or 18 of some detector, by a call for all or for that one.
 fn bad_face(st: &mut Stage, s: &mut Sm, n: u32) {
     let d = any_face(st, s);
     let alone = s.chance(0.3);
@@ -183,6 +183,15 @@ fn bad_face(st: &mut Stage, s: &mut Sm, n: u32) {
         5 => with_double(st, "detector_values", 11 * d + 9 + k, s.pick(&[0.0, -1.0, f64::NAN, f64::INFINITY, -0.0]), |st| call(st, s)),
         6 => with_whole(st, "detector_tags", 2 * d + k, 0, |st| call(st, s)),
         7 => with_whole(st, "detector_tags", 2 * d + k, s.pick(&[4097, u32::MAX]), |st| call(st, s)),
+        18 => {
+            let old = st.lists.detector_values.clone();
+            let mut turned = old.clone();
+            turned[11 * d..11 * d + 11].copy_from_slice(&nowhere::refused(s, &st.face(d)).values);
+            st.change("detector_values", &turned);
+            call(st, s);
+            st.memory();
+            st.change("detector_values", &old);
+        }
         _ => {
             let n = 11 * d + 3;
             let old: Vec<f64> = (0..3).map(|k| st.set("detector_values", n + k, st.lists.detector_values[n + 3 + k] * 2.0)).collect();
@@ -310,7 +319,7 @@ fn refused(st: &mut Stage, s: &mut Sm, n: u32) {
         2 => with_whole(st, "run_tags", 0, s.pick(&[17, 18, u32::MAX]), trace_all),
         3 => too_many(st, s),
         4 => asks_beyond(st, s),
-        5..=8 => bad_face(st, s, n),
+        5..=8 | 18 => bad_face(st, s, n),
         9 => bad_length(st, s),
         10 => bad_ray(st, s),
         11 => bad_media(st, s),
@@ -355,11 +364,15 @@ fn brought(p: &Plan) -> Option<usize> {
     (n <= 60).then_some(n)
 }
 
-/// What lists are made on: how their names start, and their scenes.
+/// What lists are made on: how their names start, their scenes, and the refusals that they have in turn.
 pub struct Source {
     pub name: &'static str,
     pub plan: fn(&mut Sm, usize) -> Plan,
+    pub refusals: &'static [u32],
 }
+
+/// Document 01's.
+pub const NUMBERS: [u32; 17] = [1, 2, 3, 4, 5, 6, 7, 8, 9, 10, 11, 12, 13, 14, 15, 16, 17];
 
 fn scene(s: &mut Sm, from: &Source, style: usize) -> (Plan, usize) {
     loop {
@@ -499,7 +512,7 @@ fn list(s: &mut Sm, from: &Source, k: usize, style: usize, wanted: u32) -> Vec<S
     let done = try_refused(&mut st, s, wanted);
     while st.calls() < long {
         if s.chance(0.45) { writes(&mut st, s) } else { quiet(&mut st, s) }
-        if s.chance(0.25) { let n = 1 + s.n(17) as u32; try_refused(&mut st, s, n); }
+        if s.chance(0.25) { let n = s.pick(from.refusals); try_refused(&mut st, s, n); }
     }
     if !done { try_refused(&mut st, s, wanted); }
     if st.calls() < 14 { st.memory(); }
@@ -523,20 +536,20 @@ pub fn lists(s: &mut Sm, from: &Source, lists: usize) -> (Vec<Stage>, Split) {
     let (mut all, mut split, mut k) = (Vec::new(), Split::default(), 0);
     while all.len() < lists {
         k += 1;
-        let wanted = 1 + (k as u32 % 17);
+        let wanted = from.refusals[k % from.refusals.len()];
         let style = style_for(s, if k % 3 == 0 { 1 } else { wanted });
         all.extend(if k % 3 == 0 { pair(s, from, k, style, &mut split) } else { list(s, from, k, style, wanted) });
     }
     (all, split)
 }
 
-/// The scripts, and a table of what they have. Every refusal comes, hits stay where a run is refused, and batches in
-/// parts are refused behind a part that passed.
+/// The scripts, and a table of what they have. Every refusal of document 01 comes, hits stay where a run is refused, and
+/// batches in parts are refused behind a part that passed.
 pub fn calls(seed: u64) -> (Vec<Script>, String) {
-    let (all, split) = lists(&mut Sm(seed), &Source { name: "", plan }, LISTS);
+    let (all, split) = lists(&mut Sm(seed), &Source { name: "", plan, refusals: &NUMBERS }, LISTS);
     let sum = Tally::of(&all);
     assert!(all.iter().all(|st| (5..15).contains(&st.calls())));
-    assert!(sum.refused[1..].iter().all(|&n| n >= LEAST) && sum.kept >= LEAST);
+    assert!(NUMBERS.iter().all(|&n| sum.refused[n as usize] >= LEAST) && sum.kept >= LEAST);
     assert!(split.pairs == LISTS / 4 && split.parts >= 2 * split.pairs && split.empty >= LEAST_EMPTY && split.later >= LEAST_LATER);
     (all.iter().map(Stage::script).collect(), sum.table("lists of calls", &all) + &split.rows())
 }

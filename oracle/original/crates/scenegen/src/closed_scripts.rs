@@ -1,6 +1,6 @@
 //! Scripts about document 02's closed cylinder: small scenes, lists of calls, batches whole and in parts, and limits:
 //! the numbers of shapes, ends that fall together, rims, odd sizes, short ways to an end.
-use super::calls::Source;
+use super::calls::{Source, NUMBERS};
 use super::edges::{again, all, beam, face_at, moved, ready, with};
 use super::plans::closed_plan;
 use super::script::Script;
@@ -144,7 +144,7 @@ const ABOUT: About = About {
     kind: &scenes::CLOSED,
     scenes: SCENES,
     least: &[("sides of closed cylinders", 20), ("ends of closed cylinders", 20), ("closed mirrors", 3), ("closed absorbers", 3)],
-    source: Source { name: "closed_", plan: closed_plan },
+    source: Source { name: "closed_", plan: closed_plan, refusals: &NUMBERS },
     lists: LISTS,
 };
 

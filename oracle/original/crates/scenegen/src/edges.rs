@@ -26,7 +26,7 @@ pub fn beam(x: f64, y: f64, z: f64, way: f64, power: f64) -> Beam {
 }
 
 /// A slab between two detectors, another one beside them, and rays both ways.
-fn lit() -> Plan {
+pub fn lit() -> Plan {
     let mut p = Plan::new(vec![face_at(10.0, 2, 2), face_at(-6.0, 3, 1)]);
     p.threshold = 1e-3;
     p.solids = vec![slab(0.0, 4.0, 1.5), slab(20.0, 4.0, 2.0)];
@@ -217,7 +217,7 @@ fn solid_numbers() -> Vec<Stage> {
 
 /// A reason to refuse.
 #[derive(Clone, Copy)]
-enum Fault {
+pub enum Fault {
     Double(&'static str, usize, f64),
     Whole(&'static str, usize, u32),
     Detectors(u32),
@@ -226,7 +226,7 @@ enum Fault {
 
 impl Fault {
     /// Makes it, and answers what unmakes it.
-    fn make(self, st: &mut Stage) -> Fault {
+    pub fn make(self, st: &mut Stage) -> Fault {
         match self {
             Fault::Double(slice, i, x) => Fault::Double(slice, i, st.set(slice, i, x)),
             Fault::Whole(slice, i, n) => Fault::Whole(slice, i, st.set_whole(slice, i, n)),
@@ -237,7 +237,7 @@ impl Fault {
 }
 
 /// In document 01's order, for the scene above.
-const FAULTS: [Fault; 18] = [
+pub const FAULTS: [Fault; 18] = [
     Fault::Whole("run_tags", 2, 4),
     Fault::Whole("solid_tags", 4, 6),
     Fault::Double("run_values", 0, -1.0),
@@ -276,7 +276,7 @@ fn orders() -> Vec<Stage> {
     vec![st, orders_in_others()]
 }
 
-fn others(st: &mut Stage) {
+pub fn others(st: &mut Stage) {
     st.check_all();
     st.record(&hit(0, 0.0, 0.0, 1.5));
     st.refilter(1, 4, 3);

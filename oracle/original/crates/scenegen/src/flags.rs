@@ -3,14 +3,15 @@ use super::book::Memory;
 use super::stage::Stage;
 use super::*;
 
-pub const KINDS: usize = 42;
+pub const KINDS: usize = 47;
 pub const FLAGS: [&str; KINDS] = [
     "nested media", "total reflections", "chains of total reflections", "mirrors", "mirrors at the threshold", "mirrors just above it", "mirrors just below it", "absorbers",
     "several detectors hit", "given bounces", "threshold 0", "threshold above 0", "scaled solids", "planes", "disks", "spheres",
     "cylinders", "boxes", "closed cylinders", "air", "constant indices", "Sellmeier indices", "Schott indices", "memory used before", "hit list filled to its end",
     "weak rays", "dim rays", "spent rays", "escaped rays", "inactive solids", "all tallies known", "refused and all powers known", "two reasons to refuse",
     "sides of closed cylinders", "ends of closed cylinders", "closed mirrors", "closed absorbers", "dropped rays", "drops whose order shows",
-    "lost 0 with dropped rays", "lost NaN", "refused with something lost",
+    "lost 0 with dropped rays", "lost NaN", "refused with something lost", "detectors facing nowhere", "hits by short normals or ups", "hits by long normals or ups",
+    "hits by ups almost along the normal", "hits by lengths at a limit",
 ];
 
 #[derive(Clone)]
@@ -22,10 +23,12 @@ impl Flags {
         let mut f = Flags([false; KINDS]);
         f.set("threshold 0", c.threshold == 0.0);
         f.set("threshold above 0", c.threshold > 0.0);
+        f.set("detectors facing nowhere", matches!(after.last, Err((18, _))));
         match after.last {
             Ok(()) => {
                 f.met(c);
                 f.filled(before, &after.memory);
+                f.facing(after, before.used as usize);
                 f.reported(after);
             }
             Err((12..=16, i)) => {
@@ -56,6 +59,18 @@ impl Flags {
         let hit: Vec<u32> = after.list()[before.used as usize..].iter().map(|h| h.tags[0]).collect();
         self.set("several detectors hit", hit.iter().any(|&d| d != hit[0]));
         self.set("hit list filled to its end", !hit.is_empty() && 4 * after.used == after.hit_values.len() as u64);
+    }
+
+    /// The normals and ups of the detectors that were hit.
+    fn facing(&mut self, after: &Stage, first: usize) {
+        for h in &after.memory.list()[first..] {
+            let f = after.face(h.tags[0] as usize);
+            let lengths = [3, 6].map(|k| f.part(k).norm());
+            self.set("hits by short normals or ups", lengths.iter().any(|&l| l < 1e-12));
+            self.set("hits by long normals or ups", lengths.iter().any(|&l| l > 1e100));
+            self.set("hits by ups almost along the normal", f.slant().abs() > 0.9995);
+            self.set("hits by lengths at a limit", lengths.iter().any(|&l| l == next(1e-15) || l == nowhere::LONGEST));
+        }
     }
 
     fn reported(&mut self, after: &Stage) {

@@ -1,6 +1,7 @@
 //! Scripts about the limits of calls: of detectors, recordings, filters and readings here; of tracings in `edges`, of
 //! texts in `damage`.
 use super::book::{Face, Hit};
+use super::calls::NUMBERS;
 use super::script::Script;
 use super::stage::{Plan, Stage, Tally};
 use super::{damage, edges};
@@ -16,7 +17,7 @@ fn sized(width: f64, height: f64) -> Face {
     f
 }
 
-fn facing(normal: [f64; 3], up: [f64; 3]) -> Face {
+pub fn facing(normal: [f64; 3], up: [f64; 3]) -> Face {
     let mut f = grid(1, 1);
     f.values[3..6].copy_from_slice(&normal);
     f.values[6..9].copy_from_slice(&up);
@@ -402,9 +403,9 @@ fn stages() -> Vec<Stage> {
     parts.iter().flat_map(|f| f()).collect()
 }
 
-/// The scripts, and a table of what they have. Every refusal comes in two scripts at least.
+/// The scripts, and a table of what they have. Every refusal of document 01 comes in two scripts at least.
 pub fn limits() -> (Vec<Script>, String) {
     let all = stages();
-    assert!((1..18).all(|n| all.iter().filter(|st| st.tally.refused[n] > 0).count() >= 2));
+    assert!(NUMBERS.iter().all(|&n| all.iter().filter(|st| st.tally.refused[n as usize] > 0).count() >= 2));
     (all.iter().map(Stage::script).collect(), Tally::of(&all).table("scripts about limits", &all))
 }

@@ -3,9 +3,10 @@
 //!
 //!   scenegen scene SEED          scene text (filter -)
 //!   scenegen answer SEED FILTER  the original's answer under filter 0..4
-//!   scenegen batch FROM COUNT DIR [closed] [mirrors]   writes DIR/SEED.F.in and DIR/SEED.F.out, F in 0..4; with
-//!                                `closed` every cylinder and every second box of a scene is a closed cylinder of its
-//!                                sizes, with `mirrors` solids are mirrors at the threshold (head of mirrors.rs)
+//!   scenegen batch FROM COUNT DIR [closed] [nowhere] [mirrors]   writes DIR/SEED.F.in and DIR/SEED.F.out, F in 0..4;
+//!                                with `closed` every cylinder and every second box of a scene is a closed cylinder of its
+//!                                sizes, with `nowhere` some detectors face nowhere (head of nowhere.rs), with
+//!                                `mirrors` solids are mirrors at the threshold (head of mirrors.rs)
 //!   scenegen bench SEED N        ns per interaction of the original
 //!   scenegen vectors DIR         tables of single functions of the original (hex bits, printed style)
 //!   scenegen scripts DIR SEED    the scripts of crates/test_scripts and what it is to print (head of scripts.rs)
@@ -31,6 +32,8 @@ mod flags;
 mod limits;
 mod mirror_scripts;
 mod mirrors;
+mod nowhere;
+mod nowhere_scripts;
 mod plans;
 mod reader;
 mod runs;
@@ -343,6 +346,7 @@ fn generate(seed: u64) -> Case {
         let d = if s.chance(0.05) { d * (1.0 + s.r(-4e-10, 4e-10)) } else { d };
         push_ray(&mut c, o, d, nm, p, bounce, media);
     }
+    nowhere::leave_out(&mut c);
     c
 }
 
@@ -373,6 +377,10 @@ fn typical(n: u64) -> Case {
     }
     c
 }
+
+/// The doubles beside one above 0.
+fn next(x: f64) -> f64 { f64::from_bits(x.to_bits() + 1) }
+fn previous(x: f64) -> f64 { f64::from_bits(x.to_bits() - 1) }
 
 // ---- text ----
 
@@ -497,6 +505,7 @@ fn tallies(c: &Case, rays: &[NonSeqRay], rep: &NonSeqTraceReport) -> Option<([u6
 }
 
 fn solve(c: &Case) -> Result<Done, (u32, usize)> {
+    nowhere::check(c)?;
     let mut scene = c.scene.clone();
     let res = cfg(c, c.bounces, true).trace_rays(&mut scene, &c.rays, None);
     let hits: usize = scene.detectors.iter().map(|d| d.hits.len()).sum();
@@ -837,6 +846,7 @@ fn batch(from: u64, count: u64, dir: &str, changes: &[String]) {
     for seed in from..from + count {
         let mut c = generate(seed);
         if changed("closed") { closed::close(&mut c.scene.objects); }
+        if changed("nowhere") { nowhere::half(&mut Sm(seed.wrapping_mul(0xBF58476D1CE4E5B9)), &mut c); }
         if changed("mirrors") { mirrors::at_threshold(&mut Sm(seed.wrapping_mul(0x9E3779B97F4A7C15)), &mut c); }
         if scene_text(&c, "-").len() > 65536 { continue; }
         let s = solve(&c);

@@ -1,7 +1,7 @@
 //! Scripts about document 02's dropped light: small scenes with mirrors at the threshold, lists of calls, batches whole
 //! and in parts, and limits: what a mirror reflects at the threshold and beside it, odd reflectances, sums whose order
 //! shows, drops behind and inside glass, rays that reach no mirror, refusals after drops.
-use super::calls::Source;
+use super::calls::{Source, NUMBERS};
 use super::edges::{again, all, beam, face_at, moved, ready, screen, slab, with};
 use super::plans::plan;
 use super::script::Script;
@@ -11,10 +11,6 @@ use super::*;
 
 const SCENES: usize = 40;
 const LISTS: usize = 36;
-
-fn next(x: f64) -> f64 { f64::from_bits(x.to_bits() + 1) }
-
-fn previous(x: f64) -> f64 { f64::from_bits(x.to_bits() - 1) }
 
 fn mirror(reflectance: f64) -> SurfaceFinish { SurfaceFinish::Mirror { reflectance } }
 
@@ -396,7 +392,7 @@ const ABOUT: About = About {
     kind: &scenes::MIRRORS,
     scenes: SCENES,
     least: &[("dropped rays", 30), ("mirrors at the threshold", 10), ("mirrors just above it", 2), ("mirrors just below it", 2)],
-    source: Source { name: "mirrors_", plan: mirror_plan },
+    source: Source { name: "mirrors_", plan: mirror_plan, refusals: &NUMBERS },
     lists: LISTS,
 };
 

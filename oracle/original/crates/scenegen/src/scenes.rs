@@ -1,6 +1,6 @@
 //! Small scenes as scripts: each is read, traced into an emptied memory, and then either more rays go into the same memory
 //! or the scene is changed so that a check before the run refuses it.
-use super::book::{Memory, Refusal};
+use super::book::{Memory, Refusal, REFUSALS};
 use super::flags::{Flags, FLAGS, KINDS};
 use super::script::Script;
 use super::stage::Stage;
@@ -139,6 +139,7 @@ fn small(s: &mut Sm, style: u64) -> Case {
     solids(s, &mut c, style);
     detectors(s, &mut c, style);
     rays(s, &mut c, style);
+    nowhere::leave_out(&mut c);
     c
 }
 
@@ -354,6 +355,11 @@ impl Making {
         ["dropped rays", "mirrors just above it", "refused with something lost"].iter().any(|name| first.flags.has(name))
     }
 
+    /// Whether a detector was hit, or its first tracing refused with 18.
+    fn is_hit_or_nowhere(&self) -> bool {
+        self.stage.memory.used > 0 || self.traced[0].refusal == 18
+    }
+
     /// The answers under every filter, from the memory and to the text, where they are known.
     fn answers(&mut self) {
         let place = self.stage.filter_place();
@@ -366,7 +372,7 @@ impl Making {
 }
 
 /// How many scenes there are, and of what kinds.
-pub struct Tally { all: usize, refusals: [usize; 18], limits: [usize; 17], flags: [usize; KINDS] }
+pub struct Tally { all: usize, refusals: [usize; REFUSALS + 1], limits: [usize; 17], flags: [usize; KINDS] }
 
 impl Tally {
     fn count(&mut self, t: &Traced) {
@@ -381,7 +387,7 @@ impl Tally {
     }
 
     fn new() -> Tally {
-        Tally { all: 0, refusals: [0; 18], limits: [0; 17], flags: [0; KINDS] }
+        Tally { all: 0, refusals: [0; REFUSALS + 1], limits: [0; 17], flags: [0; KINDS] }
     }
 
     pub fn table(&self, what: &str) -> String {
@@ -417,6 +423,7 @@ pub struct Kind {
 const PLAIN: Kind = Kind { name: "scene", styles: &[0, 1, 2, 3, 4, 5, 6, 7, 8, 9, 10, 1, 4, 6], change: |_, _| (), keeps: |_| true, answered: false };
 pub const CLOSED: Kind = Kind { name: "closed", styles: &[0, 1, 2, 3, 5, 6, 7, 8, 9, 10, 1, 2], change: close, keeps: Making::is_closed, answered: true };
 pub const MIRRORS: Kind = Kind { name: "mirrors", styles: &[0, 1, 2, 3, 4, 5, 6, 7, 8, 9, 1, 4, 6], change: mirrors::at_threshold, keeps: Making::drops_or_nearly, answered: true };
+pub const NOWHERE: Kind = Kind { name: "nowhere", styles: &[0, 1, 2, 3, 4, 5, 6, 9, 2, 4, 5], change: nowhere::quarter, keeps: Making::is_hit_or_nowhere, answered: true };
 
 /// The next scene; none where it takes too many steps, the original can't say enough, or little happens.
 fn next(s: &mut Sm, kind: &Kind, style: u64, number: usize) -> Option<Making> {
@@ -428,6 +435,8 @@ fn next(s: &mut Sm, kind: &Kind, style: u64, number: usize) -> Option<Making> {
     let alone = Making::of(kind.name, number, &first, None)?;
     let little = alone.stage.last.is_ok() && alone.stage.report.counts[1] < Some(2);
     if little && !s.chance(if first.case.bounces == 0 { 0.5 } else { 0.15 }) { return None; }
+    // behind 18 neither more rays nor most other reasons show
+    if alone.traced[0].refusal == 18 { return Some(alone); }
     let used = alone.stage.memory.used as usize;
     let second = if s.chance(0.2) {
         more(s, style, &first, used)

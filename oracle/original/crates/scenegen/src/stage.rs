@@ -67,7 +67,7 @@ enum Line {
 /// How often calls were made and refused.
 #[derive(Clone, Default)]
 pub struct Tally {
-    pub refused: [usize; 18],
+    pub refused: [usize; REFUSALS + 1],
     /// tracings refused in the run whose hits before it stay
     pub kept: usize,
     /// tracings whose lost is not 0, is NaN, is not known
@@ -80,7 +80,7 @@ impl Tally {
     pub fn of(all: &[Stage]) -> Tally {
         let mut sum = Tally::default();
         for t in all.iter().map(|st| &st.tally) {
-            (0..18).for_each(|n| sum.refused[n] += t.refused[n]);
+            (0..=REFUSALS).for_each(|n| sum.refused[n] += t.refused[n]);
             sum.kept += t.kept;
             (0..3).for_each(|k| sum.lost[k] += t.lost[k]);
             for (verb, n) in &t.calls { *sum.calls.entry(verb.clone()).or_default() += n; }
@@ -89,7 +89,7 @@ impl Tally {
     }
     /// The same as a table for a reader.
     pub fn table(&self, what: &str, all: &[Stage]) -> String {
-        let refused = (1..18).filter(|&n| self.refused[n] > 0).map(|n| format!("{n}: {}", self.refused[n])).collect::<Vec<_>>().join(", ");
+        let refused = (1..=REFUSALS).filter(|&n| self.refused[n] > 0).map(|n| format!("{n}: {}", self.refused[n])).collect::<Vec<_>>().join(", ");
         let calls = self.calls.iter().map(|(verb, n)| format!("`{verb}` {n}")).collect::<Vec<_>>().join(", ");
         let sum: usize = self.calls.values().sum();
         let kept = format!("| refused in the run, with hits before it that stay | {} |\n", self.kept);

@@ -1,6 +1,6 @@
 //! The worked scenes of `scenes/`: a bench trainee's scenes, built here with the original's own types, and texts
 //! that are to be refused. Writes NAME.txt, the scene text, and NAME.answer.txt: the original's answer, or for a
-//! text that is refused before the run the number and place that document 01 gives, since the original has none.
+//! text that is refused before the run the number and place that the documents give, since the original has none.
 //! The scripts name these files.
 use super::script::Script;
 use super::scripts::ANSWER_BYTES;
@@ -236,6 +236,7 @@ fn refusals(w: &mut Worked) {
     w.refused("refused-17-shape", field(&b, 4, 0, "9"), 17, 4);
     w.refused("refused-17-cut", t[..t.len() - 1].into(), 17, 7);
     w.refused("refused-17-missing", t.lines().take(3).map(|l| format!("{l}\n")).collect(), 17, 4);
+    w.refused("refused-18-normal", field(&t, 5, 5, "0"), 18, 0);
 }
 
 /// Document 01's example of 16: a ray that leaves an index of 1e200 straight into air.
