@@ -38,7 +38,7 @@ static void numbers(void)
 
 int main(void)
 {
-    nonseq_vec3 center = {0, 0, 10}, normal = {0, 0, 1}, up = {0, 1, 0};
+    nonseq_vec3 center = {0, 0, 10}, normal = {0, 0, 1}, up = {0, 1, 0}, nowhere = {0, 0, 0};
     nonseq_made made = nonseq_new_detector(center, normal, up, 4, 4, 2, 2);
     nonseq_detectors detectors;
     nonseq_given_ray ray = {{1, 1, 0}, {0, 0, 1}, 550, 1, 0, 0, {0}};
@@ -54,6 +54,7 @@ int main(void)
     numbers();
     expect("the detector is made", made.refusal == NONSEQ_DONE);
     expect("no columns are refused by 6", nonseq_new_detector(center, normal, up, 4, 4, 0, 2).refusal == NONSEQ_ZERO_RESOLUTION);
+    expect("a normal of 0 faces nowhere", nonseq_new_detector(center, nowhere, up, 4, 4, 2, 2).refusal == NONSEQ_INVALID_DETECTOR_POSE);
     memset(&detectors, 0, sizeof detectors);
     detectors.list[0] = made.detector;
     detectors.count = 1;

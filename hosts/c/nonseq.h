@@ -51,7 +51,8 @@ enum {
     NONSEQ_INVALID_WAVELENGTH = 14,
     NONSEQ_INVALID_INDEX = 15,
     NONSEQ_RAY_NOT_FINITE = 16,
-    NONSEQ_INVALID_SCENE_TEXT = 17
+    NONSEQ_INVALID_SCENE_TEXT = 17,
+    NONSEQ_INVALID_DETECTOR_POSE = 18
 };
 
 enum {
@@ -153,37 +154,41 @@ typedef struct {
     nonseq_detectors detectors;
 } nonseq_traced;
 
-/* A detector that has caught nothing, zeros where it is refused (5 to 8). */
+/* A detector is refused by 5, 6, 7, 18 or 8, asked in this order, below written 5 to 8 and 18. 18 is for a centre,
+ * normal or up with a part that is not finite, and for a normal or up whose length (the root of the sum of its parts'
+ * squares, as a double) is at most 1e-15 or not finite: such a detector faces nowhere. */
+
+/* A detector that has caught nothing, zeros where it is refused (5 to 8 and 18). */
 nonseq_made nonseq_new_detector(nonseq_vec3 center, nonseq_vec3 normal, nonseq_vec3 up, double width_mm,
                                 double height_mm, uint32_t res_x, uint32_t res_y);
-/* 5 to 8. */
+/* 5 to 8 and 18. */
 nonseq_checked nonseq_check_detector(nonseq_detector detector);
-/* 3, then 5 to 8 of each. */
+/* 3, then 5 to 8 and 18 of each. */
 nonseq_checked nonseq_check_detectors(nonseq_detectors detectors);
-/* Where a ray crosses a detector's face (5 to 8, 10); crosses is 0 where it does not. */
+/* Where a ray crosses a detector's face (5 to 8 and 18, 10); crosses is 0 where it does not. */
 nonseq_crossing nonseq_intersect_ray(nonseq_detector detector, nonseq_ray ray);
-/* The area of a pixel in square metres (5 to 8). */
+/* The area of a pixel in square metres (5 to 8 and 18). */
 nonseq_reading nonseq_pixel_area_m2(nonseq_detector detector);
 
-/* One hit into its pixel, its detector's record and the list, wholly or not at all (3, 5 to 8, 4, 9, 12, 13). The
- * records and the number used that come back go into the next call. */
+/* One hit into its pixel, its detector's record and the list, wholly or not at all (3, 5 to 8 and 18, 4, 9, 12, 13).
+ * The records and the number used that come back go into the next call. */
 nonseq_recorded nonseq_record_hit_classified(nonseq_detectors detectors, double *flux, size_t flux_len,
     uint32_t *hits, size_t hits_len, double *hit_values, size_t hit_values_len,
     uint32_t *hit_tags, size_t hit_tags_len, size_t used, nonseq_hit hit);
-/* Detector `asked` under a filter (17 for a filter over 4, then 3, 5 to 8, 4, 9): the work map, which has just the
- * pixels of that detector, is zeroed and refilled; NONSEQ_ALL leaves it, its map is the detector's part of flux. */
+/* Detector `asked` under a filter (17 for a filter over 4, then 3, 5 to 8 and 18, 4, 9): the work map, which has just
+ * the pixels of that detector, is zeroed and refilled; NONSEQ_ALL leaves it, its map is the detector's part of flux. */
 nonseq_filtered nonseq_refilter(nonseq_detectors detectors, uint32_t asked, uint32_t filter,
     const double *flux, size_t flux_len, double *work, size_t work_len,
     const double *hit_values, size_t hit_values_len, const uint32_t *hit_tags, size_t hit_tags_len,
     size_t used);
-/* Where a detector's pixels stand in the maps (3, 5 to 8, 4). */
+/* Where a detector's pixels stand in the maps (3, 5 to 8 and 18, 4). */
 nonseq_part nonseq_pixels_of(nonseq_detectors detectors, uint32_t asked);
-/* Watts a square metre on a pixel (3, 5 to 8, 4, 9); 0 outside the resolution. */
+/* Watts a square metre on a pixel (3, 5 to 8 and 18, 4, 9); 0 outside the resolution. */
 nonseq_reading nonseq_irradiance_at(nonseq_detectors detectors, uint32_t asked, const double *flux, size_t flux_len,
                                     uint32_t px, uint32_t py);
 
-/* Traces `given` flat rays through `count` solids. 17, 1, 2, 3, 5 to 8, 9, 10, 11 come before the run and change
- * nothing; 12 to 16 come in it, and the hits of the steps before them stay. */
+/* Traces `given` flat rays through `count` solids. 17, 1, 2, 3, 5 to 8 and 18, 9, 10, 11 come before the run and
+ * change nothing; 12 to 16 come in it, and the hits of the steps before them stay. */
 nonseq_traced nonseq_trace_rays(nonseq_config config, const double *solid_values, size_t solid_values_len,
     const uint32_t *solid_tags, size_t solid_tags_len, uint32_t count,
     const double *ray_values, size_t ray_values_len, const uint32_t *ray_tags, size_t ray_tags_len,
@@ -208,8 +213,8 @@ nonseq_scene nonseq_read_scene(const uint8_t *text, size_t text_len, double *run
     uint32_t *ray_tags, size_t ray_tags_len);
 /* Texts are written whole from the buffer's start on, or not at all where they do not fit; their length comes back. */
 
-/* The answer of a tracing. A filter over 4 (17), detectors (3, 5 to 8), slices that are not theirs or more than 4,096
- * pixels (9) are refused: the buffer is left and length is 0. NONSEQ_MAX_ANSWER bytes hold any answer. */
+/* The answer of a tracing. A filter over 4 (17), detectors (3, 5 to 8 and 18), slices that are not theirs or more
+ * than 4,096 pixels (9) are refused: the buffer is left and length is 0. NONSEQ_MAX_ANSWER bytes hold any answer. */
 nonseq_text nonseq_put_answer(uint8_t *buf, size_t buf_len, nonseq_report report, nonseq_detectors detectors,
     uint32_t filter, const double *flux, size_t flux_len, const double *hit_values, size_t hit_values_len,
     const uint32_t *hit_tags, size_t hit_tags_len, size_t used);

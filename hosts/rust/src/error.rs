@@ -1,18 +1,18 @@
-//! Refusals: document 01's numbers and what they are given for; and what has no number, that there is no memory.
+//! Refusals: the documents' numbers and what they are given for; and what has no number, that there is no memory.
 use std::collections::TryReserveError;
 use std::fmt;
 
 /// A call that was refused: why, and where.
 #[derive(Clone, Copy, Debug, PartialEq, Eq)]
 pub struct Error {
-    /// Document 01's number, 1 to 17.
+    /// The documents' number, 1 to 18.
     pub number: u32,
     /// The list place of what was refused, from 0; for a scene text the line's number, from 1.
     pub place: u32,
 }
 
 /// What each number is given for, in order from 1.
-pub const TEXTS: [&str; 17] = [
+pub const TEXTS: [&str; 18] = [
     "threshold below 0 or not finite",
     "bounce limit over 16",
     "a list over its limit",
@@ -30,6 +30,7 @@ pub const TEXTS: [&str; 17] = [
     "index outside its rule",
     "built ray part not finite",
     "scene text not as it should be, or over 65,536 bytes",
+    "detector centre, normal or up part not finite, or normal or up of a length at most 1e-15 or not finite",
 ];
 
 impl Error {
@@ -45,7 +46,7 @@ impl Error {
     pub fn text(&self) -> &'static str {
         match (self.number as usize).checked_sub(1).and_then(|i| TEXTS.get(i)) {
             Some(text) => text,
-            None => "no refusal of document 01",
+            None => "no such refusal",
         }
     }
 }

@@ -4,8 +4,9 @@
 //! [`Memory`] holds detectors, their maps and the list of hits; [`Memory::trace`] traces rays through a scene into
 //! it, [`Memory::filtered`] is a detector's map under a filter. [`stray_map`] goes from a scene text to its answer.
 //!
-//! No call panics or aborts for what it is given. What is not allowed comes back as an [`Error`] with document 01's
-//! number; a buffer whose size the caller chose, and which the machine has no memory for, as [`MemoryError::NoMemory`].
+//! No call panics or aborts for what it is given. What is not allowed comes back as an [`Error`] with its number in
+//! the documents; a buffer whose size the caller chose, and which the machine has no memory for, as
+//! [`MemoryError::NoMemory`].
 //! Buffers of fixed sizes or of a scene text's lists, each below 256 KiB, and clones are allocated as elsewhere in Rust.
 //!
 //! The library has its buffers on the stack of the thread that calls. [`stray_map`] needs a thread with 768 KiB,
@@ -162,7 +163,7 @@ impl Detector {
         Error::check(r.refusal, r.place).map(|()| r.detector)
     }
 
-    /// Whether it is one, by 5 to 8.
+    /// Whether it is one, by 5, 6, 7, 18 and 8 in this order.
     pub fn check(&self) -> Result<(), Error> {
         let r = unsafe { ffi::nonseq_check_detector(*self) };
         Error::check(r.refusal, r.place)

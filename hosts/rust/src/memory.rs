@@ -14,7 +14,7 @@ pub struct Memory {
     used: usize,
 }
 
-/// A tracing that was refused: why, and what had been added up until then. Before the run (1 to 11 and 17) that is
+/// A tracing that was refused: why, and what had been added up until then. Before the run (1 to 11, 17 and 18) that is
 /// nothing, and the memory is unchanged; in it (12 to 16) the hits of the steps before stay.
 #[derive(Clone, Copy, Debug, PartialEq)]
 pub struct Refused {
@@ -71,8 +71,8 @@ fn zeros<T: Plain>(many: usize, each: usize) -> Result<Vec<T>, MemoryError> {
 }
 
 impl Memory {
-    /// An empty memory with room for so many hits, of 48 bytes each, besides 12 bytes for each pixel. Refused by 3 and 5
-    /// to 8; what the detectors had caught is dropped.
+    /// An empty memory with room for so many hits, of 48 bytes each, besides 12 bytes for each pixel. Refused by 3, 5 to
+    /// 8 and 18; what the detectors had caught is dropped.
     pub fn new(detectors: &[Detector], capacity: usize) -> Result<Memory, MemoryError> {
         let mut list = [Detector::default(); MAX_DETECTORS];
         for (place, d) in list.iter_mut().zip(detectors) {

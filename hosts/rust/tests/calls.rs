@@ -51,6 +51,9 @@ fn detectors() {
     assert_eq!(number(with((4.0, 4.0), (0, 2), Y)), (6, 0));
     assert_eq!(number(with((4.0, 4.0), (2, 4097), Y)), (7, 0));
     assert_eq!(number(with((4.0, 4.0), (2, 2), Z)), (8, 0));
+    assert_eq!(number(with((4.0, 4.0), (2, 2), Vec3::new(0.0, 1e-15, 0.0))), (18, 0));
+    assert_eq!(number(with((4.0, 4.0), (2, 2), Vec3::new(0.0, f64::INFINITY, 0.0))), (18, 0));
+    assert!(with((4.0, 4.0), (2, 2), Vec3::new(0.0, 1e-15f64.next_up(), 0.0)).is_ok());
     assert!(with((4.0, 4.0), (4096, 4096), Y).is_ok());
     assert_eq!(number(Detector { width_mm: -1.0, ..d }.check()), (5, 0));
     assert_eq!(d.pixel_area_m2(), Ok(4e-3 / 2.0 * (4e-3 / 2.0)));
@@ -297,10 +300,10 @@ fn a_text_read_and_traced() {
 
 #[test]
 fn errors_have_texts() {
-    for n in 1..=17 {
+    for n in 1..=18 {
         let e = Error { number: n, place: 3 };
         assert!(e.to_string().starts_with(&format!("refused by {n} at place 3: ")));
         assert_eq!(e.text(), TEXTS[n as usize - 1]);
     }
-    assert_eq!(Error { number: 0, place: 0 }.text(), "no refusal of document 01");
+    assert_eq!(Error { number: 0, place: 0 }.text(), "no such refusal");
 }
