@@ -1,5 +1,6 @@
 pub mod Floats
 pub mod Finite
+pub mod Rounding
 pub mod Small
 pub mod Squares
 pub mod Whole

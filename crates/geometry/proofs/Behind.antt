@@ -1,31 +1,30 @@
 -- What the sign tests rule out is not met. Assumes nothing.
-use Prim.Native.Nat.{ℕ, zero, suc, _<_}
+use Prim.Native.Nat.{ℕ, zero, suc}
 use native.Mathlib.Omega.{arith}
 use mathlib.Core.Path.{_≡_, refl, sym, ap, _∙_, subst}
 use mathlib.Core.Bool.{Bool, true, false, not, cond, _&&_, _||_}
 use mathlib.Core.Logic.{_⊎_, inl, inr}
-use mathlib.Core.Option.{Option, none, some}
+use mathlib.Core.Option.{none, some}
 use lib.Dec.{T}
 use lib.IntN.{ℤ, negsuc}
-use lib.Ieee.{Float, nan, inf, fin, binary64, up, down, round, sub, mul, div, neg, lt, le, ofBits, fits, isNan}
+use lib.Ieee.{Float, nan, inf, fin, binary64, down, sub, mul, div, neg, lt, le, ofBits, fits, isNan}
 use lib.Ieee.Fits.{div-fits}
 use lib.Ieee.Positive.{positive}
 use Rattle.doubles.proofs.Floats.{clash, and-left, and-right}
 use Rattle.doubles.specs.Doubles.{absOf, isFiniteOf, #0, #1}
-use Rattle.error.specs.Refusals.{Answer, value, refusal}
+use Rattle.error.specs.Refusals.{value, refusal}
 use Rattle.rays.specs.declared.vector.Vec3.{Vec3}
 use Rattle.rays.specs.declared.matrix.Mat4.{Mat4}
 use Rattle.rays.specs.declared.Ray.{Ray}
-use Rattle.rays.specs.Vectors.{normOf, divideOf, isFiniteVecOf}
+use Rattle.rays.specs.Vectors.{normOf, minLength, divideOf, isFiniteVecOf}
+use Rattle.rays.proofs.Shortest.{short, short-is}
 use Rattle.rays.specs.Matrices.{transformPointOf, transformDirectionOf}
 use Rattle.rays.specs.Rays.{minLocalDistance, isFiniteRayOf, newRayOf}
-use Rattle.geometry.specs.declared.LocalHit.{LocalHit}
 use Rattle.geometry.specs.declared.PrimitiveGeometry.{PrimitiveGeometry}
 use Rattle.geometry.specs.declared.PrimitiveGeometry.the-variants.{Plane, Disk, Sphere, Cylinder, Box, ClosedCylinder}
 use Rattle.geometry.specs.declared.flat.Distance.{Distance}
 use Rattle.geometry.specs.declared.flat.Distance.the-variants.{At, Nowhere}
 use Rattle.geometry.specs.declared.slab.Side.{Side}
-use Rattle.geometry.specs.declared.contact.Contact.{Contact}
 use Rattle.geometry.specs.Hits.{parallel}
 use Rattle.geometry.specs.Flat.{flatDistanceOf, planeFrom, diskFrom, intersectPlaneOf, intersectDiskOf}
 use Rattle.geometry.specs.Slabs.{Interval, movedNear, movedFar, cutBy, wholeRay, outsideOf, insideOf, sideHitOf, hitWithin, intersectBoxOf}
@@ -34,13 +33,9 @@ use Rattle.geometry.specs.Shapes.{intersectLocalOf}
 use Rattle.geometry.specs.Transforms.{unitOf, madeRay}
 use Rattle.geometry.specs.Behind.{recedesOf, leavesOf, isBehindOf}
 use Rattle.geometry.specs.Contacts.{rayBy, rayFromOf, meetBy, meetAlongOf, meetOf}
-use Rattle.geometry.proofs.Signs.{Signed, under, Alike, round-signed, signed-under, under-le, below-under, not-below-under, product-alike, quotient-signed, length-positive, difference-signed, mirrored-signed, opposed-under, inverse-counts, inverse-signed, zero-le-above, zero-le-below, opposed-quotient, zero-below, near-is}
+use Rattle.geometry.proofs.Signs.{Signed, under, Alike, under-le, below-under, not-below-under, product-alike, quotient-signed, length-positive, difference-signed, mirrored-signed, opposed-under, inverse-counts, inverse-signed, zero-le-above, zero-le-below, opposed-quotient, zero-below, near-is}
 
--- 1e-9 and 1e-15
-short-is : ofBits binary64 0x3cd203af9ee75616 ≡ fin false 0x901d7cf73ab0b (negsuc 100)
-unfolding ofBits
-short-is = refl
-
+-- at most 1e-9
 under-near : (x : Float) → T (under x) → le x minLocalDistance ≡ true
 under-near x h = subst (λ (l : Float). le x l ≡ true) (sym near-is) (under-le x 0x112e0be826d695 (negsuc 81) (omega arith) h)
 
@@ -347,18 +342,15 @@ made-none g o d l r k e = go (isFiniteRayOf q) refl
 
 pub behind-misses : (g : PrimitiveGeometry) (o d : Vec3) (r : Ray) → isBehindOf g o d ≡ true → meetAlongOf g (rayFromOf o d r) ≡ none
 unfolding rayFromOf unitOf rayBy meetAlongOf
-behind-misses g o d r e = go (le l short) (isFiniteOf l) refl refl
+behind-misses g o d r e = go (le l minLength) (isFiniteOf l) refl refl
   where
     l : Float
     l = normOf d
 
-    short : Float
-    short = ofBits binary64 0x3cd203af9ee75616
-
-    go : (a b : Bool) → le l short ≡ a → isFiniteOf l ≡ b → meetAlongOf g (rayBy o r (cond a none (cond b (some (divideOf d l)) none))) ≡ none
+    go : (a b : Bool) → le l minLength ≡ a → isFiniteOf l ≡ b → meetAlongOf g (rayBy o r (cond a none (cond b (some (divideOf d l)) none))) ≡ none
     go true b p q = refl
     go false false p q = refl
-    go false true p q = made-none g o d l r (length-positive l 0x901d7cf73ab0b (negsuc 100) (omega arith) (subst (λ (x : Float). le l x ≡ false) short-is p) q) e
+    go false true p q = made-none g o d l r (length-positive l short (negsuc 100) (omega arith) (subst (λ (x : Float). le l x ≡ false) short-is p) q) e
 
 pub miss-is : (g : PrimitiveGeometry) (w : Mat4) (r : Ray) (o d : Vec3) (b : Bool) → o ≡ transformPointOf w (r .origin) → d ≡ transformDirectionOf w (r .direction) → b ≡ isBehindOf g o d → b ≡ true → none ≡ meetOf g w r
 unfolding meetOf

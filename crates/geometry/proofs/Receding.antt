@@ -1,6 +1,6 @@
 -- A sphere that a ray runs away from, from outside it, is not met: with b above 0 and c not below 0 both roots are at most 0. Assumes nothing.
 use Prim.Native.Nat.{ℕ, zero, suc, _+_, _-_, _*_, _/_, _%_, _^_, _≤_, _<_}
-use native.Mathlib.Nat.{le-trans, le-of-eq, mul-assoc, mul-comm, mul-left-comm, mul-right-comm, mul-le-mul-right, mul-pos, zero-mul, zero-lt-suc, add-comm}
+use native.Mathlib.Nat.{le-trans, le-of-eq, mul-assoc, mul-right-comm, mul-le-mul-right, mul-pos, zero-mul, zero-lt-suc}
 use native.Mathlib.Omega.{arith}
 use mathlib.Core.Path.{_≡_, refl, sym, ap, _∙_, subst}
 use mathlib.Core.Logic.{_⊎_, inl, inr}
@@ -18,6 +18,7 @@ use lib.Ieee.Order.{transfer}
 use lib.Ieee.Scale.{round-same, round-val}
 use Rattle.doubles.specs.Root.{sqrtIn, sqrtOf}
 use Rattle.doubles.specs.Doubles.{absOf, #2, #4, #0}
+use Rattle.doubles.proofs.Rounding.{square-is}
 use Rattle.doubles.proofs.Patterns.{normal}
 use Rattle.rays.specs.declared.vector.Vec3.{Vec3}
 use Rattle.rays.specs.declared.Ray.{Ray}
@@ -30,7 +31,7 @@ use Rattle.geometry.specs.Hits.{firstThere}
 use Rattle.geometry.specs.Round.{solveOf, sphereAtOf, sphereAmongOf, intersectSphereOf}
 use Rattle.geometry.specs.Away.{isAwayOf}
 use Rattle.geometry.proofs.Signs.{Signed, under, round-signed, signed-under, suc-not-zero, cond-no, near-is}
-use Rattle.geometry.proofs.Squares.{L, M, squared, square-is, squared-most, RootMost, root-of}
+use Rattle.geometry.proofs.Squares.{L, M, squared, squared-most, RootMost, root-of}
 use Rattle.doubles.proofs.Floats.{and-left, and-right}
 
 -- ---- not negative, or no number at all
@@ -216,7 +217,7 @@ module _ (m j : ℕ) (lo : 2 ^ 52 ≤ m) (hi : m < 2 ^ 53) (least : 511 ≤ j) (
 
   square-value : HasValue bb false (squared (m * 2 ^ j)) L
   square-value =
-      subst (λ (x : Float). HasValue x false (squared (m * 2 ^ j)) L) (sym (square-is b (m * 2 ^ j) is))
+      subst (λ (x : Float). HasValue x false (squared (m * 2 ^ j)) L) (sym (square-is b false (m * 2 ^ j) is))
       (round-val binary64 (m * 2 ^ j * (m * 2 ^ j)) (L * L) (squared-most m j lo hi least most))
 
   -- a root no larger than b, or no number

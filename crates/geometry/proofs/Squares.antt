@@ -1,72 +1,25 @@
 -- The root of a double that is at most the square of b, both rounded, is at most b. Assumes nothing.
 use Prim.Native.Nat.{ℕ, zero, suc, _+_, _-_, _*_, _/_, _%_, _^_, _≤_, _<_, zero-le, compare, Ordering, Ordering·lt, Ordering·eq, Ordering·gt}
-use native.Mathlib.Nat.{le-trans, le-of-eq, le-of-lt, le-of-suc-le-suc, lt-of-le-of-lt, lt-of-lt-of-le, lt-of-not-le, not-le-of-lt, eq-or-lt-of-le, mul-assoc, mul-comm, mul-left-comm, mul-right-comm, mul-mul-mul-comm, mul-le-mul, mul-le-mul-right, mul-le-mul-left, mul-pos, le-of-mul-le-mul-right, lt-of-mul-lt-mul-right, div-mul-le-self, le-div-iff-mul-le, div-add-mod, mul-one, add-mul, mul-add, div-div-eq-div-mul, zero-mul, zero-lt-suc, lt-irrefl}
+use native.Mathlib.Nat.{le-trans, le-of-eq, le-of-lt, le-of-suc-le-suc, lt-of-le-of-lt, lt-of-not-le, not-le-of-lt, eq-or-lt-of-le, mul-assoc, mul-comm, mul-left-comm, mul-right-comm, mul-mul-mul-comm, mul-le-mul, mul-le-mul-right, mul-le-mul-left, mul-pos, le-of-mul-le-mul-right, div-mul-le-self, add-mul, div-div-eq-div-mul, zero-mul, zero-lt-suc, lt-irrefl}
 use native.Mathlib.Omega.{arith}
 use mathlib.Core.Path.{_≡_, refl, sym, ap, _∙_, subst}
 use mathlib.Core.Logic.{_⊎_, inl, inr}
 use mathlib.Core.Bool.{Bool, true, false, not, _&&_, _||_, true≢false}
 use lib.Dec.{T, ltb, eqb, isLe, isEq, ltb→lt, nleb→lt, eqb→eq, lit<, lit≤}
 use lib.Pow.{pow-add, pow-pos, pow-mono}
-use lib.Ieee.{Float, nan, inf, fin, binary64, up, down, size, nearest, units, round, mul, lt, le, eq}
-use lib.Ieee.Digits.{size-le, size-reaches}
+use lib.Ieee.{Float, nan, inf, fin, binary64, up, down, size, nearest, units, round, lt, le, eq}
+use lib.Ieee.Digits.{size-le}
 use lib.Ieee.Exact.{HasValue, units-val, round-exact}
 use lib.Ieee.Fits.{kept-lt, nearest-le, up-pos, down-pos}
-use lib.Ieee.Nearest.{closest}
 use lib.Ieee.Order.{drop, kept, round-mono, transfer}
-use lib.Ieee.Scale.{grid, overflow, finite, round-same, round-val, round-under, normal-of-fraction}
+use lib.Ieee.Scale.{grid, finite, round-val, round-under, normal-of-fraction}
 use Rattle.doubles.specs.Root.{wholeRoot, rootRound, sqrtIn, sqrtOf}
 use Rattle.doubles.proofs.Patterns.{positive-root}
+use Rattle.doubles.proofs.Rounding.{closest-half, unit-normal}
 use Rattle.doubles.proofs.Whole.{wholeRoot-is, less-root}
 use Rattle.geometry.proofs.Signs.{Signed, round-signed}
 
--- ---- rounding to the nearest whole number
-
--- at most half a unit above
-up-half : (q u r : ℕ) (o : Ordering) → (T (not (isLe o)) → u < r * 2) → (T (isEq o) → r * 2 ≡ u) → 2 * (nearest q o * u) ≤ 2 * (q * u + r) + u
-up-half q u r Ordering·lt a b = fine (q * u) u r
-  where
-    fine : (x u r : ℕ) → 2 * x ≤ 2 * (x + r) + u
-    fine x u r = omega arith
-up-half q u r Ordering·eq a b = le-trans (fine q u (q % 2) (one q)) (level (q * u) u r (b tt))
-  where
-    one : (q : ℕ) → q % 2 ≤ 1
-    one q = omega arith
-
-    fine : (q u t : ℕ) → t ≤ 1 → 2 * ((q + t) * u) ≤ 2 * (q * u) + 2 * u
-    fine q u zero h = omega arith
-    fine q u (suc zero) h = omega arith
-    fine q u (suc (suc t)) h = omega arith
-
-    level : (x u r : ℕ) → r * 2 ≡ u → 2 * x + 2 * u ≤ 2 * (x + r) + u
-    level x u r h = omega arith
-up-half q u r Ordering·gt a b = fine q u r (a tt)
-  where
-    fine : (q u r : ℕ) → u < r * 2 → 2 * (suc q * u) ≤ 2 * (q * u + r) + u
-    fine q u r h = omega arith
-
-pub closest-up : (n u : ℕ) → 2 * (closest n u * u) ≤ 2 * n + u
-closest-up n u =
-    subst (λ (x : ℕ). 2 * (closest n u * u) ≤ 2 * x + u) (whole n u)
-    (up-half (n / u) u (n % u) (compare (n % u * 2) u) (nleb→lt (n % u * 2) u) (eqb→eq (n % u * 2) u))
-  where
-    whole : (n u : ℕ) → n / u * u + n % u ≡ n
-    whole n u = ap (λ (x : ℕ). x + n % u) (mul-comm (n / u) u) ∙ div-add-mod n u
-
 -- ---- the square of M * 2 ^ -1074, in the normal range
-
--- with all digits in use a unit is at most 2 ^ -52 of the whole
-unit-small : (n d : ℕ) → 0 < d → 53 ≤ size (n / d) → d * 2 ^ drop 53 n d * 2 ^ 52 ≤ n
-unit-small n d D h =
-    let z = size (n / d) in
-    let k = z - 53 in
-    let a : 2 ^ (52 + k) ≤ n / d = size-reaches (n / d) (52 + k) (under z h) in
-    le-trans (le-of-eq (shape d (2 ^ k) (2 ^ 52) ∙ ap (λ (x : ℕ). x * d) (sym (pow-add 2 52 k)))) (le-div-iff-mul-le D .0 a)
-  where
-    under : (z : ℕ) → 53 ≤ z → 52 + (z - 53) < z
-    under z h = omega arith
-
-    shape : (d p q : ℕ) → d * p * q ≡ q * p * d
-    shape d p q = simp (mul-assoc, mul-comm, mul-left-comm) refl
 
 -- so rounding adds at most 2 ^ -53 of it
 grid-up : (n d : ℕ) → 0 < d → 53 ≤ size (n / d) → kept 53 n d * 2 ^ drop 53 n d * d * 2 ^ 53 ≤ n * 2 ^ 53 + n
@@ -74,7 +27,7 @@ grid-up n d D h =
     let k = drop 53 n d in
     let u = d * 2 ^ k in
     le-trans (le-of-eq (ap (λ (x : ℕ). x * 2 ^ 53) (shape (kept 53 n d) (2 ^ k) d)))
-    (double (kept 53 n d * u) n u (closest-up n u) (unit-small n d D h))
+    (double (kept 53 n d * u) n u (closest-half n u (mul-pos D (pow-pos k)) .0) (unit-normal n d D h))
   where
     shape : (q p d : ℕ) → q * p * d ≡ q * (d * p)
     shape q p d = simp (mul-assoc, mul-comm, mul-left-comm) refl
@@ -183,18 +136,6 @@ L = 2 ^ 1074
 -- what b * b is rounded to, in units
 abbrev pub squared : ℕ → ℕ
 squared M = grid binary64 (M * M) (L * L)
-
-both-sides : (x M d l : ℕ) → x * l ≡ M * d → x * x * (l * l) ≡ M * M * (d * d)
-both-sides x M d l e = mul-mul-mul-comm x x l l ∙ ap (λ (z : ℕ). z * z) e ∙ sym (mul-mul-mul-comm M M d d)
-
-pub square-is : (b : Float) (M : ℕ) → HasValue b false M L → mul binary64 b b ≡ round binary64 false (M * M) (L * L)
-unfolding mul
-square-is nan M v = absurd v
-square-is (inf s) M v = absurd v
-square-is (fin true x e) M v = absurd (true≢false (v .0))
-square-is (fin false x e) M v =
-    round-same binary64 false (x * up e * (x * up e)) (down e * down e) (M * M) (L * L) (mul-pos (down-pos e) (down-pos e)) (mul-pos (pow-pos 1074) (pow-pos 1074))
-    (both-sides (x * up e) M (down e) L (v .1))
 
 -- ---- numbers
 

@@ -1,14 +1,14 @@
 -- A direction that is made a unit vector is finite. Assumes nothing.
-use Prim.Native.Nat.{ℕ, zero, suc, _+_, _*_, _^_, _≤_, _<_}
+use Prim.Native.Nat.{ℕ, zero, suc, _*_, _^_, _≤_, _<_}
 use native.Mathlib.Nat.{mul-one, one-mul, mul-pos, mul-comm, mul-assoc, mul-left-comm, zero-lt-suc, le-trans, le-of-eq, le-of-lt, mul-le-mul, mul-le-mul-right}
 use native.Mathlib.Omega.{arith}
 use mathlib.Core.Path.{_≡_, refl, sym, ap, _∙_, subst}
 use mathlib.Core.Bool.{Bool, true, false, not, cond, _&&_, _||_, Bool·beq}
-use mathlib.Core.Option.{Option, none, some, Option·some-injective, Option·none-ne-some}
+use mathlib.Core.Option.{none, some, Option·some-injective, Option·none-ne-some}
 use lib.Dec.{T, ltb, ltb→lt, nltb→le}
 use lib.IntN.{ℤ, pos, negsuc}
 use lib.Pow.{pow-pos}
-use lib.Ieee.{Float, nan, inf, fin, binary64, up, down, round, add, mul, div, lt, le, eq, ofBits}
+use lib.Ieee.{Float, nan, inf, fin, binary64, up, down, round, add, mul, div, lt, le, eq}
 use lib.Ieee.Fits.{up-pos, down-pos}
 use lib.Ieee.Order.{round-mono}
 use lib.Ieee.Positive.{positive}
@@ -19,8 +19,9 @@ use Rattle.doubles.specs.Root.{sqrtOf}
 use Rattle.error.specs.Refusals.{value, refusal}
 use Rattle.rays.specs.declared.vector.Vec3.{Vec3}
 use Rattle.rays.specs.declared.Ray.{Ray}
-use Rattle.rays.specs.Vectors.{dotOf, normOf, divideOf, isFiniteVecOf}
+use Rattle.rays.specs.Vectors.{dotOf, normOf, minLength, divideOf, isFiniteVecOf}
 use Rattle.rays.specs.Rays.{isFiniteRayOf, newRayOf}
+use Rattle.rays.proofs.Shortest.{short, short-is}
 use Rattle.geometry.specs.declared.transform.UnitVector as unit
 use Rattle.geometry.specs.Transforms.{asUnitVector, unitOf, madeRay}
 use Rattle.geometry.specs.Contacts.{rayBy, rayFromOf}
@@ -72,10 +73,6 @@ square-finite (fin true m e) h = modest (m * up e) (down e) (down-pos e) h
 square-finite (fin false m e) h = modest (m * up e) (down e) (down-pos e) h
 
 -- ---- the quotient of such a value by a length above 1e-15
-
--- 1e-15
-abbrev short : ℕ
-short = 0x901d7cf73ab0b
 
 abs-finite : (x : Float) → isFiniteOf (absOf x) ≡ isFiniteOf x
 unfolding absOf isFiniteOf
@@ -143,10 +140,6 @@ quotient-finite (fin s m e) (fin false (suc n) d) h p k =
 three : (a b c : Bool) → a ≡ true → b ≡ true → c ≡ true → (a && b && c) ≡ true
 three a b c p q r = rw (p, q, r)
 
-short-is : ofBits binary64 0x3cd203af9ee75616 ≡ fin false short (negsuc 100)
-unfolding ofBits
-short-is = refl
-
 divided-finite : (v : Vec3) → le (normOf v) (fin false short (negsuc 100)) ≡ false → Finite (normOf v) → isFiniteVecOf (divideOf v (normOf v)) ≡ true
 unfolding normOf dotOf divideOf isFiniteVecOf
 divided-finite v k f =
@@ -164,12 +157,12 @@ divided-finite v k f =
 
 pub unit-finite : (v u : Vec3) → unitOf v ≡ some u → isFiniteVecOf u ≡ true
 unfolding unitOf
-unit-finite v u e = go (le l (ofBits binary64 0x3cd203af9ee75616)) (isFiniteOf l) refl refl e
+unit-finite v u e = go (le l minLength) (isFiniteOf l) refl refl e
   where
     l : Float
     l = normOf v
 
-    go : (a b : Bool) → le l (ofBits binary64 0x3cd203af9ee75616) ≡ a → isFiniteOf l ≡ b → cond a none (cond b (some (divideOf v l)) none) ≡ some u → isFiniteVecOf u ≡ true
+    go : (a b : Bool) → le l minLength ≡ a → isFiniteOf l ≡ b → cond a none (cond b (some (divideOf v l)) none) ≡ some u → isFiniteVecOf u ≡ true
     go true b p q h = absurd (Option·none-ne-some u h)
     go false false p q h = absurd (Option·none-ne-some u h)
     go false true p q h =

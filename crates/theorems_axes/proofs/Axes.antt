@@ -1,9 +1,8 @@
 -- A normal and an up that are long enough and not nearly parallel give three unit vectors: the normal, up made
 -- orthogonal to it, and their cross product. Were one of the two vectors that are made unit not above 1e-15 in length,
 -- then up less its part along the normal would be nearly parallel to the normal, which `core` refutes. Assumes nothing.
-use Prim.Native.Nat.{ℕ, _+_, _*_, _≤_}
-use native.Mathlib.Nat.{le-of-eq, le-trans}
-use native.Mathlib.Omega.{arith}
+use Prim.Native.Nat.{ℕ, _*_, _≤_}
+use native.Mathlib.Nat.{le-add-right, le-of-eq, le-trans}
 use mathlib.Core.Path.{_≡_, refl, sym, subst}
 use mathlib.Core.Bool.{Bool, true, false, _&&_}
 use lib.Dec.{T}
@@ -17,7 +16,7 @@ use Rattle.rays.specs.Vectors.{dotOf, crossOf, minusOf, scaleOf, normOf, minLen
 use Rattle.detector.specs.Checks.{isParallelOf}
 use Rattle.detector.specs.Faces.{orthogonalOf}
 use Rattle.theorems_axes.specs.Axes.{L, E, areDoubles, IsUnit}
-use Rattle.theorems_axes.proofs.Core.{core}
+use Rattle.theorems_axes.proofs.Core.{below-one, core}
 use Rattle.theorems_axes.proofs.Lengths.{Made, made as make, short-parts, modest-length}
 use Rattle.theorems_axes.proofs.Values.{has-finite, same-value, value, limit, not-beyond}
 use Rattle.theorems_axes.proofs.Pieces.{Part, unit-parts, along, Dot, dot, Lessened, lessened, Crossed, crossed, Level, returned, tiny}
@@ -33,11 +32,8 @@ made-unit : (v : Vec3) (x y z : ℕ) (r s t : Bool) → Made v x y z r s t → I
 made-unit v x y z r s t q =
     record { r = r; s = s; t = t; a = q .a; b = q .b; c = q .c; is-x = q .is-x; is-y = q .is-y; is-z = q .is-z; unit = q .unit }
 
-below-one : (c : ℕ) → 100000 * c ≤ 99991 * L → Part c
-below-one c h = go c L E h
-  where
-    go : (c l e : ℕ) → 100000 * c ≤ 99991 * l → c ≤ l + e
-    go c l e h = omega arith
+cosine-part : (c : ℕ) → 100000 * c ≤ 99991 * L → Part c
+cosine-part c h = le-trans (below-one L c h) (le-add-right L E)
 
 not-false : (b : Bool) → (b ≡ false → ⊥) → b ≡ true
 not-false true h = refl
@@ -71,13 +67,13 @@ module _ (n u : Vec3) (k : IsUnit n) (o : IsUnit u) (apart : lt limit (absOf (do
   rest = minusOf u (scaleOf n (dotOf n u))
 
   w1 : Lessened (n .x) (u .x) (dotOf n u) (k .r) (o .r) (d .0) (k .a) (o .a) (d .1)
-  w1 = lessened (n .x) (u .x) (dotOf n u) (k .r) (o .r) (d .0) (k .a) (o .a) (d .1) (k .is-x) (o .is-x) (d .2) (normal-parts .0) (up-parts .0) (below-one (d .1) few)
+  w1 = lessened (n .x) (u .x) (dotOf n u) (k .r) (o .r) (d .0) (k .a) (o .a) (d .1) (k .is-x) (o .is-x) (d .2) (normal-parts .0) (up-parts .0) (cosine-part (d .1) few)
 
   w2 : Lessened (n .y) (u .y) (dotOf n u) (k .s) (o .s) (d .0) (k .b) (o .b) (d .1)
-  w2 = lessened (n .y) (u .y) (dotOf n u) (k .s) (o .s) (d .0) (k .b) (o .b) (d .1) (k .is-y) (o .is-y) (d .2) (normal-parts .1) (up-parts .1) (below-one (d .1) few)
+  w2 = lessened (n .y) (u .y) (dotOf n u) (k .s) (o .s) (d .0) (k .b) (o .b) (d .1) (k .is-y) (o .is-y) (d .2) (normal-parts .1) (up-parts .1) (cosine-part (d .1) few)
 
   w3 : Lessened (n .z) (u .z) (dotOf n u) (k .t) (o .t) (d .0) (k .c) (o .c) (d .1)
-  w3 = lessened (n .z) (u .z) (dotOf n u) (k .t) (o .t) (d .0) (k .c) (o .c) (d .1) (k .is-z) (o .is-z) (d .2) (normal-parts .2) (up-parts .2) (below-one (d .1) few)
+  w3 = lessened (n .z) (u .z) (dotOf n u) (k .t) (o .t) (d .0) (k .c) (o .c) (d .1) (k .is-z) (o .is-z) (d .2) (normal-parts .2) (up-parts .2) (cosine-part (d .1) few)
 
   -- their signs, relative to what is taken away
   abbrev t1 : Bool

@@ -216,7 +216,7 @@ turn-half l a b c h = omega arith
 at-least-half : (l e s : ℕ) → 1000000 * e ≤ l → l ≤ s + e → l ≤ 2 * s
 at-least-half l e s a h = omega arith
 
-below-one : (L c : ℕ) → 100000 * c ≤ 99991 * L → c ≤ L
+pub below-one : (L c : ℕ) → 100000 * c ≤ 99991 * L → c ≤ L
 below-one L c h = omega arith
 
 -- w as pairs x, y

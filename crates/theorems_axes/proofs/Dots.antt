@@ -11,13 +11,14 @@ use lib.Ieee.{Float, nan, inf, fin, binary64, round, add, mul}
 use lib.Ieee.Exact.{HasValue}
 use lib.Ieee.Scale.{grid, finite, round-under}
 use Rattle.doubles.proofs.Floats.{clash}
+use Rattle.doubles.proofs.Rounding.{square-is}
 use Rattle.doubles.proofs.Finite.{Finite, root-of-finite, sum-of-finite}
 use Rattle.doubles.specs.Doubles.{isFiniteOf}
 use Rattle.rays.specs.declared.vector.Vec3.{Vec3}
 use Rattle.rays.specs.Vectors.{dotOf, normOf}
 use Rattle.theorems_axes.specs.Axes.{L}
 use Rattle.theorems_axes.proofs.Nearly.{Under, Near, chain}
-use Rattle.theorems_axes.proofs.Rounded.{grid-near, round-value, square-is, sum-is}
+use Rattle.theorems_axes.proofs.Rounded.{grid-near, round-value, sum-is}
 use Rattle.theorems_axes.proofs.Rooted.{Rooted, root-value}
 
 -- ---- in units: a rounded square, a rounded sum, and all of it

@@ -9,7 +9,7 @@ use mathlib.Core.Bool.{Bool, true, false, not, true≢false}
 use lib.Dec.{T, ltb→lt, nltb→le, lit≤, lit<}
 use lib.IntN.{negsuc}
 use lib.Pow.{pow-pos}
-use lib.Ieee.{Float, nan, inf, fin, binary64, up, down, div, lt, ofBits}
+use lib.Ieee.{Float, nan, inf, fin, binary64, up, down, div, lt}
 use lib.Ieee.Exact.{HasValue}
 use lib.Ieee.Fits.{down-pos}
 use lib.Ieee.Scale.{grid}
@@ -17,6 +17,7 @@ use Rattle.doubles.proofs.Whole.{less-root}
 use Rattle.doubles.specs.Doubles.{isFiniteOf}
 use Rattle.rays.specs.declared.vector.Vec3.{Vec3}
 use Rattle.rays.specs.Vectors.{normOf, minLength, divideOf, normalizeOf}
+use Rattle.rays.proofs.Shortest.{short, short-is}
 use Rattle.theorems_axes.specs.Axes.{L, E, Within}
 use Rattle.theorems_axes.proofs.Nearly.{Under, Near, chain}
 use Rattle.theorems_axes.proofs.Rounded.{grid-near, round-value, quotient-is}
@@ -25,13 +26,6 @@ use Rattle.theorems_axes.proofs.Quotients.{quotient-within, quotient-mo
 use Rattle.theorems_axes.proofs.Dots.{dotted, dot-near, finite-length, modest-rooted}
 
 -- ---- compared with 1e-15, which is between 2 ^ 1024 and 2 ^ 1025 units
-
-abbrev short : ℕ
-short = 0x901d7cf73ab0b
-
-short-is : minLength ≡ fin false short (negsuc 100)
-unfolding ofBits
-short-is = refl
 
 -- a number n / d that is m / l, against c / p
 more-in-units : (c p n d m l : ℕ) → 0 < d → n * l ≡ m * d → c * 1 * d < n * p → 0 < l → c * l < m * p

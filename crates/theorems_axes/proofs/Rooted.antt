@@ -1,18 +1,18 @@
 -- The root of a double, in units: within a digit of the exact root's whole part. The zero has the root 0. Assumes
 -- nothing.
 use Prim.Native.Nat.{ℕ, zero, suc, _+_, _-_, _*_, _/_, _^_, _≤_, _<_, compare}
-use native.Mathlib.Nat.{le-trans, le-of-eq, lt-of-le-of-lt, lt-of-lt-of-le, lt-suc-self, mul-le-mul, mul-le-mul-left, mul-le-mul-right, mul-lt-mul-of-pos-right, mul-pos, div-mul-le-self, div-lt-iff-lt-mul, zero-mul, zero-lt-suc, lt-irrefl}
+use native.Mathlib.Nat.{div-one, le-trans, le-of-eq, lt-of-le-of-lt, lt-of-lt-of-le, lt-suc-self, mul-le-mul, mul-le-mul-left, mul-le-mul-right, mul-lt-mul-of-pos-right, mul-pos, div-mul-le-self, div-lt-iff-lt-mul, zero-mul, zero-lt-suc, lt-irrefl}
 use native.Mathlib.Omega.{arith}
-use mathlib.Core.Path.{_≡_, sym, ap, _∙_, subst}
-use mathlib.Core.Bool.{Bool, true, false, not, true≢false}
-use lib.Dec.{T, leb, leb→le, nleb→lt, lit≤, lit<}
+use mathlib.Core.Path.{sym, ap, _∙_, subst}
+use mathlib.Core.Bool.{true, false, not, true≢false}
+use lib.Dec.{lit≤, lit<}
 use lib.Pow.{pow-add, pow-pos}
 use lib.Ieee.{Float, nan, inf, fin, binary64, up, down, size, nearest}
-use lib.Ieee.Digits.{size-reaches}
 use lib.Ieee.Exact.{HasValue, units-val}
 use lib.Ieee.Fits.{nearest-le, up-pos, down-pos}
 use lib.Ieee.Nearest.{nearest-ge}
 use Rattle.doubles.specs.Root.{wholeRoot, rootRound, sqrtIn, sqrtOf}
+use Rattle.doubles.proofs.Rounding.{unit-small}
 use Rattle.doubles.proofs.Patterns.{positive-root}
 use Rattle.doubles.proofs.Whole.{IsRoot, wholeRoot-is, less-root}
 use Rattle.theorems_axes.specs.Axes.{L}
@@ -31,26 +31,11 @@ pub record Rooted (y : Float) (N : ℕ) : Type 0 where
   pub small : u * 2 ^ 52 ≤ w + 2 ^ 52
 
 -- all 53 digits are in use, or none is dropped
-unit-small : (w : ℕ) → 2 ^ (size w - 53) * 2 ^ 52 ≤ w + 2 ^ 52
-unit-small w = go (leb 53 (size w)) (leb→le 53 (size w)) (nleb→lt 53 (size w))
+root-unit : (w : ℕ) → 2 ^ (size w - 53) * 2 ^ 52 ≤ w + 2 ^ 52
+root-unit w = plain (2 ^ (size w - 53)) w (subst (λ (q : ℕ). 1 * 2 ^ (size q - 53) * 2 ^ 52 ≤ w + 1 * 2 ^ 52) (div-one w) (unit-small w 1 (lit< tt)))
   where
-    under : (z : ℕ) → 53 ≤ z → 52 + (z - 53) < z
-    under z h = omega arith
-
-    none : (z : ℕ) → z < 53 → z - 53 ≡ 0
-    none z h = omega arith
-
-    more : (w p : ℕ) → 2 ^ 52 * p ≤ w → p * 2 ^ 52 ≤ w + 2 ^ 52
-    more w p h = omega arith
-
-    least : (w : ℕ) → 1 * 2 ^ 52 ≤ w + 2 ^ 52
-    least w = omega arith
-
-    go : (b : Bool) → (T b → 53 ≤ size w) → (T (not b) → size w < 53) → 2 ^ (size w - 53) * 2 ^ 52 ≤ w + 2 ^ 52
-    go true h g =
-        let k = size w - 53 in
-        more w (2 ^ k) (le-trans (le-of-eq (sym (pow-add 2 52 k))) (size-reaches w (52 + k) (under (size w) (h tt))))
-    go false h g = subst (λ (k : ℕ). 2 ^ k * 2 ^ 52 ≤ w + 2 ^ 52) (sym (none (size w) (g tt))) (least w)
+    plain : (p w : ℕ) → 1 * p * 2 ^ 52 ≤ w + 1 * 2 ^ 52 → p * 2 ^ 52 ≤ w + 2 ^ 52
+    plain p w h = omega arith
 
 rounded : (N : ℕ) → N < 2 ^ 3172 → Rooted (rootRound binary64 N) N
 unfolding rootRound
@@ -66,7 +51,7 @@ rounded N few =
     let least : v * p ≤ w = div-mul-le-self w p in
     let most : w < suc v * p = div-lt-iff-lt-mul (pow-pos k) .0 (lt-suc-self v) in
     let a : q * p ≤ w + p = over q v w p up least in
-    let s : p * 2 ^ 52 ≤ w + 2 ^ 52 = unit-small w in
+    let s : p * 2 ^ 52 ≤ w + 2 ^ 52 = root-unit w in
     let short : w < 2 ^ 1586 = less-root w (2 ^ 1586) (lt-of-le-of-lt (wholeRoot-is N .0) (lt-of-lt-of-le few (le-of-eq (pow-add 2 1586 1586)))) in
     record {
       m = q * p;

@@ -1,83 +1,24 @@
 -- How far rounding to a double moves a number: at most one of 2 ^ 50 parts of it and one smallest double. And the
 -- product, the sum and the quotient of doubles as the rounded fractions of their values. Assumes nothing.
-use Prim.Native.Nat.{ℕ, zero, suc, _+_, _-_, _*_, _/_, _%_, _^_, _≤_, _<_, compare, Ordering, Ordering·lt, Ordering·eq, Ordering·gt}
-use native.Mathlib.Nat.{le-trans, le-of-eq, mul-comm, mul-le-mul-left, mul-pos, le-div-iff-mul-le, div-add-mod, mod-lt, eq-of-mul-eq-mul-right, zero-mul, zero-lt-suc, lt-irrefl}
+use Prim.Native.Nat.{ℕ, zero, suc, _+_, _*_, _/_, _^_, _≤_, _<_}
+use native.Mathlib.Nat.{mul-le-mul-left, mul-pos, eq-of-mul-eq-mul-right, zero-mul, zero-lt-suc, lt-irrefl}
 use native.Mathlib.Omega.{arith}
 use mathlib.Core.Path.{_≡_, sym, ap, _∙_, subst}
 use mathlib.Core.Bool.{Bool, true, false, not, cond, true≢false}
-use lib.Dec.{T, leb, eqb, isLe, isEq, leb→le, nleb→lt, eqb→eq, not-T}
+use lib.Dec.{T, eqb, eqb→eq, not-T}
 use lib.Ieee.Bits.{cond-no}
-use lib.Pow.{pow-add, pow-pos}
+use lib.Pow.{pow-pos}
 use lib.IntN.{ℤ}
-use lib.Ieee.{Float, nan, inf, fin, binary64, up, down, size, nearest, round, sum, add, mul, div}
-use lib.Ieee.Digits.{size-reaches}
+use lib.Ieee.{Float, nan, inf, fin, binary64, up, down, round, sum, add, div}
 use lib.Ieee.Exact.{HasValue, units-val}
 use lib.Ieee.Fits.{round-is, up-pos, down-pos}
-use lib.Ieee.Nearest.{closest}
 use lib.Ieee.Order.{drop, kept}
 use lib.Ieee.Scale.{grid, round-same}
+use Rattle.doubles.proofs.Rounding.{Half, closest-half, unit-small}
 use Rattle.theorems_axes.specs.Axes.{L}
 use Rattle.theorems_axes.proofs.Nearly.{Near}
 
--- ---- rounding to the nearest whole number: at most half a unit away
-
-abbrev Half : ℕ → ℕ → ℕ → Type 0
-Half u x n = (2 * x ≤ 2 * n + u) × (2 * n ≤ 2 * x + u)
-
-half : (q u r : ℕ) (o : Ordering) → r < u → (T (isLe o) → r * 2 ≤ u) → (T (not (isLe o)) → u < r * 2) → (T (isEq o) → r * 2 ≡ u) → Half u (nearest q o * u) (q * u + r)
-half q u r Ordering·lt p a b c = (omega arith, low (q * u) (a tt))
-  where
-    low : (x : ℕ) → r * 2 ≤ u → 2 * (x + r) ≤ 2 * x + u
-    low x h = omega arith
-half q u r Ordering·eq p a b c = tie (q % 2) (one q) (c tt)
-  where
-    one : (q : ℕ) → q % 2 ≤ 1
-    one q = omega arith
-
-    tie : (t : ℕ) → t ≤ 1 → r * 2 ≡ u → Half u ((q + t) * u) (q * u + r)
-    tie zero h e = (omega arith, omega arith)
-    tie (suc zero) h e = (omega arith, omega arith)
-    tie (suc (suc t)) h e = (omega arith, omega arith)
-half q u r Ordering·gt p a b c = above (b tt)
-  where
-    above : u < r * 2 → Half u (suc q * u) (q * u + r)
-    above h = (omega arith, omega arith)
-
-closest-half : (n u : ℕ) → 0 < u → Half u (closest n u * u) n
-closest-half n u pos =
-    subst (λ (x : ℕ). Half u (closest n u * u) x) (whole n u)
-    (half (n / u) u (n % u) (compare (n % u * 2) u) (mod-lt n pos) (leb→le (n % u * 2) u) (nleb→lt (n % u * 2) u) (eqb→eq (n % u * 2) u))
-  where
-    whole : (n u : ℕ) → n / u * u + n % u ≡ n
-    whole n u = ap (λ (x : ℕ). x + n % u) (mul-comm (n / u) u) ∙ div-add-mod n u
-
 -- ---- the error of rounding to a double
-
--- a unit is at most 2 ^ -52 of the whole, or the smallest there is
-unit-small : (n d : ℕ) → 0 < d → d * 2 ^ drop 53 n d * 2 ^ 52 ≤ n + d * 2 ^ 52
-unit-small n d D = go (leb 53 (size (n / d))) (leb→le 53 (size (n / d))) (nleb→lt 53 (size (n / d)))
-  where
-    under : (z : ℕ) → 53 ≤ z → 52 + (z - 53) < z
-    under z h = omega arith
-
-    none : (z : ℕ) → z < 53 → z - 53 ≡ 0
-    none z h = omega arith
-
-    shape : (d p q : ℕ) → d * p * q ≡ q * p * d
-    shape d p q = omega arith
-
-    more : (n x y : ℕ) → x ≤ n → x ≤ n + y
-    more n x y h = omega arith
-
-    least : (n d : ℕ) → d * 1 * 2 ^ 52 ≤ n + d * 2 ^ 52
-    least n d = omega arith
-
-    go : (b : Bool) → (T b → 53 ≤ size (n / d)) → (T (not b) → size (n / d) < 53) → d * 2 ^ drop 53 n d * 2 ^ 52 ≤ n + d * 2 ^ 52
-    go true h g =
-        let k = size (n / d) - 53 in
-        let a : 2 ^ (52 + k) ≤ n / d = size-reaches (n / d) (52 + k) (under (size (n / d)) (h tt)) in
-        more n (d * 2 ^ k * 2 ^ 52) (d * 2 ^ 52) (le-trans (le-of-eq (shape d (2 ^ k) (2 ^ 52) ∙ ap (λ (x : ℕ). x * d) (sym (pow-add 2 52 k)))) (le-div-iff-mul-le D .0 a))
-    go false h g = subst (λ (k : ℕ). d * 2 ^ k * 2 ^ 52 ≤ n + d * 2 ^ 52) (sym (none (size (n / d)) (g tt))) (least n d)
 
 -- w is 2 ^ 49 * u, for K = 2 ^ 50
 near-part : (K x n u w d : ℕ) → K * u ≡ 2 * w → u ≤ w → 8 * w ≤ n + 4 * (K * d) → Half u x n → (K * x ≤ (K + 1) * n + K * d) × (K * n ≤ (K + 1) * x + K * d)
@@ -116,21 +57,6 @@ round-value s a c h =
     (units-val binary64 s (kept 53 (a * L) c) (drop 53 (a * L) c) h)
 
 -- ---- the operations
-
--- x / d is m / l, so their squares are equal
-both-sides : (x m d l : ℕ) → x * l ≡ m * d → x * x * (l * l) ≡ m * m * (d * d)
-both-sides x m d l e = let a : x * l * (x * l) ≡ m * d * (m * d) = ap (λ (z : ℕ). z * z) e in omega arith
-
-pub square-is : (b : Float) (r : Bool) (m : ℕ) → HasValue b r m L → mul binary64 b b ≡ round binary64 false (m * m) (L * L)
-unfolding mul
-square-is nan r m v = absurd v
-square-is (inf s) r m v = absurd v
-square-is (fin true x e) r m v =
-    round-same binary64 false (x * up e * (x * up e)) (down e * down e) (m * m) (L * L) (mul-pos (down-pos e) (down-pos e)) (mul-pos (pow-pos 1074) (pow-pos 1074))
-    (both-sides (x * up e) m (down e) L (v .1))
-square-is (fin false x e) r m v =
-    round-same binary64 false (x * up e * (x * up e)) (down e * down e) (m * m) (L * L) (mul-pos (down-pos e) (down-pos e)) (mul-pos (pow-pos 1074) (pow-pos 1074))
-    (both-sides (x * up e) m (down e) L (v .1))
 
 -- x / d is a / l and y / e is b / l: their sum
 over-one : (x y a b d e l : ℕ) → x * l ≡ a * d → y * l ≡ b * e → (x * e + y * d) * l ≡ (a + b) * (d * e)
