@@ -1,6 +1,5 @@
-/* Document 01's scene through the C calls: one ray on one pixel of four. Prints the answer, then writes the hits as
- * text and replays it into fresh memory, tries some refusals, the layout of the structs and the numbers of shapes,
- * finishes, media and filters. */
+/* Document 01's scene through the C calls: one ray on one pixel of four. Prints the answer, then tries some
+ * refusals, the layout of the structs and the numbers of shapes, finishes, media and filters. */
 #include "nonseq.h"
 #include <stdio.h>
 #include <string.h>
@@ -27,8 +26,6 @@ static void layout(void)
     expect("the rules have 64 bytes", sizeof(nonseq_config) == 64);
     expect("a given ray has 104 bytes", sizeof(nonseq_given_ray) == 104);
     expect("a tracing's answer has 1000 bytes", sizeof(nonseq_traced) == 1000);
-    expect("a replay's answer has 928 bytes", sizeof(nonseq_replayed) == 928);
-    expect("its place stands at 8", offsetof(nonseq_replayed, place) == 8);
 }
 
 static void numbers(void)
@@ -37,30 +34,6 @@ static void numbers(void)
     expect("the absorber is finish 2", NONSEQ_SPECULAR == 0 && NONSEQ_ABSORBER == 2);
     expect("Schott's is medium 3", NONSEQ_AIR == 0 && NONSEQ_SCHOTT == 3);
     expect("stray light is filter 4", NONSEQ_ALL == 0 && NONSEQ_STRAY_LIGHT == 4);
-}
-
-/* The hits of a traced memory written as text and replayed into fresh memory of the same detectors. */
-static void replay(nonseq_detectors detectors, const double *flux, const uint32_t *hits, const double *hit_values,
-                   const uint32_t *hit_tags, const nonseq_traced *t)
-{
-    uint8_t text[NONSEQ_HIT_NAMES + 2 * NONSEQ_MAX_HIT_LINE];
-    double new_flux[4] = {0}, new_values[8] = {0};
-    uint32_t new_hits[4] = {0}, new_tags[8] = {0};
-    nonseq_text w = nonseq_put_hits(text, sizeof text, hit_values, 8, hit_tags, 8, t->used);
-    nonseq_replayed r;
-
-    expect("the hit text fits", w.refusal == NONSEQ_DONE && NONSEQ_HIT_NAMES < w.length && w.length <= sizeof text);
-    r = nonseq_replay_hits(text, w.length, detectors, new_flux, 4, new_hits, 4, new_values, 8, new_tags, 8, 0);
-    expect("the hits are replayed", r.refusal == NONSEQ_DONE && r.place == 0 && r.used == t->used);
-    expect("the maps agree", !memcmp(flux, new_flux, sizeof new_flux) && !memcmp(hits, new_hits, sizeof new_hits));
-    expect("the lists agree", !memcmp(hit_values, new_values, sizeof new_values) && !memcmp(hit_tags, new_tags, sizeof new_tags));
-    expect("the totals agree", r.detectors.list[0].total_flux_watts == t->detectors.list[0].total_flux_watts);
-    expect("the counts agree", r.detectors.list[0].total_rays_hit == t->detectors.list[0].total_rays_hit);
-    text[0] = '?';
-    w = nonseq_put_hits(text, w.length - 1, hit_values, 8, hit_tags, 8, t->used);
-    expect("one byte too few, and nothing is written", w.refusal == NONSEQ_NO_ROOM_FOR_TEXT && w.length == 0 && text[0] == '?');
-    r = nonseq_replay_hits(text, sizeof text, r.detectors, new_flux, 4, new_hits, 4, new_values, 8, new_tags, 8, r.used);
-    expect("that is no line of names", r.refusal == NONSEQ_INVALID_SCENE_TEXT && r.place == 1 && r.used == 1);
 }
 
 int main(void)
@@ -97,7 +70,6 @@ int main(void)
     a = nonseq_put_answer(text, sizeof text, t.report, t.detectors, 5, flux, 4, hit_values, 8, hit_tags, 8, t.used);
     expect("there is no filter 5, and the buffer is left", a.refusal == NONSEQ_INVALID_SCENE_TEXT && a.length == 0 && text[0] == '?');
     expect("one byte too few, and nothing is written", nonseq_put_refusal(text, 17, 17, 4) == 19 && text[0] == '?');
-    replay(detectors, flux, hits, hit_values, hit_tags, &t);
 
     f = nonseq_refilter(t.detectors, 0, NONSEQ_GHOSTS_ONLY, flux, 4, work, 4, hit_values, 8, hit_tags, 8, t.used);
     expect("it is no ghost", f.refusal == NONSEQ_DONE && f.hit_count == 0 && work[3] == 0);

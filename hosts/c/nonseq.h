@@ -2,8 +2,7 @@
  *
  * Every call takes every value, checks what it is given, does nothing undefined and ends. `refusal` is 0 where
  * nothing is refused, else the number of the refusal (NONSEQ_.. below), and `place` is the list place of what
- * was refused, from 0, in a text the number of its line, from 1. A call that is refused before it runs changes
- * nothing.
+ * was refused, from 0. A call that is refused before it runs changes nothing.
  *
  * A slice is a pointer and a length. The pointer must point to that many elements, must be aligned, and must not be
  * NULL even where the length is 0; slices that a call writes must not overlap any other slice of that call. The
@@ -52,10 +51,8 @@ enum {
     NONSEQ_INVALID_WAVELENGTH = 14,
     NONSEQ_INVALID_INDEX = 15,
     NONSEQ_RAY_NOT_FINITE = 16,
-    NONSEQ_INVALID_SCENE_TEXT = 17, /* of a scene text, a hit text, or a list of a scene */
-    NONSEQ_INVALID_DETECTOR_POSE = 18,
-    NONSEQ_DETECTOR_NOT_IN_SCENE = 19,
-    NONSEQ_NO_ROOM_FOR_TEXT = 27
+    NONSEQ_INVALID_SCENE_TEXT = 17,
+    NONSEQ_INVALID_DETECTOR_POSE = 18
 };
 
 enum {
@@ -66,9 +63,7 @@ enum {
     NONSEQ_MAX_GIVEN_MEDIA = 8,
     NONSEQ_MAX_RESOLUTION = 4096,
     NONSEQ_MAX_SCENE_TEXT = 65536,
-    NONSEQ_MAX_ANSWER = 131072,
-    NONSEQ_HIT_NAMES = 59, /* bytes of a hit text's line of names */
-    NONSEQ_MAX_HIT_LINE = 112 /* and the most bytes of each other line */
+    NONSEQ_MAX_ANSWER = 131072
 };
 
 /* Doubles and whole numbers of one of each in its two slices. */
@@ -152,7 +147,6 @@ typedef struct { uint32_t refusal, place; double total_flux_watts; size_t hit_co
 typedef struct { uint32_t refusal, place; size_t first, pixels; } nonseq_part;
 typedef struct { uint32_t refusal, place, solids, detectors, rays; } nonseq_scene;
 typedef struct { uint32_t refusal, place; size_t length; } nonseq_text;
-typedef struct { uint32_t refusal; size_t place, used; nonseq_detectors detectors; } nonseq_replayed;
 typedef struct {
     uint32_t refusal, place;
     size_t used;
@@ -217,7 +211,7 @@ nonseq_scene nonseq_read_scene(const uint8_t *text, size_t text_len, double *run
     uint32_t *solid_tags, size_t solid_tags_len, double *detector_values, size_t detector_values_len,
     uint32_t *detector_tags, size_t detector_tags_len, double *ray_values, size_t ray_values_len,
     uint32_t *ray_tags, size_t ray_tags_len);
-/* Answers are written whole from the buffer's start on, or not at all where they do not fit; their length comes back. */
+/* Texts are written whole from the buffer's start on, or not at all where they do not fit; their length comes back. */
 
 /* The answer of a tracing. A filter over 4 (17), detectors (3, 5 to 8 and 18), slices that are not theirs or more
  * than 4,096 pixels (9) are refused: the buffer is left and length is 0. NONSEQ_MAX_ANSWER bytes hold any answer. */
@@ -227,24 +221,6 @@ nonseq_text nonseq_put_answer(uint8_t *buf, size_t buf_len, nonseq_report report
 size_t nonseq_put_refusal(uint8_t *buf, size_t buf_len, uint32_t refusal, uint32_t place);
 /* The answer to a scene text, as straymap prints it; NONSEQ_MAX_ANSWER bytes hold any answer. */
 size_t nonseq_stray_map(uint8_t *buf, size_t buf_len, const uint8_t *text, size_t text_len);
-
-/* Hit texts: a line of names, then a line for each hit of a list. Text of n hits has at most
- * NONSEQ_HIT_NAMES + NONSEQ_MAX_HIT_LINE * n bytes. */
-
-/* The hit text of a list's used hits, whatever they hold, from the buffer's start on, and its length. 9 where the
- * slices hold no such list, then 27 where the whole text does not fit: the buffer is left and length is 0. */
-nonseq_text nonseq_put_hits(uint8_t *buf, size_t buf_len, const double *hit_values, size_t hit_values_len,
-    const uint32_t *hit_tags, size_t hit_tags_len, size_t used);
-/* A hit text replayed into the maps, the records and the list, behind the hits that are used: each line's hit is
- * recorded as a tracing records it. 3, 5 to 8 and 18, 9 come before the text is read and change nothing. Then a line is
- * refused by 17 where it is not as the format says, by 19 where there is no such detector, by 12 or 13 as in a
- * tracing, asked in this order; `place` is then the line's number, from 1, a size_t here since a text may have more
- * than 2^32 lines. The hits of the lines before it stay, and nothing of the line itself or of those behind it. A text
- * that has not even the line of names is refused by 17 at line 1. The records and the number used that come back go
- * into the next call. */
-nonseq_replayed nonseq_replay_hits(const uint8_t *text, size_t text_len, nonseq_detectors detectors,
-    double *flux, size_t flux_len, uint32_t *hits, size_t hits_len, double *hit_values, size_t hit_values_len,
-    uint32_t *hit_tags, size_t hit_tags_len, size_t used);
 
 #ifdef __cplusplus
 }

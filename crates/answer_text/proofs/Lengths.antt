@@ -26,60 +26,38 @@ use Rattle.filter.specs.Filters.{is_all_of}
 use Rattle.filter.specs.Handed.{check_placed, check_filter_of, stored_part_of, part_placed, filtered_pixel_flux_of}
 use Rattle.report.specs.declared.NonSeqTraceReport.{NonSeqTraceReport}
 use Rattle.report.specs.declared.tallies.Tallies.{Tallies}
-use Rattle.printing.proofs.Lengths.{decimal_few}
-use Rattle.forms.specs.Kinds.{kind_of}
-use Rattle.forms.specs.Lines.{ended}
-use Rattle.forms.specs.Text.{line_text}
-use Rattle.forms.proofs.Widest.{widest_in, widest_line, line_wide}
-use Rattle.answer_text.specs.Answer.{ledger_form, tallies_form, detector_form, pixel_form, refusal_form}
-use Rattle.answer_text.specs.Answer.{Held, ledger_text, tallies_text, grid_at_of, shown_of, shown_map, detector_text, pixel_text, pixels_text, detector_map_text, each_from, detector_count_of, count_in, detectors_text, maps_text, blocks_text, answer_text, refusal_text}
-use Rattle.answer_text.proofs.Lines.{pixel_few}
+use Rattle.printing.specs.Rows.{row_text}
+use Rattle.printing.proofs.Lengths.{decimal_few, row_short, three_short}
+use Rattle.answer_text.specs.Answer.{Held, ledger_text, tallies_text, grid_at_of, shown_of, shown_map, detector_text, pixel_text, pixels_text, detector_map_text, each_from, detector_count_of, count_in, detectors_text, maps_text, answer_text, refusal_text}
 use Rattle.doubles.specs.Doubles.{#0}
 use Rattle.fields.specs.Split.{bytes}
 
 -- ---- lines
 
--- each by its form, whatever its values
-ledger_form_lem : (ds : List Float) (ws : List ℕ) → length (line_text ledger_form ds ws) ≤ 127
-unfolding ledger_form ended bytes widest_line widest_in kind_of
-ledger_form_lem ds ws = line_wide ledger_form ds ws
-
-tallies_form_lem : (ds : List Float) (ws : List ℕ) → length (line_text tallies_form ds ws) ≤ 147
-unfolding tallies_form ended bytes widest_line widest_in kind_of
-tallies_form_lem ds ws = line_wide tallies_form ds ws
-
-refusal_form_lem : (ds : List Float) (ws : List ℕ) → length (line_text refusal_form ds ws) ≤ 42
-unfolding refusal_form ended bytes widest_line widest_in kind_of
-refusal_form_lem ds ws = line_wide refusal_form ds ws
-
-detector_form_lem : (ds : List Float) (ws : List ℕ) → length (line_text detector_form ds ws) ≤ 101
-unfolding detector_form ended bytes widest_line widest_in kind_of
-detector_form_lem ds ws = line_wide detector_form ds ws
-
 ledger_short : (r : NonSeqTraceReport) → length (ledger_text r) ≤ 185
 unfolding ledger_text bytes
 ledger_short r =
     let l = r.ledger in
-    omega (arith, ledger_form_lem (l.launched_flux_watts ∷ l.detected_flux_watts ∷ l.absorbed_flux_watts ∷ l.escaped_flux_watts ∷ l.lost_flux_watts ∷ []) (r.total_rays_traced ∷ r.total_interactions ∷ []))
+    omega (arith, row_short (r.total_rays_traced ∷ r.total_interactions ∷ []) (l.launched_flux_watts ∷ l.detected_flux_watts ∷ l.absorbed_flux_watts ∷ l.escaped_flux_watts ∷ l.lost_flux_watts ∷ []))
 
 tallies_short : (t : Tallies) → length (tallies_text t) ≤ 187
 unfolding tallies_text bytes
-tallies_short t = omega (arith, tallies_form_lem [] (t.made ∷ t.dim ∷ t.spent ∷ t.caught ∷ t.gone ∷ t.surface ∷ t.weak ∷ []))
+tallies_short t = omega (arith, row_short (t.made ∷ t.dim ∷ t.spent ∷ t.caught ∷ t.gone ∷ t.surface ∷ t.weak ∷ []) [])
 
 pub refusal_short : (n place : ℕ) → length (refusal_text n place) ≤ 56
 unfolding refusal_text bytes
-refusal_short n place = omega (arith, refusal_form_lem [] (n ∷ place ∷ []))
+refusal_short n place = omega (arith, row_short (n ∷ place ∷ []) [])
 
 detector_short : (m : Held) (f : RayPathFilter) (d : ℕ) → length (detector_text m f d) ≤ 101
 unfolding detector_text
-detector_short m f d = detector_form_lem ((shown_of m f d).total ∷ []) (d ∷ (shown_of m f d).count ∷ (shown_of m SignalOnly d).count ∷ (shown_of m StrayLight d).count ∷ [])
+detector_short m f d = row_short (d ∷ (shown_of m f d).count ∷ (shown_of m SignalOnly d).count ∷ (shown_of m StrayLight d).count ∷ []) ((shown_of m f d).total ∷ [])
 
 pixel_short : (d px py : ℕ) (x : Float) → d < 10 → px < 10000 → py < 10000 → length (pixel_text d px py x) ≤ 29
 unfolding pixel_text
 pixel_short d px py x p q r = go (ne x #0)
   where
-    go : (b : Bool) → length (cond b (line_text pixel_form (x ∷ []) (d ∷ px ∷ py ∷ [])) []) ≤ 29
-    go true = pixel_few d px py x 1 4 4 (decimal_few 20 0 d p) (decimal_few 20 3 px q) (decimal_few 20 3 py r)
+    go : (b : Bool) → length (cond b (row_text (d ∷ px ∷ py ∷ []) (x ∷ [])) []) ≤ 29
+    go true = three_short d px py x 1 4 4 (decimal_few 20 0 d p) (decimal_few 20 3 px q) (decimal_few 20 3 py r)
     go false = omega arith
 
 pixels_short : (d w i : ℕ) (l : List Float) → d < 10 → i + length l ≤ 10000 → length (pixels_text d w i l) ≤ length l * 29
@@ -239,16 +217,11 @@ module _ (f : RayPathFilter) (m : Held) (few : length m.flux ≤ text_pixels) wh
 
 -- ---- all of it
 
-pub blocks_short : (f : RayPathFilter) (m : Held) → length m.flux ≤ text_pixels → length (blocks_text f m) ≤ 119644
-blocks_short f m few =
-    let c = detectors_short f m in
-    let d = maps_short f m few in
-    rw (length-append (detectors_text f m) (maps_text f m)) (omega arith)
-
 pub answer_short : (r : NonSeqTraceReport) (f : RayPathFilter) (m : Held) → length m.flux ≤ text_pixels → length (answer_text r f m) ≤ 120016
 unfolding answer_text
 answer_short r f m few =
     let a = ledger_short r in
     let b = tallies_short r.tallies in
-    let c = blocks_short f m few in
-    rw (length-append (ledger_text r) (tallies_text r.tallies ++ blocks_text f m), length-append (tallies_text r.tallies) (blocks_text f m)) (omega arith)
+    let c = detectors_short f m in
+    let d = maps_short f m few in
+    rw (length-append (ledger_text r) (tallies_text r.tallies ++ (detectors_text f m ++ maps_text f m)), length-append (tallies_text r.tallies) (detectors_text f m ++ maps_text f m), length-append (detectors_text f m) (maps_text f m)) (omega arith)

@@ -1,5 +1,4 @@
 -- What holds of the definitions.
 pub mod Texts
 pub mod Shown
-pub mod Lines
 pub mod Lengths

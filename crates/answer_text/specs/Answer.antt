@@ -12,8 +12,7 @@ use Rattle.filter.specs.declared.RayPathFilter.TheVariants.{SignalOnly, StrayLig
 use Rattle.filter.specs.Handed.{Handed, refilter_of, filtered_pixel_flux_of}
 use Rattle.report.specs.declared.NonSeqTraceReport.{NonSeqTraceReport}
 use Rattle.report.specs.declared.tallies.Tallies.{Tallies}
-use Rattle.forms.specs.Lines.{ended}
-use Rattle.forms.specs.Text.{line_text}
+use Rattle.printing.specs.Rows.{row_text}
 use Rattle.answer_text.specs.declared.maps.Grid.{Grid}
 use Rattle.memory.specs.Memory.{text_pixels}
 use Rattle.doubles.specs.Doubles.{#0}
@@ -25,25 +24,18 @@ named s = bytes s ++ 10 ∷ []
 
 -- ---- ledger and tallies
 
-unfoldable pub ledger_form : List ℕ
-ledger_form = ended (bytes "n n d d d d d")
-
 unfoldable pub ledger_text : NonSeqTraceReport → List ℕ
 ledger_text r =
     let l = r.ledger in
     named "rays interactions launched detected absorbed escaped lost"
-    ++ line_text ledger_form
+    ++ row_text (r.total_rays_traced ∷ r.total_interactions ∷ [])
     (l.launched_flux_watts ∷ l.detected_flux_watts ∷ l.absorbed_flux_watts ∷ l.escaped_flux_watts
     ∷ l.lost_flux_watts ∷ [])
-    (r.total_rays_traced ∷ r.total_interactions ∷ [])
-
-unfoldable pub tallies_form : List ℕ
-tallies_form = ended (bytes "n n n n n n n")
 
 unfoldable pub tallies_text : Tallies → List ℕ
 tallies_text t =
-    named "made dim spent caught gone surface weak" ++ line_text tallies_form []
-    (t.made ∷ t.dim ∷ t.spent ∷ t.caught ∷ t.gone ∷ t.surface ∷ t.weak ∷ [])
+    named "made dim spent caught gone surface weak" ++ row_text
+    (t.made ∷ t.dim ∷ t.spent ∷ t.caught ∷ t.gone ∷ t.surface ∷ t.weak ∷ []) []
 
 -- ---- detectors: what the memory holds of them
 
@@ -81,23 +73,17 @@ shown_map m f d =
     filtered_pixel_flux_of m.detectors (record { 0 = d }) f m.flux (shown_of m f d).map m.hit_values m.hit_tags
     m.used
 
-unfoldable pub detector_form : List ℕ
-detector_form = ended (bytes "n n n n d")
-
 -- hits and flux are under the filter, signal and stray are always the full counts
 unfoldable pub detector_text : Held → RayPathFilter → ℕ → List ℕ
 detector_text m f d =
-    line_text detector_form ((shown_of m f d).total ∷ [])
-    (d ∷ (shown_of m f d).count ∷ (shown_of m SignalOnly d).count ∷ (shown_of m StrayLight d).count ∷ [])
+    row_text (d ∷ (shown_of m f d).count ∷ (shown_of m SignalOnly d).count ∷ (shown_of m StrayLight d).count ∷ [])
+    ((shown_of m f d).total ∷ [])
 
 -- ---- pixels
 
-unfoldable pub pixel_form : List ℕ
-pixel_form = ended (bytes "n n n d")
-
 -- those of zero flux aren't listed
 unfoldable pub pixel_text : ℕ → ℕ → ℕ → Float → List ℕ
-pixel_text d px py x = cond (ne x #0) (line_text pixel_form (x ∷ []) (d ∷ px ∷ py ∷ [])) []
+pixel_text d px py x = cond (ne x #0) (row_text (d ∷ px ∷ py ∷ []) (x ∷ [])) []
 
 -- the pixels of a map with w columns, from pixel i on, row by row
 unfoldable pub pixels_text : ℕ → ℕ → ℕ → List Float → List ℕ
@@ -130,17 +116,10 @@ detectors_text f m = named "detector hits signal stray flux" ++ each_from (detec
 unfoldable pub maps_text : RayPathFilter → Held → List ℕ
 maps_text f m = named "detector px py flux" ++ each_from (detector_map_text m f) (count_in m) 0
 
--- what a map without a tracing has to say
-abbrev pub blocks_text : RayPathFilter → Held → List ℕ
-blocks_text f m = detectors_text f m ++ maps_text f m
-
 unfoldable pub answer_text : NonSeqTraceReport → RayPathFilter → Held → List ℕ
-answer_text r f m = ledger_text r ++ (tallies_text r.tallies ++ blocks_text f m)
+answer_text r f m = ledger_text r ++ (tallies_text r.tallies ++ (detectors_text f m ++ maps_text f m))
 
 -- ---- a refusal
 
-unfoldable pub refusal_form : List ℕ
-refusal_form = ended (bytes "n n")
-
 unfoldable pub refusal_text : ℕ → ℕ → List ℕ
-refusal_text n place = named "refusal place" ++ line_text refusal_form [] (n ∷ place ∷ [])
+refusal_text n place = named "refusal place" ++ row_text (n ∷ place ∷ []) []

@@ -6,7 +6,7 @@ mod pixels;
 
 ghost use Rattle.std.specs.Prelude.{◌≡◌};
 ghost use Rattle.printing.specs.Printing.{out, put_all};
-ghost use Rattle.answer_text.specs.Answer.{held, ledger_text, tallies_text, detectors_text, maps_text, blocks_text, answer_text, refusal_text};
+ghost use Rattle.answer_text.specs.Answer.{held, ledger_text, tallies_text, detectors_text, maps_text, answer_text, refusal_text};
 
 use detectors::Detectors;
 use filter::RayPathFilter;
@@ -39,7 +39,7 @@ fn put_ledger(buf: &mut [u8], at: usize, report: NonSeqTraceReport) -> usize
         at,
         b"rays interactions launched detected absorbed escaped lost\n",
     );
-    forms::put_line(buf, p, b"n n d d d d d\n", &powers, &wholes)
+    printing::put_row(buf, p, &wholes, &powers)
 }
 
 fn put_tallies(buf: &mut [u8], at: usize, t: Tallies) -> usize
@@ -56,24 +56,17 @@ fn put_tallies(buf: &mut [u8], at: usize, t: Tallies) -> usize
     ];
     let none = [0.0f64; 0];
     let p = printing::put_all(buf, at, b"made dim spent caught gone surface weak\n");
-    forms::put_line(buf, p, b"n n n n n n n\n", &none, &counts)
+    printing::put_row(buf, p, &counts, &none)
 }
 
 // The refusal's number and place.
-pub fn put_refusal_at(buf: &mut [u8], at: usize, number: u32, place: u64) -> usize
-    ensures { out buf.new result ≡ put_all buf.old at (refusal_text number place) }
-{
-    let wholes = [wide(number), place];
-    let none = [0.0f64; 0];
-    let p = printing::put_all(buf, at, b"refusal place\n");
-    forms::put_line(buf, p, b"n n\n", &none, &wholes)
-}
-
-// The same of a place below 2^32.
 pub fn put_refusal(buf: &mut [u8], at: usize, number: u32, place: u32) -> usize
     ensures { out buf.new result ≡ put_all buf.old at (refusal_text number place) }
 {
-    put_refusal_at(buf, at, number, wide(place))
+    let wholes = [wide(number), wide(place)];
+    let none = [0.0f64; 0];
+    let p = printing::put_all(buf, at, b"refusal place\n");
+    printing::put_row(buf, p, &wholes, &none)
 }
 
 fn put_detectors(
@@ -110,25 +103,7 @@ fn put_maps(
     detectors_text::put_maps(buf, p, detectors, filter, flux, hit_values, hit_tags, used)
 }
 
-// Detectors and pixels. `flux` is the stored map, `hit_values` and `hit_tags` the hit list.
-pub fn put_blocks(
-    buf: &mut [u8],
-    at: usize,
-    detectors: Detectors,
-    filter: RayPathFilter,
-    flux: &[f64],
-    hit_values: &[f64],
-    hit_tags: &[u32],
-    used: usize,
-) -> usize
-    ensures { out buf.new result ≡ put_all buf.old at
-        (blocks_text filter (held detectors flux.now hit_values.now hit_tags.now used)) }
-{
-    let p = put_detectors(buf, at, detectors, filter, flux, hit_values, hit_tags, used);
-    put_maps(buf, p, detectors, filter, flux, hit_values, hit_tags, used)
-}
-
-// The whole answer.
+// The whole answer. `flux` is the stored map, `hit_values` and `hit_tags` the hit list.
 pub fn put_answer(
     buf: &mut [u8],
     at: usize,
@@ -146,5 +121,6 @@ pub fn put_answer(
     let tallies = report.tallies;
     let p = put_ledger(buf, at, report);
     let q = put_tallies(buf, p, tallies);
-    put_blocks(buf, q, detectors, filter, flux, hit_values, hit_tags, used)
+    let s = put_detectors(buf, q, detectors, filter, flux, hit_values, hit_tags, used);
+    put_maps(buf, s, detectors, filter, flux, hit_values, hit_tags, used)
 }

@@ -114,7 +114,7 @@ pub(crate) fn put_detector(
         t.hit_count as u64,
     ];
     let powers = [a.total_flux_watts];
-    forms::put_line(buf, at, b"n n n n d\n", &powers, &wholes)
+    printing::put_row(buf, at, &wholes, &powers)
 }
 
 // The lines of its pixels.

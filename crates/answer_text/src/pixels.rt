@@ -10,7 +10,7 @@ fn put_pixel(buf: &mut [u8], at: usize, detector: u64, px: u64, py: u64, flux: f
     if flux != 0.0 {
         let wholes = [detector, px, py];
         let powers = [flux];
-        return forms::put_line(buf, at, b"n n n d\n", &powers, &wholes);
+        return printing::put_row(buf, at, &wholes, &powers);
     }
     at
 }

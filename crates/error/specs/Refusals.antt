@@ -9,9 +9,8 @@ use Rattle.error.specs.declared.NonSeqError.TheVariants.{ResolutionTooLarge, Par
 use Rattle.error.specs.declared.NonSeqError.TheVariants.{InvalidRay, InvalidMedia, HitListFull, HitCountFull}
 use Rattle.error.specs.declared.NonSeqError.TheVariants.{InvalidWavelength, InvalidIndex, RayNotFinite}
 use Rattle.error.specs.declared.NonSeqError.TheVariants.{InvalidSceneText, InvalidDetectorPose}
-use Rattle.error.specs.declared.NonSeqError.TheVariants.{DetectorNotInScene, NoRoomForText}
 
--- the first column of document 01's table, and document 02's numbers
+-- the first column of document 01's table, and document 02's number
 abbrev pub number_of : NonSeqError → ℕ
 number_of InvalidThreshold = 1
 number_of BounceLimitTooLarge = 2
@@ -31,8 +30,6 @@ number_of InvalidIndex = 15
 number_of RayNotFinite = 16
 number_of InvalidSceneText = 17
 number_of InvalidDetectorPose = 18
-number_of DetectorNotInScene = 19
-number_of NoRoomForText = 27
 
 -- what a call without a place in a list answers: its value, or the number of the refusal
 pub data Answer (A : Type 0) : Type 0 where

@@ -36,15 +36,11 @@ pub enum NonSeqError {
     InvalidIndex,
     // 16: a built ray has a part that is not finite
     RayNotFinite,
-    // 17: a text, or a list of a scene, is not as its format says
+    // 17: the scene is not as its format says
     InvalidSceneText,
     // 18: a detector's centre, normal or up has a part that is not finite, or its normal or up a length that is at
     // most 1e-15 or not finite
     InvalidDetectorPose,
-    // 19: a hit text's line has a detector that the scene lacks
-    DetectorNotInScene,
-    // 27: a hit text has no room in the lent slice
-    NoRoomForText,
 }
 
 impl NonSeqError {
@@ -71,8 +67,6 @@ impl NonSeqError {
             NonSeqError::RayNotFinite => 16,
             NonSeqError::InvalidSceneText => 17,
             NonSeqError::InvalidDetectorPose => 18,
-            NonSeqError::DetectorNotInScene => 19,
-            NonSeqError::NoRoomForText => 27,
         }
     }
 }

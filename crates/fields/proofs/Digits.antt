@@ -1,16 +1,19 @@
 -- Laws of the digits of a number. Assumes nothing.
-use mathlib.Core.Path.{◌≡◌, refl, sym, ap, ◌∙◌}
+use mathlib.Core.Path.{◌≡◌, refl, sym, subst}
 use mathlib.Core.List.{List, [], ◌∷◌}
-use mathlib.Core.Bool.{Bool, true, false, cond, ◌&&◌, ◌||◌}
-use Prim.Native.Nat.{ℕ, suc, ◌+◌, ◌-◌, ◌*◌, ◌/◌, ◌%◌, ◌^◌, ◌≤◌, ◌<◌}
-use native.Mathlib.Nat.{pow-suc, pow-le-pow_right, lt_of_lt_of_le, lt_irrefl}
+use mathlib.Core.Bool.{Bool, true, false, cond}
+use Prim.Native.Nat.{ℕ, zero, suc, ◌+◌, ◌-◌, ◌*◌, ◌^◌, ◌≤◌, ◌<◌}
+use native.Mathlib.Nat.{pow-suc, pow-le-pow_right, lt_of_lt_of_le}
 use native.Mathlib.Numerals.{add-one}
 use native.Mathlib.Omega.{arith}
-use lib.Dec.{ltb, leb}
+use lib.Dec.{T, eqb, ltb}
 use lib.ListN.{length, drop, get_or, drop_of_length-le}
 use lib.Seq.{drop-cons}
-use borrow.Author.Tests.{lt-ltb, le-ltb, lt-leb, le-leb, eq-eqb, ne_eqb, ltb-true, ltb-false}
-use Rattle.fields.specs.Number.{number, malformed, digit_of, is_hex_of, hex_pad_of, read_bits_of, is_decimal, decimal_from, is_led_by_zero_of, read_whole_of}
+use borrow.Author.Tests.{lt-ltb, le-ltb, eq-eqb, ne_eqb, ltb-true, ltb-false}
+use Rattle.fields.specs.Number.{Read, number, malformed, digit_of, is_hex_of, hex_pad_of, digit_at_of, read_bits_of, is_decimal, decimal_from, is_led_by_zero_of, read_whole_of}
+
+clash : false ≡ true → ⊥
+clash e = subst T (sym e) tt
 
 -- ---- a hex digit more
 
@@ -20,101 +23,76 @@ pow_again v i d p q = rw (add-one, pow-suc) (omega arith)
 pub pow_fits : (v i d : ℕ) → v < 16 ^ i → i < 16 → d < 16 → v * 16 + d < 2 ^ 64
 pow_fits v i d p h q = lt_of_lt_of_le (pow_again v i d p q) (let k : i + 1 ≤ 16 = omega arith in let z : 0 < 16 = omega arith in pow-le-pow_right z {i = i + 1} {j = 16} k)
 
-pub pow_zero : (v i : ℕ) → v < 16 ^ i → v * 16 < 16 ^ (i + 1)
-pow_zero v i p = rw (add-one, pow-suc) (omega arith)
-
-pub pow_same : (v i n : ℕ) → v < 16 ^ i → i ≡ n → v < 16 ^ n
-pow_same v i n p e = rw (← e) p
-
-digit_test : (b : ℕ) → (leb 48 b && ltb b 58) || (leb 97 b && ltb b 103) ≡ ltb (digit_of b) 16
-unfolding digit_of
-digit_test b = go (ltb b 48) (ltb b 58) (ltb b 97) (ltb b 103) refl refl refl refl
-  where
-    go : (p q r s : Bool) → ltb b 48 ≡ p → ltb b 58 ≡ q → ltb b 97 ≡ r → ltb b 103 ≡ s → (leb 48 b && ltb b 58) || (leb 97 b && ltb b 103) ≡ ltb (cond (ltb b 48) 16 (cond (ltb b 58) (b - 48) (cond (ltb b 97) 16 (cond (ltb b 103) (b - 87) 16)))) 16
-    go true q r s e f g h =
-        let a = ltb-true b 48 e in
-        let m : b < 97 = omega arith in
-        simp (e, lt-leb _ _ a, lt-leb _ _ m)
-    go false true r s e f g h =
-        let a = ltb-false b 48 e in
-        let k = ltb-true b 58 f in
-        let m : b < 97 = omega arith in
-        let n : b - 48 < 16 = omega arith in
-        simp (e, f, le-leb _ _ a, lt-leb _ _ m, lt-ltb _ _ n)
-    go false false true s e f g h = let a = ltb-false b 48 e in let k = ltb-true b 97 g in simp (e, f, g, le-leb _ _ a, lt-leb _ _ k)
-    go false false false true e f g h =
-        let a = ltb-false b 48 e in
-        let k = ltb-false b 97 g in
-        let l = ltb-true b 103 h in
-        let n : b - 87 < 16 = omega arith in
-        simp (e, f, g, h, le-leb _ _ a, le-leb _ _ k, lt-ltb _ _ n)
-    go false false false false e f g h = let a = ltb-false b 48 e in let k = ltb-false b 97 g in simp (e, f, g, h, le-leb _ _ a, le-leb _ _ k)
-
-pub test_is : (b k l m n : ℕ) → k ≡ 48 → l ≡ 58 → m ≡ 97 → n ≡ 103 → (leb k b && ltb b l) || (leb m b && ltb b n) ≡ ltb (digit_of b) 16
-test_is b k l m n e f g h = rw (e, f, g, h) (digit_test b)
-
-pub value_is : (b : ℕ) → digit_of b < 16 → b % 16 + b / 64 * 9 ≡ digit_of b
-unfolding digit_of
-value_is b h = go (ltb b 48) (ltb b 58) (ltb b 97) (ltb b 103) refl refl refl refl h
-  where
-    go : (p q r s : Bool) → ltb b 48 ≡ p → ltb b 58 ≡ q → ltb b 97 ≡ r → ltb b 103 ≡ s → cond p 16 (cond q (b - 48) (cond r 16 (cond s (b - 87) 16))) < 16 → b % 16 + b / 64 * 9 ≡ cond (ltb b 48) 16 (cond (ltb b 58) (b - 48) (cond (ltb b 97) 16 (cond (ltb b 103) (b - 87) 16)))
-    go true q r s e f g h n = absurd (lt_irrefl 16 n)
-    go false true r s e f g h n = let a = ltb-false b 48 e in let k = ltb-true b 58 f in rw (e, f) (omega arith)
-    go false false true s e f g h n = absurd (lt_irrefl 16 n)
-    go false false false true e f g h n = let a = ltb-false b 97 g in let k = ltb-true b 103 h in rw (e, f, g, h) (omega arith)
-    go false false false false e f g h n = absurd (lt_irrefl 16 n)
-
 module _ (t : List ℕ) (i : ℕ) (h : i < length t) where
   pub hex_again : (z : Bool) → digit_of (get_or t i 0) < 16 → is_hex_of (drop i t) ≡ z → is_hex_of (drop (i + 1) t) ≡ z
   unfolding is_hex_of
   hex_again z q e = let e2 = rw (drop-cons t i 0 h) at e in rw add-one (simp (lt-ltb _ _ q) at e2)
 
-  pub hex_stop : (z : Bool) → ltb (digit_of (get_or t i 0)) 16 ≡ false → is_hex_of (drop i t) ≡ z → z ≡ false
+  pub hex_stop : (z : Bool) → 16 ≤ digit_of (get_or t i 0) → is_hex_of (drop i t) ≡ z → false ≡ z
   unfolding is_hex_of
-  hex_stop z q e = let e2 = rw (drop-cons t i 0 h) at e in sym (simp q at e2)
+  hex_stop z q e = let e2 = rw (drop-cons t i 0 h) at e in simp (le-ltb _ _ q) at e2
 
-  pub pad_again : (v w : ℕ) → i < 16 → hex_pad_of v (16 - i) (drop i t) ≡ w → hex_pad_of (v * 16 + digit_of (get_or t i 0)) (16 - (i + 1)) (drop (i + 1) t) ≡ w
+  hex_here : is_hex_of (drop i t) ≡ true → digit_of (get_or t i 0) < 16
+  unfolding is_hex_of
+  hex_here e = go (ltb (digit_of (get_or t i 0)) 16) refl (rw (drop-cons t i 0 h) at e)
+    where
+      go : (b : Bool) → ltb (digit_of (get_or t i 0)) 16 ≡ b → cond (ltb (digit_of (get_or t i 0)) 16) (is_hex_of (drop (suc i) t)) false ≡ true → digit_of (get_or t i 0) < 16
+      go true q e = ltb-true _ _ q
+      go false q e = absurd (clash (simp q at e))
+
+  pad_again : (v w : ℕ) → i < 16 → hex_pad_of v (16 - i) (drop i t) ≡ w → hex_pad_of (v * 16 + digit_of (get_or t i 0)) (16 - (i + 1)) (drop (i + 1) t) ≡ w
   unfolding hex_pad_of
   pad_again v w p e =
       let q : 16 - i ≡ suc (16 - (i + 1)) = omega arith in
       let e2 = rw (drop-cons t i 0 h, q) at e in
       rw (add-one i) (rw (add-one i) at e2)
 
--- ---- zeros behind the last digit
+pub hex_end : (t : List ℕ) (i : ℕ) (z : Bool) → length t ≤ i → is_hex_of (drop i t) ≡ z → true ≡ z
+unfolding is_hex_of
+hex_end t i z h e = rw (drop_of_length-le t h) at e
 
-pub zero_again : (v k w : ℕ) → k < 16 → hex_pad_of v (16 - k) [] ≡ w → hex_pad_of (v * 16) (16 - (k + 1)) [] ≡ w
+pad_zeros : (t : List ℕ) (v i w : ℕ) → length t ≤ i → i < 16 → hex_pad_of v (16 - i) (drop i t) ≡ w → hex_pad_of (v * 16 + 0) (16 - (i + 1)) (drop (i + 1) t) ≡ w
 unfolding hex_pad_of
-zero_again v k w h e = let q : 16 - k ≡ suc (16 - (k + 1)) = omega arith in rw q at e
+pad_zeros t v i w h p e =
+    let q : 16 - i ≡ suc (16 - (i + 1)) = omega arith in
+    let k : length t ≤ i + 1 = omega arith in
+    let z : v * 16 + 0 ≡ v * 16 = omega arith in
+    rw (drop_of_length-le t k, z) (rw (drop_of_length-le t h, q) at e)
 
-pub pad_done : (v k w : ℕ) → 16 ≤ k → hex_pad_of v (16 - k) [] ≡ w → v ≡ w
+-- the same at any place, past the end too
+pub pad_step : (t : List ℕ) (v i w : ℕ) → i < 16 → hex_pad_of v (16 - i) (drop i t) ≡ w → hex_pad_of (v * 16 + digit_at_of t i) (16 - (i + 1)) (drop (i + 1) t) ≡ w
+unfolding digit_at_of
+pad_step t v i w p e = go (ltb i (length t)) refl
+  where
+    go : (b : Bool) → ltb i (length t) ≡ b → hex_pad_of (v * 16 + cond (ltb i (length t)) (digit_of (get_or t i 0)) 0) (16 - (i + 1)) (drop (i + 1) t) ≡ w
+    go true q = rw q (pad_again t i (ltb-true _ _ q) v w p e)
+    go false q = rw q (pad_zeros t v i w (ltb-false _ _ q) p e)
+
+pub pad_done : (t : List ℕ) (v i w : ℕ) → 16 ≤ i → hex_pad_of v (16 - i) (drop i t) ≡ w → v ≡ w
 unfolding hex_pad_of
-pad_done v k w h e = let q : 16 - k ≡ 0 = omega arith in rw q at e
+pad_done t v i w h e = let q : 16 - i ≡ 0 = omega arith in rw q at e
 
--- ---- each answer of `read_bits`
+-- every digit of a hex text is below 16, and so are the zeros behind it
+hex_tail : (b : ℕ) (t : List ℕ) → is_hex_of (b ∷ t) ≡ true → is_hex_of t ≡ true
+unfolding is_hex_of
+hex_tail b t e = go (ltb (digit_of b) 16) e
+  where
+    go : (x : Bool) → cond x (is_hex_of t) false ≡ true → is_hex_of t ≡ true
+    go true e = e
+    go false e = absurd (clash e)
 
-module _ (t : List ℕ) where
-  pub bits_none : length t ≡ 0 → malformed ≡ read_bits_of t
-  unfolding read_bits_of
-  bits_none e = simp (eq-eqb _ _ e)
+hex_drop : (t : List ℕ) (i : ℕ) → is_hex_of t ≡ true → is_hex_of (drop i t) ≡ true
+hex_drop t zero e = e
+hex_drop [] (suc i) e = e
+hex_drop (b ∷ t) (suc i) e = hex_drop t i (hex_tail b t e)
 
-  module _ (n : length t ≡ 0 → ⊥) where
-    pub bits-long : 16 < length t → malformed ≡ read_bits_of t
-    unfolding read_bits_of
-    bits-long l = simp (ne_eqb _ _ n, lt-ltb _ _ l)
-
-    module _ (l : length t ≤ 16) where
-      pub bits-bad : is_hex_of t ≡ false → malformed ≡ read_bits_of t
-      unfolding read_bits_of
-      bits-bad e = simp (ne_eqb _ _ n, le-ltb _ _ l, e)
-
-      pub bits_is : (i v x : ℕ) → i ≤ length t → length t ≤ i → is_hex_of (drop i t) ≡ is_hex_of t → hex_pad_of v (16 - i) (drop i t) ≡ hex_pad_of 0 16 t → x ≡ hex_pad_of v (16 - length t) [] → number x ≡ read_bits_of t
-      unfolding read_bits_of is_hex_of
-      bits_is i v x p q e f g =
-          let e2 : true ≡ is_hex_of t = rw (drop_of_length-le t q) at e in
-          let j : i ≡ length t = omega arith in
-          let f2 : hex_pad_of v (16 - i) [] ≡ hex_pad_of 0 16 t = rw (drop_of_length-le t q) at f in
-          let g2 : x ≡ hex_pad_of 0 16 t = g ∙ ap (λ (m : ℕ). hex_pad_of v (16 - m) []) (sym j) ∙ f2 in
-          simp (ne_eqb _ _ n, le-ltb _ _ l, sym e2, g2)
+pub digit_at_lt : (t : List ℕ) (i : ℕ) → is_hex_of t ≡ true → digit_at_of t i < 16
+unfolding digit_at_of
+digit_at_lt t i e = go (ltb i (length t)) refl
+  where
+    go : (b : Bool) → ltb i (length t) ≡ b → cond (ltb i (length t)) (digit_of (get_or t i 0)) 0 < 16
+    go true q = rw q (hex_here t i (ltb-true _ _ q) (hex_drop t i e))
+    go false q = rw q (omega arith)
 
 -- ---- a decimal digit more
 

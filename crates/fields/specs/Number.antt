@@ -35,6 +35,10 @@ hex_pad_of v zero t = v
 hex_pad_of v (suc n) [] = hex_pad_of (v * 16) n []
 hex_pad_of v (suc n) (b ∷ t) = hex_pad_of (v * 16 + digit_of b) n t
 
+-- the digit at place i, or 0 past the end
+unfoldable pub digit_at_of : List ℕ → ℕ → ℕ
+digit_at_of t i = cond (ltb i (length t)) (digit_of (get_or t i 0)) 0
+
 -- 1 to 16 hex digits, zeros understood on the right
 unfoldable pub read_bits_of : List ℕ → Read
 read_bits_of t =

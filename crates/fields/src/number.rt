@@ -1,6 +1,6 @@
 // Numbers in text: hex digits of a double's bits, and decimals.
-ghost use Rattle.std.specs.Prelude.{◌≡◌, [], ◌-◌, ◌^◌, ◌<◌, ltb};
-ghost use Rattle.fields.specs.Number.{digit_of, hex_pad_of, read_bits_of, as_bits, is_led_by_zero_of, read_whole_of, as_whole};
+ghost use Rattle.std.specs.Prelude.{◌≡◌, true, ◌≤◌};
+ghost use Rattle.fields.specs.Number.{digit_of, digit_at_of, is_hex_of, hex_pad_of, read_bits_of, as_bits, is_led_by_zero_of, read_whole_of, as_whole};
 
 #[derive(Drop)]
 pub enum ReadBits {
@@ -40,33 +40,41 @@ fn digit(b: u8) -> u64
     16
 }
 
-// Whether a byte is a hex digit.
-fn is_digit(b: u8) -> bool
-    ensures { result ≡ ltb (digit_of b) 16 }
+fn is_hex(t: &[u8]) -> bool
+    ensures { result ≡ is_hex_of t.now }
 {
-    ((b'0' <= b) & (b < AFTER_9)) | ((b'a' <= b) & (b < AFTER_F))
-}
-
-// What a hex digit counts, without a test: the letters have 1 to 6 as their last four bits, and lie past 64.
-fn value(b: u8) -> u64
-    requires { digit_of b < 16 }
-    ensures { result ≡ digit_of b }
-{
-    (b % 16 + b / 64 * 9) as u64
-}
-
-// A number of n digits with zeros put behind it, sixteen digits in all.
-fn padded(v: u64, n: usize) -> u64
-    requires { v < 16 ^ n }
-    ensures { result ≡ hex_pad_of v (16 - n) [] }
-{
-    let mut x = v;
-    let mut k = n;
-    while k < 16 {
-        x = x * 16;
-        k += 1;
+    let mut i: usize = 0;
+    while i < t.len() {
+        if 16 <= digit(t[i]) {
+            return false;
+        }
+        i += 1;
     }
-    x
+    true
+}
+
+// The digit at place i, or 0 past the end.
+fn digit_at(t: &[u8], i: usize) -> u64
+    ensures { result ≡ digit_at_of t.now i }
+{
+    if i < t.len() {
+        return digit(t[i]);
+    }
+    0
+}
+
+// Sixteen digits, zeros understood on the right.
+fn hex_pad(t: &[u8]) -> u64
+    requires { is_hex_of t.now ≡ true }
+    ensures { result ≡ hex_pad_of 0 16 t.now }
+{
+    let mut v: u64 = 0;
+    let mut i: usize = 0;
+    while i < 16 {
+        v = v * 16 + digit_at(t, i);
+        i += 1;
+    }
+    v
 }
 
 // The bits of a double: 1 to 16 lower-case hex digits, zeros understood on the right.
@@ -80,18 +88,10 @@ pub fn read_bits(t: &[u8]) -> ReadBits
     if 16 < n {
         return ReadBits::Malformed;
     }
-    let mut v: u64 = 0;
-    let mut i: usize = 0;
-    while i < n {
-        let b = t[i];
-        if is_digit(b) {
-            v = v * 16 + value(b);
-            i += 1;
-        } else {
-            return ReadBits::Malformed;
-        }
+    if is_hex(t) {
+        return ReadBits::Bits(hex_pad(t));
     }
-    ReadBits::Bits(padded(v, n))
+    ReadBits::Malformed
 }
 
 // Whether a 0 stands before another byte.

@@ -1,9 +1,8 @@
 -- A refusal as two numbers, its own and its place: 0 and 0 where nothing is refused.
-use Rattle.std.specs.Prelude.{ℕ, List, Float}
+use Rattle.std.specs.Prelude.{Float}
 use Rattle.error.specs.Refusals.{Checked, passed, refused_at}
 use Rattle.host_numbers.specs.declared.HostChecked.{HostChecked}
 use Rattle.host_numbers.specs.declared.HostReading.{HostReading}
-use Rattle.host_numbers.specs.declared.HostText.{HostText}
 use Rattle.doubles.specs.Doubles.{#0}
 
 abbrev pub checked_of : Checked Unit → HostChecked
@@ -14,11 +13,3 @@ checked_of (refused_at n place) = record { refusal = n; place = place }
 abbrev pub read_of : Checked Float → HostReading
 read_of (passed x) = record { refusal = 0; place = 0; value = x }
 read_of (refused_at n place) = record { refusal = n; place = place; value = #0 }
-
--- what a text's writing answers, and the buffer
-pub record Written : Type 0 where
-  pub answer : HostText
-  pub buf : List ℕ
-
-abbrev pub text_put : HostText → List ℕ → Written
-text_put r buf = record { answer = r; buf = buf }

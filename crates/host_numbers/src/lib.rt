@@ -1,5 +1,5 @@
-// Refusals, readings and lengths of texts in the numbers that hosts get. `refusal` is the documents' number, 0 for none,
-// and `place` the list place of what was refused.
+// Refusals and readings in the numbers that hosts get. `refusal` is the documents' number, 0 for none, and `place` the
+// list place of what was refused.
 ghost use Rattle.std.specs.Prelude.{◌≡◌};
 ghost use Rattle.error.specs.Refusals.{as_checked};
 ghost use Rattle.detector.specs.Pixels.{as_reading};
@@ -22,15 +22,6 @@ pub struct HostReading {
     pub refusal: u32,
     pub place: u32,
     pub value: f64,
-}
-
-// The length of a text: as long as it is written, or as long as the buffer would have to be; 0 where refused.
-#[repr(C)]
-#[derive(Drop)]
-pub struct HostText {
-    pub refusal: u32,
-    pub place: u32,
-    pub length: usize,
 }
 
 pub fn checked(check: Check) -> HostChecked

@@ -11,8 +11,8 @@ use Rattle.memory.specs.Memory.{is_hit_list_of, text_pixels}
 use Rattle.printing.specs.Printing.{Out, out, put_all}
 use Rattle.answer_text.specs.Answer.{Held, answer_text}
 use Rattle.scene_text.specs.Scene.{Slices, Answer}
-use Rattle.host_numbers.specs.Numbers.{Written, text_put}
 use Rattle.host_texts.specs.declared.HostScene.{HostScene}
+use Rattle.host_texts.specs.declared.HostText.{HostText}
 
 -- what reading answers, and the slices
 pub record SceneRead : Type 0 where
@@ -47,6 +47,14 @@ is_held_of ds nf nv nt used = leb nf text_pixels && (eqb nf (all_pixels_of ds) &
 unfoldable pub check_held_of : Detectors → ℕ → ℕ → ℕ → ℕ → Checked Unit
 check_held_of ds nf nv nt used =
     after (check_detectors_of ds) (cond (is_held_of ds nf nv nt used) (passed tt) (refused_at 9 0))
+
+-- what a text's writing answers, and the buffer
+pub record Written : Type 0 where
+  pub answer : HostText
+  pub buf : List ℕ
+
+abbrev pub text_put : HostText → List ℕ → Written
+text_put r buf = record { answer = r; buf = buf }
 
 -- what is refused leaves the buffer
 abbrev pub not_written : ℕ → ℕ → List ℕ → Written

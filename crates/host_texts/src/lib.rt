@@ -6,17 +6,13 @@ ghost use Rattle.printing.specs.Printing.{out};
 ghost use Rattle.report.specs.Report.{energy_conservation_ratio_of};
 ghost use Rattle.answer_text.specs.Answer.{held, answer_text, refusal_text};
 ghost use Rattle.scene_text.specs.Scene.{slices, read_scene_of};
-ghost use Rattle.map_text.specs.declared.mapping.Shown.TheVariants.{Answer};
 ghost use Rattle.map_text.specs.StrayMap.{stray_map_text};
-ghost use Rattle.host_numbers.specs.Numbers.{text_put};
-ghost use Rattle.host_texts.specs.Texts.{put_whole_of, is_held_of, check_held_of, put_checked_of, host_put_answer_of, scene_from, scene_read};
+ghost use Rattle.host_texts.specs.Texts.{put_whole_of, is_held_of, check_held_of, text_put, put_checked_of, host_put_answer_of, scene_from, scene_read};
 ghost use Rattle.fields.specs.Split.{front_of};
 
 use detectors::Detectors;
 use error::{Check, NonSeqError};
 use filter::{NumberedFilter, RayPathFilter};
-use host_numbers::HostText;
-use map_text::Shown;
 use report::{Ledger, NonSeqTraceReport};
 
 // How many lines of values the blocks have.
@@ -28,6 +24,15 @@ pub struct HostScene {
     pub solids: u32,
     pub detectors: u32,
     pub rays: u32,
+}
+
+// The length of a text: as long as it is written, or as long as the buffer would have to be; 0 where refused.
+#[repr(C)]
+#[derive(Drop)]
+pub struct HostText {
+    pub refusal: u32,
+    pub place: u32,
+    pub length: usize,
 }
 
 // A scene text into eight slices, each of the text's numbers in their order; what has no place is counted and read
@@ -240,10 +245,10 @@ pub extern "C" fn nonseq_put_refusal(buf: &mut [u8], refusal: u32, place: u32) -
 // most 131,072.
 #[unsafe(no_mangle)]
 pub extern "C" fn nonseq_stray_map(buf: &mut [u8], text: &[u8]) -> usize
-    ensures { out buf.new result ≡ put_whole_of buf.old (stray_map_text Answer text.now) }
+    ensures { out buf.new result ≡ put_whole_of buf.old (stray_map_text text.now) }
 {
     let mut t = [0u8; map_text::MAX_ANSWER];
-    let n = map_text::put_stray_map(&mut t, 0, Shown::Answer, text);
+    let n = map_text::put_stray_map(&mut t, 0, text);
     put_whole(buf, front(&t, n))
 }
 

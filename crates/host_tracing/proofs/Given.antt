@@ -21,7 +21,7 @@ use Rattle.trace.specs.Trace.{Batch, lent_batch, check_flat_of, check_config_of,
 use Rattle.trace.proofs.Pieces.{too_many, over_limit}
 use Rattle.host_tracing.specs.declared.answers.HostConfig.{HostConfig}
 use Rattle.host_tracing.specs.declared.slices.GivenRay.{GivenRay}
-use Rattle.host_tracing.specs.Tracing.{trace_config_of, Left, left_by_lem, traced_in, host_trace_rays_of}
+use Rattle.host_tracing.specs.Tracing.{trace_config_of, Left, left_by, traced_in, host_trace_rays_of}
 use Rattle.host_tracing.specs.Flat.{ray_values_row, ray_tags_row, flat_values, flat_tags, laid, flatten_of}
 use Rattle.host_tracing.proofs.Laying.{zeros, nones, long_f, long_h, LaidOut, out}
 use Rattle.fields.specs.Split.{front_of}
@@ -84,7 +84,7 @@ module _ (g : HostConfig) (x : List Float) (k : List ℕ) (c : ℕ) (s : Memory)
   same_in : (o : Option OpticalMedium) (ys zs : List GivenRay) → 4096 < length ys → 4096 < length zs
       → traced_in o (λ medium. trace_rays_of (batch (trace_config_of g medium) x k c s ys) s) s ≡ traced_in o (λ medium. trace_rays_of (batch (trace_config_of g medium) x k c s zs) s) s
   unfolding traced_in
-  same_in (some medium) ys zs h i = ap left_by_lem (same_refusal (trace_config_of g medium) x k c s ys zs h i)
+  same_in (some medium) ys zs h i = ap left_by (same_refusal (trace_config_of g medium) x k c s ys zs h i)
   same_in none ys zs h i = refl
 
   same_many : (ys zs : List GivenRay) → 4096 < length ys → 4096 < length zs → hosted ys ≡ hosted zs

@@ -44,8 +44,8 @@ pub record Left : Type 0 where
 abbrev pub left : HostTraced → List Float → List ℕ → List Float → List ℕ → Left
 left r f h v t = record { answer = r; flux = f; hits = h; hit_values = v; hit_tags = t }
 
-unfoldable pub left_by_lem : Trace Memory → Left
-left_by_lem t =
+unfoldable pub left_by : Trace Memory → Left
+left_by t =
     let m = memory_left t.outcome in
     left (record {
       refusal = refusal_number t.outcome;
@@ -59,8 +59,8 @@ left_by_lem t =
 
 -- a tracing in the ambient medium; 17 where that is none
 unfoldable pub traced_in : Option OpticalMedium → (OpticalMedium → Trace Memory) → Memory → Left
-traced_in (some medium) traced s = left_by_lem (traced medium)
-traced_in none traced s = left_by_lem (record { outcome = refused 17 0 s; report = start_report_of 0 #0 })
+traced_in (some medium) traced s = left_by (traced medium)
+traced_in none traced s = left_by (record { outcome = refused 17 0 s; report = start_report_of 0 #0 })
 
 -- the ambient medium's number first of all
 unfoldable pub host_trace_rays_of : HostConfig → List Float → List ℕ → ℕ → List Float → List ℕ → ℕ → Memory → Left

@@ -15,33 +15,32 @@ use Rattle.step.specs.declared.NonSeqTraceConfig.{NonSeqTraceConfig}
 use Rattle.trace.specs.declared.Traced.{Traced}
 use Rattle.trace.specs.Trace.{lent_batch, Trace, trace_rays_of, as_traced}
 use Rattle.printing.specs.Printing.{Out, put_all}
-use Rattle.answer_text.specs.Answer.{held, refusal_text, few_of}
-use Rattle.map_text.specs.Tables.{Tables, whole_of, config_of, meant_of, detectors_of, at_most_of, batch_in, memory_in, shown_text, outcome_text, traced_text, map_text}
-use Rattle.map_text.specs.declared.mapping.Shown.{Shown}
+use Rattle.answer_text.specs.Answer.{held, answer_text, refusal_text, few_of}
+use Rattle.map_text.specs.Tables.{Tables, whole_of, config_of, meant_of, detectors_of, at_most_of, batch_in, memory_in, outcome_text, traced_text, map_text}
 use Rattle.doubles.specs.Doubles.{#0}
 use Rattle.fields.specs.Split.{front_of}
 
-module _ (s : Shown) (g : RayPathFilter) (r : Traced) (f : List Float) (h : List ℕ) (v : List Float) (t : List ℕ) (T : Trace Memory) (q : as_traced r f h v t ≡ T) (b : List ℕ) (p : ℕ) (w : Out) where
-  pub refused_text : (e : NonSeqError) (place n : ℕ) → r.check ≡ Refused e place → n ≡ number_of e → w ≡ put_all b p (refusal_text n place) → w ≡ put_all b p (traced_text s g T)
+module _ (g : RayPathFilter) (r : Traced) (f : List Float) (h : List ℕ) (v : List Float) (t : List ℕ) (T : Trace Memory) (q : as_traced r f h v t ≡ T) (b : List ℕ) (p : ℕ) (w : Out) where
+  pub refused_text : (e : NonSeqError) (place n : ℕ) → r.check ≡ Refused e place → n ≡ number_of e → w ≡ put_all b p (refusal_text n place) → w ≡ put_all b p (traced_text g T)
   unfolding traced_text
   refused_text e place n k m z =
       z ∙ ap (λ i. put_all b p (refusal_text i place)) m
-      ∙ ap (λ c. put_all b p (outcome_text s g r.report (as_outcome c (lent_memory r.detectors f h v t r.used)))) (sym k)
-      ∙ ap (λ (x : Trace Memory). put_all b p (outcome_text s g x.report x.outcome)) q
+      ∙ ap (λ c. put_all b p (outcome_text g r.report (as_outcome c (lent_memory r.detectors f h v t r.used)))) (sym k)
+      ∙ ap (λ (x : Trace Memory). put_all b p (outcome_text g x.report x.outcome)) q
 
-  pub done_text : r.check ≡ Passed → w ≡ put_all b p (shown_text s r.report g (held r.detectors f v t r.used)) → w ≡ put_all b p (traced_text s g T)
+  pub done_text : r.check ≡ Passed → w ≡ put_all b p (answer_text r.report g (held r.detectors f v t r.used)) → w ≡ put_all b p (traced_text g T)
   unfolding traced_text
   done_text k z =
-      z ∙ ap (λ c. put_all b p (outcome_text s g r.report (as_outcome c (lent_memory r.detectors f h v t r.used)))) (sym k)
-      ∙ ap (λ (x : Trace Memory). put_all b p (outcome_text s g x.report x.outcome)) q
+      z ∙ ap (λ c. put_all b p (outcome_text g r.report (as_outcome c (lent_memory r.detectors f h v t r.used)))) (sym k)
+      ∙ ap (λ (x : Trace Memory). put_all b p (outcome_text g x.report x.outcome)) q
 
 -- ---- the tables, as the code hands them on
 
-module _ (s : Shown) (t : Tables) (ds : Detectors) (n k q all wh : ℕ) (g : NonSeqTraceConfig) (xs : List Float) (ks : List ℕ) (rs : List Float) (ms : List ℕ) (f : RayPathFilter) where
+module _ (t : Tables) (ds : Detectors) (n k q all wh : ℕ) (g : NonSeqTraceConfig) (xs : List Float) (ks : List ℕ) (rs : List Float) (ms : List ℕ) (f : RayPathFilter) where
   pub map_is : ds ≡ detectors_of t.detector_values t.detector_tags t.detectors → n ≡ at_most_of 33 t.solids → k ≡ at_most_of 4097 t.rays → all ≡ all_pixels_of ds → q ≡ few_of all → g ≡ config_of t.run_values t.run_tags
       → xs ≡ front_of (n * 42) t.solid_values → ks ≡ front_of (n * 4) t.solid_tags → rs ≡ front_of (k * 8) t.ray_values → ms ≡ front_of (k * 10) t.ray_tags → wh ≡ whole_of t.run_tags 1 → f ≡ meant_of wh
       → (b : List ℕ) (p : ℕ) (w : Out)
-      → w ≡ put_all b p (traced_text s f (trace_rays_of (lent_batch g xs ks n rs ms k) (lent_memory ds (take q (replicate text_pixels #0)) (take q (replicate text_pixels 0)) (replicate 4096 #0) (replicate 4096 0) 0)))
-      → w ≡ put_all b p (map_text s t)
+      → w ≡ put_all b p (traced_text f (trace_rays_of (lent_batch g xs ks n rs ms k) (lent_memory ds (take q (replicate text_pixels #0)) (take q (replicate text_pixels 0)) (replicate 4096 #0) (replicate 4096 0) 0)))
+      → w ≡ put_all b p (map_text t)
   unfolding map_text batch_in memory_in
   map_is e1 e2 e3 e4 e5 e6 e7 e8 e9 e10 e11 e12 b p w z = rw (e12, e11, e10, e9, e8, e7, e6, e5, e4, e3, e2, e1) at z

@@ -1,3 +1,3 @@
--- Document 01, "`straymap`", and document 02, d: a scene's tables of numbers, traced, answered or kept as a hit text.
+-- Document 01, "`straymap`": a scene's tables of numbers, traced and answered.
 pub mod Tables
 pub mod StrayMap

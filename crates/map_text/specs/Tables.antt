@@ -1,4 +1,4 @@
--- A scene as it was read, traced into an empty memory with room for 4,096 pixels and 1,024 hits, and what is shown.
+-- A scene as it was read, traced into an empty memory with room for 4,096 pixels and 1,024 hits, and its answer.
 use Rattle.std.specs.Prelude.{ℕ, ◌+◌, ◌*◌, List, [], ◌∷◌, cond, leb, ltb, eqb, Float, length, get_or, take, replicate}
 use Rattle.std.proofs.Math.Option.{Option, none, some}
 use Rattle.std.specs.Float.{nan}
@@ -8,20 +8,16 @@ use Rattle.detector.specs.declared.Detector2D.{Detector2D}
 use Rattle.detectors.specs.declared.Detectors.{Detectors}
 use Rattle.detectors.specs.Detectors.{all_pixels_of}
 use Rattle.memory.specs.Memory.{Memory, lent_memory, Outcome, done, refused, text_pixels, text_hits, hit_doubles, hit_wholes}
-use Rattle.memory.specs.Memory.{hits_from}
 use Rattle.filter.specs.declared.RayPathFilter.{RayPathFilter}
 use Rattle.filter.specs.declared.RayPathFilter.TheVariants.{All}
 use Rattle.filter.specs.Filters.{numbered_filter_of}
 use Rattle.step.specs.declared.NonSeqTraceConfig.{NonSeqTraceConfig}
 use Rattle.report.specs.declared.NonSeqTraceReport.{NonSeqTraceReport}
 use Rattle.trace.specs.Trace.{Batch, lent_batch, Trace, trace_rays_of}
-use Rattle.answer_text.specs.Answer.{Held, held, answer_text, refusal_text, few_of}
-use Rattle.hit_text.specs.HitText.{hit_text}
-use Rattle.map_text.specs.declared.mapping.Shown.{Shown}
-use Rattle.map_text.specs.declared.mapping.Shown.TheVariants.{Answer, Hits}
+use Rattle.answer_text.specs.Answer.{held, answer_text, refusal_text, few_of}
 use Rattle.scene.specs.Solids.{solid_doubles, solid_wholes, max_solids}
 use Rattle.given_rays.specs.Given.{ray_doubles, ray_wholes, ray_room}
-use Rattle.forms.specs.Cells.{no_filter}
+use Rattle.scene_text.specs.Cells.{no_filter}
 use Rattle.doubles.specs.Doubles.{#0}
 use Rattle.fields.specs.Split.{front_of}
 
@@ -148,19 +144,14 @@ memory_in ds =
 
 -- ---- the answer
 
--- what is shown of a tracing: its answer, or its hit text
-abbrev pub shown_text : Shown → NonSeqTraceReport → RayPathFilter → Held → List ℕ
-shown_text Answer r f m = answer_text r f m
-shown_text Hits r f m = hit_text (hits_from m.hit_values m.hit_tags m.used 0)
+abbrev pub outcome_text : RayPathFilter → NonSeqTraceReport → Outcome Memory → List ℕ
+outcome_text f r (done m) = answer_text r f (held m.detectors m.flux m.hit_values m.hit_tags m.used)
+outcome_text f r (refused n place m) = refusal_text n place
 
-abbrev pub outcome_text : Shown → RayPathFilter → NonSeqTraceReport → Outcome Memory → List ℕ
-outcome_text s f r (done m) = shown_text s r f (held m.detectors m.flux m.hit_values m.hit_tags m.used)
-outcome_text s f r (refused n place m) = refusal_text n place
+unfoldable pub traced_text : RayPathFilter → Trace Memory → List ℕ
+traced_text f t = outcome_text f t.report t.outcome
 
-unfoldable pub traced_text : Shown → RayPathFilter → Trace Memory → List ℕ
-traced_text s f t = outcome_text s f t.report t.outcome
-
-unfoldable pub map_text : Shown → Tables → List ℕ
-map_text s t =
-    traced_text s (meant_of (whole_of t.run_tags 1))
+unfoldable pub map_text : Tables → List ℕ
+map_text t =
+    traced_text (meant_of (whole_of t.run_tags 1))
     (trace_rays_of (batch_in t) (memory_in (detectors_of t.detector_values t.detector_tags t.detectors)))

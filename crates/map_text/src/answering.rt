@@ -1,9 +1,8 @@
-// From a scene text to its answer (document 01, `straymap`) or its hit text (document 02, d).
+// From a scene text to its answer (document 01, `straymap`).
 ghost use Rattle.std.specs.Prelude.{◌≡◌};
 ghost use Rattle.printing.specs.Printing.{out, put_all};
 ghost use Rattle.map_text.specs.StrayMap.{stray_map_text};
 
-use crate::mapping::Shown;
 use crate::parts::{RUN_DOUBLES, RUN_WHOLES};
 use error::Check;
 use given_rays::{RAY_ROOM_DOUBLES, RAY_ROOM_WHOLES};
@@ -16,9 +15,9 @@ const DETECTORS_DOUBLES: usize = detectors::MAX_DETECTORS * crate::parts::DETECT
 
 const DETECTORS_WHOLES: usize = detectors::MAX_DETECTORS * crate::parts::DETECTOR_WHOLES;
 
-// The answer to a text, or its hit text, or its refusal, written from place `at` on; what has no place is dropped.
-pub fn put_stray_map(buf: &mut [u8], at: usize, shown: Shown, text: &[u8]) -> usize
-    ensures { out buf.new result ≡ put_all buf.old at (stray_map_text shown text.now) }
+// The answer to a text, or its refusal, written from place `at` on; what has no place is dropped.
+pub fn put_stray_map(buf: &mut [u8], at: usize, text: &[u8]) -> usize
+    ensures { out buf.new result ≡ put_all buf.old at (stray_map_text text.now) }
 {
     let mut run_values = [0.0f64; RUN_DOUBLES];
     let mut run_tags = [0u32; RUN_WHOLES];
@@ -47,7 +46,6 @@ pub fn put_stray_map(buf: &mut [u8], at: usize, shown: Shown, text: &[u8]) -> us
         Check::Passed => crate::mapping::put_map(
             buf,
             at,
-            shown,
             &run_values,
             &run_tags,
             &solid_values,

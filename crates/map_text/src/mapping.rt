@@ -1,10 +1,9 @@
-// The tracing of a scene's tables, and what is shown of it.
+// The tracing of a scene's tables, and its answer.
 ghost use Rattle.std.specs.Prelude.{◌≡◌};
 ghost use Rattle.memory.specs.Memory.{lent_memory};
 ghost use Rattle.trace.specs.Trace.{lent_batch, trace_rays_of};
-ghost use Rattle.answer_text.specs.Answer.{held};
 ghost use Rattle.printing.specs.Printing.{out, put_all};
-ghost use Rattle.map_text.specs.Tables.{tables, shown_text, traced_text, map_text};
+ghost use Rattle.map_text.specs.Tables.{tables, traced_text, map_text};
 ghost use Rattle.fields.specs.Split.{front_of};
 
 use crate::parts;
@@ -13,7 +12,6 @@ use error::Check;
 use filter::RayPathFilter;
 use given_rays::{RAY_DOUBLES, RAY_ROOM, RAY_WHOLES};
 use memory::TEXT_PIXELS;
-use report::NonSeqTraceReport;
 use scene::{SOLID_DOUBLES, SOLID_WHOLES};
 use step::NonSeqTraceConfig;
 
@@ -40,41 +38,10 @@ fn front_wholes(l: &[u32], n: usize) -> &[u32]
     l
 }
 
-// What is shown of a tracing that is not refused: its answer, or its hit text.
-#[derive(Drop)]
-pub enum Shown {
-    Answer,
-    Hits,
-}
-
-fn put_shown(
-    buf: &mut [u8],
-    at: usize,
-    shown: Shown,
-    report: NonSeqTraceReport,
-    detectors: Detectors,
-    filter: RayPathFilter,
-    flux: &[f64],
-    hit_values: &[f64],
-    hit_tags: &[u32],
-    used: usize,
-) -> usize
-    ensures { out buf.new result ≡ put_all buf.old at
-        (shown_text shown report filter (held detectors flux.now hit_values.now hit_tags.now used)) }
-{
-    match shown {
-        Shown::Answer => answer_text::put_answer(
-            buf, at, report, detectors, filter, flux, hit_values, hit_tags, used,
-        ),
-        Shown::Hits => hit_text::put_text(buf, at, hit_values, hit_tags, used),
-    }
-}
-
-// A batch traced into a memory without hits, and what is shown of it or the refusal written.
+// A batch traced into a memory without hits, and the answer or the refusal written.
 fn put_traced(
     buf: &mut [u8],
     at: usize,
-    shown: Shown,
     config: NonSeqTraceConfig,
     solid_values: &[f64],
     solid_tags: &[u32],
@@ -90,7 +57,7 @@ fn put_traced(
     hit_tags: &mut [u32],
 ) -> usize
     ensures { out buf.new result ≡ put_all buf.old at
-        (traced_text shown filter (trace_rays_of (lent_batch config solid_values.now solid_tags.now solids ray_values.now ray_tags.now given)
+        (traced_text filter (trace_rays_of (lent_batch config solid_values.now solid_tags.now solids ray_values.now ray_tags.now given)
         (lent_memory ds flux.old hits.old hit_values.old hit_tags.old 0))) }
 {
     let r = trace::trace_rays(
@@ -116,19 +83,18 @@ fn put_traced(
             answer_text::put_refusal(buf, at, error.number(), place)
         }
         Check::Passed => {
-            put_shown(
-                buf, at, shown, report, after, filter, flux, hit_values, hit_tags, r.used,
+            answer_text::put_answer(
+                buf, at, report, after, filter, flux, hit_values, hit_tags, r.used,
             )
         }
     }
 }
 
-// What is shown of a scene's tables, with a memory of its own. A list beyond its limit is cut one place past it
+// The answer to a scene's tables, with a memory of its own. A list beyond its limit is cut one place past it
 // and refused by 3.
 pub fn put_map(
     buf: &mut [u8],
     at: usize,
-    shown: Shown,
     run_values: &[f64],
     run_tags: &[u32],
     solid_values: &[f64],
@@ -142,7 +108,7 @@ pub fn put_map(
     given: u32,
 ) -> usize
     ensures { out buf.new result ≡ put_all buf.old at
-        (map_text shown (tables run_values.now run_tags.now solid_values.now solid_tags.now solids detector_values.now detector_tags.now detectors ray_values.now ray_tags.now given)) }
+        (map_text (tables run_values.now run_tags.now solid_values.now solid_tags.now solids detector_values.now detector_tags.now detectors ray_values.now ray_tags.now given)) }
 {
     let ds = parts::detectors(detector_values, detector_tags, detectors);
     let n = parts::at_most(parts::SOLID_ROOM, solids);
@@ -155,7 +121,6 @@ pub fn put_map(
     put_traced(
         buf,
         at,
-        shown,
         parts::config(run_values, run_tags),
         front(solid_values, n as usize * SOLID_DOUBLES),
         front_wholes(solid_tags, n as usize * SOLID_WHOLES),

@@ -6,10 +6,10 @@ ghost use Rattle.map_text.specs.Tables.{value_of, whole_of, config_of, meant_of,
 use detector::Detector2D;
 use detectors::Detectors;
 use filter::{NumberedFilter, RayPathFilter};
-use forms::NO_FILTER;
 use material::OpticalMedium;
 use rays::Vec3;
 use scene::MAX_SOLIDS;
+use scene_text::NO_FILTER;
 use step::NonSeqTraceConfig;
 
 // Doubles and whole numbers of the run and of each detector in their lists.
@@ -35,7 +35,7 @@ fn value(l: &[f64], i: usize) -> f64
 }
 
 // The whole number at a place; 0 past the end.
-pub fn whole(l: &[u32], i: usize) -> u32
+pub(crate) fn whole(l: &[u32], i: usize) -> u32
     ensures { result ≡ whole_of l.now i }
 {
     if i < l.len() {
@@ -66,7 +66,7 @@ pub(crate) fn config(run_values: &[f64], run_tags: &[u32]) -> NonSeqTraceConfig
 }
 
 // The filter of a number. `-` means All, and so does a number that is no filter's, which no scene text has.
-pub fn meant(number: u32) -> RayPathFilter
+pub(crate) fn meant(number: u32) -> RayPathFilter
     ensures { result ≡ meant_of number }
 {
     if number == NO_FILTER {
@@ -117,8 +117,7 @@ fn detector(detector_values: &[f64], detector_tags: &[u32], i: u32) -> Detector2
     }
 }
 
-// Detectors as the scene text has them, which have caught nothing.
-pub fn detectors(detector_values: &[f64], detector_tags: &[u32], count: u32) -> Detectors
+pub(crate) fn detectors(detector_values: &[f64], detector_tags: &[u32], count: u32) -> Detectors
     ensures { result ≡ detectors_of detector_values.now detector_tags.now count }
 {
     Detectors {

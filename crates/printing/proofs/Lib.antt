@@ -1,5 +1,5 @@
 -- What holds of the definitions.
 pub mod Writing
 pub mod Back
+pub mod Lines
 pub mod Lengths
-pub mod Counting

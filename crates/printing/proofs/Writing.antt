@@ -64,7 +64,7 @@ put_join l l2 p p2 s t z e f = f ∙ ap (λ (o : Out). put_all o.buf o.at t) e �
 
 -- ---- a buffer that is long enough holds all that is written
 
-pub put_fits : (l : List ℕ) (p : ℕ) (t : List ℕ) → p + length t ≤ length l → put_all l p t ≡ out (sets l p t) (p + length t)
+put_fits : (l : List ℕ) (p : ℕ) (t : List ℕ) → p + length t ≤ length l → put_all l p t ≡ out (sets l p t) (p + length t)
 unfolding put_all next_at
 put_fits l p [] h = let e : p ≡ p + 0 = omega arith in ap (λ (n : ℕ). out l n) e
 put_fits l p (b ∷ t) h =

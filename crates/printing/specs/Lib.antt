@@ -1,2 +1,3 @@
 -- Document 01, "`straymap`": how numbers are printed.
 pub mod Printing
+pub mod Rows

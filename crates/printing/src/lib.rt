@@ -1,7 +1,11 @@
 // Numbers and bytes written into a lent buffer, one after another (document 01, `straymap`: doubles "printed
 // with trailing zeros dropped, at least one digit, NaN as `7ff8`", other numbers decimal).
-ghost use Rattle.std.specs.Prelude.{◌≡◌, [], ◌∷◌, ◌<◌, length};
+mod rows;
+
+ghost use Rattle.std.specs.Prelude.{◌≡◌, [], ◌∷◌, ◌<◌};
 ghost use Rattle.printing.specs.Printing.{out, put_all, glyph_of, hex_text, double_text, decimal_text};
+
+pub use rows::put_row;
 
 // One byte at place `at`, and the place after it; a byte for which there is no place is not written.
 pub fn put(buf: &mut [u8], at: usize, b: u8) -> usize
@@ -65,43 +69,10 @@ pub fn put_double(buf: &mut [u8], at: usize, x: f64) -> usize
     put_hex(buf, at, doubles::to_bits(x))
 }
 
-// How many digits these are.
-pub fn double_length(x: f64) -> usize
-    ensures { result ≡ length (double_text x) }
-{
-    let mut rest = doubles::to_bits(x);
-    let mut k: usize = 1;
-    while k < 16 {
-        let low = rest % 0x1000_0000_0000_0000;
-        if low == 0 {
-            return k;
-        }
-        rest = low * 16;
-        k += 1;
-    }
-    k
-}
-
 pub fn put_decimal(buf: &mut [u8], at: usize, n: u64) -> usize
     ensures { out buf.new result ≡ put_all buf.old at (decimal_text 20 n) }
 {
     let mut t = [0u8; 20];
     let k = io::decimal(n, &mut t);
     put_all(buf, at, &t[..k])
-}
-
-// How many digits a decimal has.
-pub fn decimal_length(n: u64) -> usize
-    ensures { result ≡ length (decimal_text 20 n) }
-{
-    let mut rest = n;
-    let mut k: usize = 1;
-    while k < 20 {
-        if rest < 10 {
-            return k;
-        }
-        rest = rest / 10;
-        k += 1;
-    }
-    k
 }

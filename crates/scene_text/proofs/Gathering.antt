@@ -11,8 +11,7 @@ use Rattle.error.specs.Refusals.{Checked, passed, refused_at}
 use Rattle.fields.specs.Split.{split}
 use Rattle.scene_text.specs.Names.{run_names, run_form, solid_names, solid_form, detector_names, detector_form, ray_names, ray_form}
 use Rattle.scene_text.specs.Blocks.{Block, read_names_of, read_one_of, read_lines_of}
-use Rattle.forms.specs.Steps.{Table, table, put}
-use Rattle.scene_text.specs.Steps.{Reading, reading, onto}
+use Rattle.scene_text.specs.Steps.{Table, table, put, Reading, reading, onto}
 use Rattle.scene_text.specs.Scene.{read_run_of, Contents, contents_in, Tally, tally, tallied, Slices, slices, doubles_in, wholes_in, filled_with, answer, answered, read_scene_of}
 
 pub names_are : (names : List ℕ) (ls : List (List ℕ)) (n : ℕ) (t t2 : Table) (o : Bool) (m k : ℕ) (rs : List (List ℕ)) → reading o m k t2 rs ≡ onto 0 t (read_lines_of names [] ls n) → (o ≡ (read_names_of names ls n).ok) × (m ≡ (read_names_of names ls n).line) × (rs ≡ (read_names_of names ls n).rest)

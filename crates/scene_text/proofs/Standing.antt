@@ -1,30 +1,47 @@
 -- Laws of a text that is read line by line. Assumes nothing.
 use mathlib.Core.Path.{◌≡◌, refl, sym, ap, ◌∙◌}
-use mathlib.Core.List.{List, [], ◌∷◌}
+use mathlib.Core.List.{List, [], ◌∷◌, ◌++◌}
 use mathlib.Core.Bool.{Bool, true, false, cond}
 use Prim.Native.Nat.{ℕ, suc, ◌+◌, ◌-◌, ◌≤◌, ◌<◌}
-use native.Mathlib.Nat.{add-zero}
+use native.Mathlib.Nat.{add-zero, lt_irrefl}
 use native.Mathlib.Omega.{arith}
-use lib.ListN.{length, take, drop}
+use lib.Dec.{eqb}
+use lib.ListN.{length, take, drop, length-drop}
 use lib.Ieee.{Float}
+use borrow.Author.Tests.{eqb-true}
 use Rattle.fields.specs.Split.{before, split, end_at_of, parts_at}
 use Rattle.fields.proofs.Parts.{parts_past, parts_in, later_after}
-use Rattle.forms.specs.Lines.{ended, is_nil, read_row_of, same_of}
-use Rattle.forms.specs.Cells.{Values, joined}
-use Rattle.forms.specs.Tables.{put_all}
-use Rattle.scene_text.specs.Blocks.{Block, block, over, stopped, line_then, read_one_of, ends_well_of, read_lines_of}
-use Rattle.forms.specs.Steps.{Table, table, put}
-use Rattle.scene_text.specs.Steps.{Reading, reading, onto, rest_at, comes_to}
-use Rattle.forms.proofs.Reading.{line_text_lem}
-use Rattle.forms.proofs.Filling.{put_ok, put_any, put_then}
+use Rattle.scene_text.specs.Names.{ended}
+use Rattle.scene_text.specs.Cells.{Values, joined}
+use Rattle.scene_text.specs.Lines.{is_nil, read_row_of}
+use Rattle.scene_text.specs.Tables.{put_all}
+use Rattle.scene_text.specs.Blocks.{same_of, Block, block, over, stopped, line_then, read_one_of, ends_well_of, read_lines_of}
+use Rattle.scene_text.specs.Steps.{Table, table, put, Reading, reading, onto, rest_at, comes_to}
+use Rattle.scene_text.proofs.Filling.{put_ok, put_any, put_then}
 
 -- ---- the first line of a text
+
+take_ended : (b : ℕ) (l : List ℕ) → length (before b l) < length l → take (suc (length (before b l))) l ≡ before b l ++ (b ∷ [])
+unfolding before
+take_ended b [] h = absurd (lt_irrefl 0 h)
+take_ended b (x ∷ l) h = go (eqb x b) refl h (take_ended b l)
+  where
+    go : (t : Bool) → eqb x b ≡ t → length (cond t [] (x ∷ before b l)) < suc (length l) → (length (before b l) < length l → take (suc (length (before b l))) l ≡ before b l ++ (b ∷ [])) → take (suc (length (cond t [] (x ∷ before b l)))) (x ∷ l) ≡ cond t [] (x ∷ before b l) ++ (b ∷ [])
+    go true e g i = ap (λ (n : ℕ). n ∷ []) (eqb-true _ _ e)
+    go false e g i = ap (λ (y : List ℕ). x ∷ y) (i (omega (arith, g)))
 
 split_not_nil : (b : ℕ) (l : List ℕ) → is_nil (split b l) ≡ false
 unfolding is_nil split
 split_not_nil b l = refl
 
 module _ (s : List ℕ) (at e : ℕ) (q : e ≡ end_at_of s at 10) (h : at ≤ length s) where
+  line_text_lem : e < length s → take (e + 1 - at) (drop at s) ≡ ended (before 10 (drop at s))
+  unfolding ended end_at_of
+  line_text_lem g =
+      let n : e + 1 - at ≡ suc (length (before 10 (drop at s))) = omega (arith, q) in
+      let m : length (before 10 (drop at s)) < length (drop at s) = rw (length-drop at s) (omega (arith, q)) in
+      rw n (take_ended 10 (drop at s) m)
+
   first : e < length s → split 10 (drop at s) ≡ before 10 (drop at s) ∷ split 10 (drop (e + 1) s)
   unfolding split
   first g =

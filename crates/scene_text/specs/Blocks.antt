@@ -1,7 +1,14 @@
 -- The lines of a text, one after the other.
 use Rattle.std.specs.Prelude.{ℕ, suc, ◌+◌, List, [], ◌∷◌, Bool, true, false, cond, eqb, length}
-use Rattle.forms.specs.Lines.{is_nil, ended, same_of, read_row_of}
-use Rattle.forms.specs.Cells.{Values, no_values, bad_values, joined}
+use Rattle.scene_text.specs.Names.{ended}
+use Rattle.scene_text.specs.Cells.{Values, no_values, bad_values, joined}
+use Rattle.scene_text.specs.Lines.{is_nil, read_row_of}
+
+unfoldable pub same_of : List ℕ → List ℕ → Bool
+same_of [] [] = true
+same_of [] (y ∷ b) = false
+same_of (x ∷ a) [] = false
+same_of (x ∷ a) (y ∷ b) = cond (eqb x y) (same_of a b) false
 
 -- What a block of lines is: whether all are well formed, the number of the line to come or else of the first bad or
 -- missing one,

@@ -4,7 +4,7 @@ use Rattle.error.specs.Refusals.{Checked, passed, refused_at}
 use Rattle.fields.specs.Split.{split}
 use Rattle.scene_text.specs.Names.{run_names, run_form, solid_names, solid_form, detector_names, detector_form}
 use Rattle.scene_text.specs.Names.{ray_names, ray_form, max_text}
-use Rattle.forms.specs.Tables.{put_all}
+use Rattle.scene_text.specs.Tables.{put_all}
 use Rattle.scene_text.specs.Blocks.{Block, read_names_of, read_one_of, read_lines_of}
 
 -- The four blocks. The last one is well formed if all are; its line is the first bad or missing one else.

@@ -1,9 +1,32 @@
 -- Nobody has to believe this page: what private functions answer on the way, tied to Scene by `gathered`
 -- (proofs/Gathering.antt). They read a line or a block step by step, and say what it all comes to from there on.
-use Rattle.std.specs.Prelude.{ℕ, ◌+◌, List, [], Bool, cond, drop}
+use Rattle.std.specs.Prelude.{ℕ, ◌+◌, List, [], Bool, cond, drop, Float}
 use Rattle.fields.specs.Split.{split}
-use Rattle.forms.specs.Steps.{Table, put}
+use Rattle.scene_text.specs.Cells.{Values}
+use Rattle.scene_text.specs.Lines.{read_row_of}
+use Rattle.scene_text.specs.Tables.{put_all}
 use Rattle.scene_text.specs.Blocks.{Block, read_lines_of}
+
+-- a slice of doubles and one of whole numbers, and whether all was well formed so far
+pub record Table : Type 0 where
+  pub ok : Bool
+  pub doubles : List Float
+  pub nd : ℕ
+  pub wholes : List ℕ
+  pub nw : ℕ
+
+abbrev pub table : Bool → List Float → ℕ → List ℕ → ℕ → Table
+table b d nd w nw = record { ok = b; doubles = d; nd = nd; wholes = w; nw = nw }
+
+unfoldable pub put : Values → Table → Table
+put v t =
+    let d = put_all t.doubles t.nd v.doubles in
+    let w = put_all t.wholes t.nw v.wholes in
+    table v.ok d.list d.next w.list w.next
+
+-- a line, read up to this place, with this form to come
+unfoldable pub line_from : List ℕ → ℕ → List ℕ → Table → Table
+line_from line at form t = cond t.ok (put (read_row_of form (drop at line)) t) t
 
 -- a block whose values are in slices
 pub record Reading : Type 0 where

@@ -1,12 +1,11 @@
 // Blocks of lines.
 ghost use Rattle.std.specs.Prelude.{◌≡◌, true, ◌+◌, ◌≤◌, ◌<◌, length};
 ghost use Rattle.fields.specs.Split.{end_at_of};
-ghost use Rattle.scene_text.specs.Blocks.{read_names_of, read_one_of, ends_well_of, read_lines_of};
-ghost use Rattle.forms.specs.Steps.{table};
-ghost use Rattle.scene_text.specs.Steps.{reading, onto, rest_at, comes_to};
+ghost use Rattle.scene_text.specs.Blocks.{same_of, read_names_of, read_one_of, ends_well_of, read_lines_of};
+ghost use Rattle.scene_text.specs.Steps.{table, reading, onto, rest_at, comes_to};
 ghost use Rattle.scene_text.specs.Names.{max_text};
 
-use forms::{read_row, same};
+use crate::rows::read_row;
 
 // Where the reading of a block stands: whether it goes on, whether all was well formed so far, where the next line starts and its number
 // (the first bad or missing one's where not ok), how many lines of values there were, and the places that come next.
@@ -19,6 +18,23 @@ pub struct Found {
     pub rows: u32,
     pub nd: usize,
     pub nw: usize,
+}
+
+fn same(a: &[u8], b: &[u8]) -> bool
+    ensures { result ≡ same_of a.now b.now }
+{
+    let n = a.len();
+    if n != b.len() {
+        return false;
+    }
+    let mut i: usize = 0;
+    while i < n {
+        if a[i] != b[i] {
+            return false;
+        }
+        i += 1;
+    }
+    true
 }
 
 // The line that ends at place e.

@@ -1,5 +1,9 @@
 // The scene text of document 01, `straymap`: four blocks of lines, read into the caller's slices.
 mod blocks;
+mod cells;
+mod media;
+mod rows;
 mod scene;
 
+pub use cells::NO_FILTER;
 pub use scene::{MAX_TEXT, SceneText, read_scene};

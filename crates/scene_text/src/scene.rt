@@ -4,8 +4,7 @@ ghost use Rattle.error.specs.Refusals.{as_checked, refused_at};
 ghost use Rattle.fields.specs.Split.{split};
 ghost use Rattle.scene_text.specs.Names.{solid_names, solid_form, detector_names, detector_form, ray_names, max_text};
 ghost use Rattle.scene_text.specs.Blocks.{read_names_of, read_lines_of};
-ghost use Rattle.forms.specs.Steps.{table};
-ghost use Rattle.scene_text.specs.Steps.{rest_at, onto, reading};
+ghost use Rattle.scene_text.specs.Steps.{table, rest_at, onto, reading};
 ghost use Rattle.scene_text.specs.Scene.{read_run_of, contents_in, tally, slices, doubles_in, wholes_in, filled_with, answer, read_scene_of, check_text_of};
 
 use crate::blocks::{Found, read_lines, read_names, read_one};

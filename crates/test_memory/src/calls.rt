@@ -1,4 +1,4 @@
-// Calls that write the memory: a hit recorded, a batch traced, a hit text replayed; and a work map refilled.
+// Calls that write the memory: a hit recorded, a batch traced; and a work map refilled.
 use detector::{DetectorHit, DetectorNo};
 use given_rays::{RAY_DOUBLES, RAY_WHOLES};
 use host_detectors::HostFiltered;
@@ -46,43 +46,6 @@ fn record(
     let after = r.detectors;
     world::put_records(numbers, after, r.used);
     world::tell_refusal(numbers, r.refusal, r.place);
-    world::tell(numbers, 2, r.used as u64);
-    Ran::Done
-}
-
-// The hit text, behind what is written.
-fn hit_text<'a>(written: &'a [u8], numbers: &[u64]) -> &'a [u8] {
-    let n = lists::few(numbers, world::HIT_TEXT, world::HIT_TEXT_ROOM);
-    files::between(
-        written,
-        world::WRITTEN_ROOM,
-        files::plus(world::WRITTEN_ROOM, n),
-    )
-}
-
-pub fn replay(
-    written: &[u8],
-    values: &[f64],
-    tags: &[u32],
-    flux: &mut [f64],
-    hits: &mut [u32],
-    hit_values: &mut [f64],
-    hit_tags: &mut [u32],
-    numbers: &mut [u64],
-) -> Ran {
-    let r = host_hits::nonseq_replay_hits(
-        hit_text(written, numbers),
-        world::all_detectors(values, tags, numbers),
-        flux,
-        hits,
-        hit_values,
-        hit_tags,
-        used(numbers),
-    );
-    let after = r.detectors;
-    world::put_records(numbers, after, r.used);
-    world::tell(numbers, 0, r.refusal as u64);
-    world::tell(numbers, 1, r.place as u64);
     world::tell(numbers, 2, r.used as u64);
     Ran::Done
 }

@@ -2,44 +2,17 @@
 use test_words::words::{Ran, done_if};
 use test_words::{files, lists, words, world};
 
-// The next N bytes, which a newline follows, to place `at` of a list of bytes and on; their number goes to place `i`.
-fn take(all: &[u8], into: &mut [u8], at: usize, room: usize, numbers: &mut [u64], i: usize) -> Ran {
+// The next N bytes are the scene text, and a newline follows them.
+pub fn text(all: &[u8], text: &mut [u8], numbers: &mut [u64]) -> Ran {
     let behind = words::behind_in(all, numbers);
     let n = world::given_low(numbers, 0) as usize;
     if fields::is_byte(files::between(behind, n, n + 1), b'\n') {
-        lists::put_number(numbers, i, n as u64);
+        lists::put_number(numbers, world::TEXT, n as u64);
         lists::put_number(numbers, world::BEHIND, n as u64 + 1);
-        printing::put_all(into, at, files::front(behind, n));
-        return done_if(n <= room);
+        printing::put_all(text, 0, files::front(behind, n));
+        return done_if(n <= world::TEXT_ROOM);
     }
     Ran::Missing
-}
-
-// The next N bytes are the scene text, the hit text.
-pub fn text(all: &[u8], text: &mut [u8], numbers: &mut [u64]) -> Ran {
-    take(all, text, 0, world::TEXT_ROOM, numbers, world::TEXT)
-}
-
-pub fn hit_text(all: &[u8], written: &mut [u8], numbers: &mut [u64]) -> Ran {
-    take(
-        all,
-        written,
-        world::WRITTEN_ROOM,
-        world::HIT_TEXT_ROOM,
-        numbers,
-        world::HIT_TEXT,
-    )
-}
-
-// The hit text is the first N bytes of what was written last.
-pub fn hit_written(written: &mut [u8], numbers: &mut [u64]) -> Ran {
-    let n = world::given(numbers, 0);
-    if n <= lists::number_at(numbers, world::WRITTEN) as usize {
-        lists::put_number(numbers, world::HIT_TEXT, n as u64);
-        lists::copy_on(written, world::WRITTEN_ROOM, n);
-        return Ran::Done;
-    }
-    Ran::Past
 }
 
 // The scene text is a file of that name; `text` has a byte more than the room.

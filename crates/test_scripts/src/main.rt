@@ -113,7 +113,7 @@ fn run_lines(name: &[u8], table: &[u8], all: &[u8], numbers: &mut [u64]) {
     let mut hits = [0u32; world::LENT_ROOM];
     let mut hit_values = [0.0f64; world::LENT_ROOM];
     let mut hit_tags = [0u32; world::LENT_ROOM];
-    let mut written = [0u8; world::BYTES];
+    let mut written = [0u8; world::WRITTEN_ROOM];
     let mut at: usize = 0;
     while at < all.len() {
         step(

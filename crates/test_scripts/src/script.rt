@@ -1,6 +1,4 @@
 // The verbs by their numbers, which are their places in data/verbs, and the calls behind them.
-ghost use Rattle.std.specs.Prelude.{◌≤◌, length};
-
 use test_memory::{calls, set_up};
 use test_words::words::Ran;
 use test_words::{lists, world};
@@ -20,13 +18,7 @@ const FIRST_ON_DETECTORS: usize = 19;
 
 const FIRST_ON_MEMORY: usize = 27;
 
-const FIRST_ON_HITS: usize = 33;
-
-const HIT_WRITTEN: usize = 34;
-
-const PUT_HITS: usize = 35;
-
-pub(crate) const VERBS: usize = 37;
+pub(crate) const VERBS: usize = 33;
 
 // A script begins: with zeros.
 fn begin(values: &mut [f64], tags: &mut [u32], numbers: &mut [u64]) -> Ran {
@@ -73,21 +65,6 @@ fn on_text(
     }
 }
 
-// How much may be written: the hit text stands behind it.
-fn room(written: &[u8]) -> usize
-    ensures { result ≤ length written.now }
-{
-    lists::at_most(world::WRITTEN_ROOM, written.len())
-}
-
-// Lines that make the hit text.
-fn on_hit_text(verb: usize, all: &[u8], written: &mut [u8], numbers: &mut [u64]) -> Ran {
-    if verb == HIT_WRITTEN {
-        return set_up::hit_written(written, numbers);
-    }
-    set_up::hit_text(all, written, numbers)
-}
-
 // Lines on what is written.
 fn on_written(
     verb: usize,
@@ -97,19 +74,18 @@ fn on_written(
     numbers: &mut [u64],
 ) -> Ran {
     let n = lists::few(numbers, world::TEXT, text.len());
-    let most = room(written);
     let a = world::given(numbers, 0);
     let b = world::given(numbers, 2);
     if verb == 12 {
         return test_texts::written(all, written, numbers);
     }
     if verb == 10 {
-        if a <= most {
+        if a <= written.len() {
             return test_texts::map(&text[0..n], numbers, &mut written[0..a]);
         }
         return Ran::Past;
     }
-    if b <= most {
+    if b <= written.len() {
         return test_texts::refusal(numbers, &mut written[0..b]);
     }
     Ran::Past
@@ -147,7 +123,7 @@ fn on_readings(
     numbers: &mut [u64],
     written: &mut [u8],
 ) -> Ran {
-    let n = lists::few(numbers, world::GIVEN + 1, room(written));
+    let n = lists::few(numbers, world::GIVEN + 1, written.len());
     match verb {
         27 => calls::refilter(values, tags, flux, hit_values, hit_tags, numbers),
         28 => {
@@ -171,30 +147,6 @@ fn on_readings(
     }
 }
 
-// Calls on hit texts: `put_hits`, and `replay`.
-fn on_hits(
-    verb: usize,
-    values: &[f64],
-    tags: &[u32],
-    flux: &mut [f64],
-    hits: &mut [u32],
-    hit_values: &mut [f64],
-    hit_tags: &mut [u32],
-    numbers: &mut [u64],
-    written: &mut [u8],
-) -> Ran {
-    let n = lists::few(numbers, world::GIVEN, room(written));
-    if verb == PUT_HITS {
-        if n == world::given(numbers, 0) {
-            return test_texts::put_hits(hit_values, hit_tags, numbers, &mut written[0..n]);
-        }
-        return Ran::Past;
-    }
-    calls::replay(
-        written, values, tags, flux, hits, hit_values, hit_tags, numbers,
-    )
-}
-
 // Calls on the memory, with what is lent.
 fn on_lent(
     verb: usize,
@@ -215,12 +167,7 @@ fn on_lent(
     if verb < FIRST_ON_MEMORY {
         return on_detectors(verb, values, tags, flux, numbers);
     }
-    if verb < FIRST_ON_HITS {
-        return on_readings(
-            verb, values, tags, flux, hits, hit_values, hit_tags, numbers, written,
-        );
-    }
-    on_hits(
+    on_readings(
         verb, values, tags, flux, hits, hit_values, hit_tags, numbers, written,
     )
 }
@@ -279,16 +226,12 @@ fn on_texts(
     if verb < FIRST_SET_UP {
         return on_written(verb, all, text, written, numbers);
     }
-    if verb == SET {
-        return set_up::set_read(values, tags, numbers);
-    }
-    on_hit_text(verb, all, written, numbers)
+    set_up::set_read(values, tags, numbers)
 }
 
 // Whether a line is one of those: `set` where the list is one that is read.
 fn is_on_texts(verb: usize, numbers: &[u64]) -> bool {
-    let set = (verb == SET) & set_up::is_read(world::given(numbers, 0));
-    (verb < FIRST_SET_UP) | set | (verb == FIRST_ON_HITS) | (verb == HIT_WRITTEN)
+    (verb < FIRST_SET_UP) | ((verb == SET) & set_up::is_read(world::given(numbers, 0)))
 }
 
 // The line at which the file stands.

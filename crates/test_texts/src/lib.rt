@@ -1,7 +1,6 @@
-// Lines of scripts on texts: scene texts read, answers and hit texts written, and the ratio of a ledger.
+// Lines of scripts on texts: scene texts read, answers written, and the ratio of a ledger.
 use given_rays::{RAY_DOUBLES, RAY_ROOM_DOUBLES, RAY_ROOM_WHOLES, RAY_WHOLES};
-use host_numbers::HostText;
-use host_texts::HostScene;
+use host_texts::{HostScene, HostText};
 use report::{Ledger, NonSeqTraceReport, Tallies};
 use scene::{SOLID_DOUBLES, SOLID_WHOLES};
 use test_words::words::Ran;
@@ -243,7 +242,7 @@ fn last_report(numbers: &[u64]) -> NonSeqTraceReport {
     }
 }
 
-// The four calls that write a text, into a buffer of dots.
+// The three calls that write a text, into a buffer of dots.
 fn put_answer(
     values: &[f64],
     tags: &[u32],
@@ -292,14 +291,6 @@ pub fn map(text: &[u8], numbers: &mut [u64], buf: &mut [u8]) -> Ran {
     lists::dot(buf);
     let length = host_texts::nonseq_stray_map(buf, text);
     tell_text(numbers, 0, length, buf)
-}
-
-pub fn put_hits(hit_values: &[f64], hit_tags: &[u32], numbers: &mut [u64], buf: &mut [u8]) -> Ran {
-    lists::dot(buf);
-    let used = lists::number_at(numbers, world::USED) as usize;
-    let r = host_hits::nonseq_put_hits(buf, hit_values, hit_tags, used);
-    world::tell_refusal(numbers, r.refusal, r.place);
-    tell_text(numbers, 2, r.length, buf)
 }
 
 // Whether what was written last is the file. A file that fills the room here is longer than all that is written.

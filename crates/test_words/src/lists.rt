@@ -35,13 +35,6 @@ pub fn double_at(s: &[f64], i: usize) -> f64 {
     0.0
 }
 
-fn byte_at(s: &[u8], i: usize) -> u8 {
-    if i < s.len() {
-        return s[i];
-    }
-    0
-}
-
 pub fn number_at(s: &[u64], i: usize) -> u64 {
     if i < s.len() {
         return s[i];
@@ -214,15 +207,6 @@ pub fn clear_numbers(s: &mut [u64], at: usize, n: usize) {
 // Raised by n.
 pub fn raise(s: &mut [u64], i: usize, n: u64) {
     put_number(s, i, std::num::wrapping_add_u64(number_at(s, i), n));
-}
-
-// The first n bytes copied, to place `at` and on.
-pub fn copy_on(s: &mut [u8], at: usize, n: usize) {
-    let mut i: usize = 0;
-    while i < n {
-        put_byte(s, std::num::wrapping_add_usize(at, i), byte_at(s, i));
-        i += 1;
-    }
 }
 
 // All bytes `.`.

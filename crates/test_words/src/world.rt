@@ -18,11 +18,6 @@ pub const TEXT_ROOM: usize = 65537;
 
 pub const WRITTEN_ROOM: usize = 131072;
 
-// The hit text stands behind it, in the same list of bytes.
-pub const HIT_TEXT_ROOM: usize = 131072;
-
-pub const BYTES: usize = WRITTEN_ROOM + HIT_TEXT_ROOM;
-
 pub const DETECTOR_DOUBLES: usize = 11;
 
 pub const DETECTOR_WHOLES: usize = 2;
@@ -99,13 +94,10 @@ pub const COUNTS: usize = 24;
 // The last report: five powers, rays, interactions, seven tallies.
 pub const REPORT: usize = 32;
 
-// Bytes of the hit text.
-pub const HIT_TEXT: usize = 46;
-
 // What a line gives, and what it is answered.
-pub const GIVEN: usize = 47;
+pub const GIVEN: usize = 46;
 
-pub const TOLD: usize = 63;
+pub const TOLD: usize = 62;
 
 pub const NUMBERS: usize = 84;
 

@@ -31,9 +31,8 @@ use Rattle.filter.specs.Handed.{handed, from_map, check_placed, check_filter_of,
 use Rattle.filter.proofs.Agree.{each_same}
 use Rattle.run.specs.Run.{Run}
 use Rattle.trace.specs.Trace.{Batch, run_on, traced, check_batch, trace_after, trace_rays_of}
-use Rattle.hit_text.specs.HitText.{written, hit_text, whole_or_none, put_hits_of}
-use Rattle.theorems_calls.specs.Calls.{Call, tracing, recording, replaying, writing, refilter, part, irradiance, crossing, area, trace_said, record_said, replay_said, write_said, filter_said, part_said, reading_said, verdict, traced_answer, answer_in, outcome_in, memory_after}
-use Rattle.theorems_calls.specs.Book.{bare_detector, bare_detectors, bare, with_used, wish_in, plain_hit, book_granted, book_after, book_view, book_traced, book_asked, book_filtered, book_part, book_reading, book_written, book_answer}
+use Rattle.theorems_calls.specs.Calls.{Call, tracing, recording, refilter, part, irradiance, crossing, area, trace_said, record_said, filter_said, part_said, reading_said, verdict, traced_answer, answer_in, outcome_in, memory_after}
+use Rattle.theorems_calls.specs.Book.{bare_detector, bare_detectors, bare, with_used, wish_in, plain_hit, book_granted, book_after, book_view, book_traced, book_asked, book_filtered, book_part, book_reading, book_answer}
 use Rattle.theorems_calls.proofs.Drives.{map_run}
 use Rattle.theorems_calls.proofs.Reached.{added_flux, added_values, added_tags, added_faces}
 use Rattle.theorems_calls.proofs.Bare.{bare_at, bare_pixels_at, bare_pixel_at, bare_asked, bare_all, bare_hits, faces_bare, bare_used, bare_detectors_lem, bare_flux, bare_values, bare_tags}
@@ -262,30 +261,16 @@ module _ (s : Memory) (eight : length s.detectors.list ≡ 8) (empty : Empty s) 
         go (passed tt) e = ap (λ (r : Run Memory). traced_answer (traced r)) (run-same e) ∙ ran-same (run_on (plain_hit (bare s)) es B b)
         go (refused_at n place) e = refl
 
-  -- ---- the hit text
-
-  written_same : (buf : List ℕ) → put_hits_of buf m.hit_values m.hit_tags m.used ≡ book_written (bare s) buf b
-  unfolding put_hits_of book_written
-  written_same buf =
-      ap (λ hs. cond (is_hit_list_of (length m.hit_values) (length m.hit_tags) m.used) (whole_or_none buf (hit_text hs)) (written (refused_at 9 0) 0 buf)) sane.back
-      ∙ rw (added_values b s, added_tags b s, used_by s eight empty b, bare_values s, bare_tags s)
-
   -- ---- every call
 
   recording_same : (h : DetectorHit) → answer_in (recording h) m ≡ book_answer (bare s) (recording h) b
   unfolding answer_in book_answer outcome_in
   recording_same h = ap (λ o. record_said (verdict o)) (call_booked s eight empty (recording h) b) ∙ ap record_said (verdict_map (added s) (book_granted (bare s) (wish_in (recording h)) b))
 
-  replaying_same : (text : List ℕ) → answer_in (replaying text) m ≡ book_answer (bare s) (replaying text) b
-  unfolding answer_in book_answer outcome_in
-  replaying_same text = ap (λ o. replay_said (verdict o)) (call_booked s eight empty (replaying text) b) ∙ ap replay_said (verdict_map (added s) (book_granted (bare s) (wish_in (replaying text)) b))
-
   pub answer_same : (c : Call) → answer_in c m ≡ book_answer (bare s) c b
   unfolding answer_in book_answer
   answer_same (tracing B) = tracing_same B
   answer_same (recording h) = recording_same h
-  answer_same (replaying text) = replaying_same text
-  answer_same (writing buf) = ap write_said (written_same buf)
   answer_same (refilter d f work) = ap filter_said (refilter_same d f work)
   answer_same (part d f work) = ap part_said (part_same d f work)
   answer_same (irradiance d px py) = ap reading_said (reading-same d px py)

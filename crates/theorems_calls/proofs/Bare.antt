@@ -111,7 +111,7 @@ bare_set [] i f = refl
 bare_set (x ∷ l) zero f = refl
 bare_set (x ∷ l) (suc i) f = ap (λ t. bare_detector x ∷ t) (bare_set l i f)
 
-pub bare_raised : (s : Memory) (p : ℕ) (k : DetectorHit) → bare_detectors (written_at s p k).detectors ≡ bare_detectors s.detectors
+bare_raised : (s : Memory) (p : ℕ) (k : DetectorHit) → bare_detectors (written_at s p k).detectors ≡ bare_detectors s.detectors
 unfolding written_at
 bare_raised s p k = ap (λ (l : List Detector2D). counted l) (bare_set s.detectors.list k.detector.0 k.flux_watts)
   where
@@ -210,7 +210,7 @@ module _ (s : Memory) where
 
 -- ---- lists of one value
 
-pub all_same : {A : Type 0} (z a : A) (l : List A) → ((i : ℕ) → i < length l → get_or l i z ≡ a) → replicate (length l) a ≡ l
+all_same : {A : Type 0} (z a : A) (l : List A) → ((i : ℕ) → i < length l → get_or l i z ≡ a) → replicate (length l) a ≡ l
 all_same z a l e =
     ext_get_or z (replicate (length l) a) l (length-replicate (length l) a)
     (λ i k. let q : i < length l = subst (λ n. i < n) (length-replicate (length l) a) k in get_or-replicate (length l) i a z q ∙ sym (e i q))

@@ -15,7 +15,6 @@ use Rattle.memory.proofs.Views.{Fits}
 use Rattle.memory.proofs.Booked.{Booked, empty_booked, record_books, holds_checked}
 use Rattle.theorems_calls.specs.Book.{bare, with_used, Wish, granted, check_hit, plain_hit, book_granted}
 use Rattle.theorems_calls.proofs.Bare.{emptied, bare_used, plain_bare}
-use Rattle.theorems_calls.proofs.Again.{Again, none_again, plain_again}
 use Rattle.theorems_calls.proofs.Wishes.{Lawful, hit_there, hit_blind}
 
 pub left_map : {N M : Type 0} (φ : N → M) (o : Outcome N) → memory_left (map_outcome φ o) ≡ φ (memory_left o)
@@ -52,21 +51,15 @@ module _ (s : Memory) (eight : length s.detectors.list ≡ 8) (empty : Empty s) 
         let t = hit_there (with_used s n) h e in
         record { named = omega (arith, t.0.most, t.1, eight); grid = t.0.each h.detector.0 t.1 }
 
-  -- ---- what holds of the book after every call: the list read back is it, its hits are on detectors that are there, and put one by one from nothing they make it again
+  -- ---- what holds of the book after every call: the list read back is it, and its hits are on detectors that are there
 
   pub record Sane (b : List DetectorHit) : Type 0 where
     pub back : listed (added s b) ≡ b
     pub booked : Booked s eight empty (added s b)
-    pub again : Again (bare s) s.detectors.count b
 
   pub start_sane : Sane []
   unfolding added hits_from
-  start_sane =
-      record {
-        back = ap (λ n. hits_from s.hit_values s.hit_tags n 0) empty.used;
-        booked = empty_booked s eight empty;
-        again = none_again (bare s) s.detectors.count;
-      }
+  start_sane = record { back = ap (λ n. hits_from s.hit_values s.hit_tags n 0) empty.used; booked = empty_booked s eight empty }
 
   module _ (n : ℕ) (h : DetectorHit) (e : check_hit h (with_used s n) ≡ passed tt) where
     left-put : (b : List DetectorHit) → memory_left (record_of (added s b) h) ≡ added s (memory_left (book_hit s b h))
@@ -78,7 +71,6 @@ module _ (s : Memory) (eight : length s.detectors.list ≡ 8) (empty : Empty s) 
           back =
               ap listed (sym (left-put b)) ∙ record_lists s eight empty (added s b) h (below n h e) (ap (added s) x.back) ∙ ap (λ c. memory_left (book_hit s c h)) x.back;
           booked = subst (Booked s eight empty) (left-put b) (record_books s eight empty (added s b) h (below n h e) (fits n h e) x.booked);
-          again = subst (λ o. Again (bare s) s.detectors.count (memory_left o)) (sym (plain-hit n h e b)) (plain_again (bare s) s.detectors.count b h (below n h e) x.again);
         }
 
     plain_sane : (b : List DetectorHit) → Sane b → Sane (memory_left (plain_hit (bare s) b h))

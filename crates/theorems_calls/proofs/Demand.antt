@@ -2,7 +2,7 @@
 use Prim.Native.Nat.{ℕ}
 use mathlib.Core.Path.{◌≡◌}
 use mathlib.Core.List.{List, []}
-use lib.ListN.{length, take}
+use lib.ListN.{length}
 use Rattle.error.specs.Refusals.{passed, refused_at}
 use Rattle.memory.specs.Memory.{Memory, refused}
 use Rattle.memory.specs.Plain.{Empty}
@@ -19,30 +19,20 @@ use Rattle.filter.proofs.refilter.Statement.{statement as refilter-meets}
 use Rattle.filter.proofs.refilter.Met as refilter
 use Rattle.filter.proofs.filtered_pixel_flux.Statement.{statement as filtered-pixel-flux-meets}
 use Rattle.filter.proofs.filtered_pixel_flux.Met as filtered_pixel_flux
-use Rattle.hit_text.proofs.replay_hits.Statement.{statement as replay-hits-meets}
-use Rattle.hit_text.proofs.replay_hits.Met as replay_hits_lem
-use Rattle.hit_text.proofs.put_hits.Statement.{statement as put-hits-meets}
-use Rattle.hit_text.proofs.put_hits.Met as put_hits_lem
 use Rattle.trace.proofs.trace_rays.Statement.{statement as trace-rays-meets}
 use Rattle.trace.proofs.trace_rays.Met as trace_rays_lem
-use Rattle.hit_text.specs.HitText.{written, put_hits_of}
-use Rattle.hit_text.specs.Replay.{check_replay, replay_hits_of}
 use Rattle.theorems_calls.specs.Parts.{Part, Splits, trace_parts}
 use Rattle.theorems_calls.specs.Calls.{Call, answer_in, memory_after}
 use Rattle.theorems_calls.specs.Book.{bare, book_after, book_answer, Told}
-use Rattle.theorems_calls.specs.Replayed.{Lent, RoundTrip}
 use Rattle.theorems_calls.proofs.Split as splitting
 use Rattle.theorems_calls.proofs.Lists as lists
 use Rattle.theorems_calls.proofs.Answers.{answers as answers-alike}
-use Rattle.theorems_calls.proofs.Replayed as replayed
-use Rattle.theorems_calls.proofs.Nine.{nine_before, nine_replay as no-line-nine}
+use Rattle.theorems_calls.proofs.Nine.{nine_before}
 
 pub record Demand3 (M : Type 1) : Type 2 where
   -- the calls of the list, as compiled
   pub trace_rays_lem : trace-rays-meets M
   pub record_hit_classified : record-hit-classified-meets M
-  pub replay_hits_lem : replay-hits-meets M
-  pub put_hits_lem : put-hits-meets M
   pub refilter : refilter-meets M
   pub filtered_pixel_flux : filtered-pixel-flux-meets M
   pub irradiance_at_lem : irradiance-at-meets M
@@ -56,23 +46,14 @@ pub record Demand3 (M : Type 1) : Type 2 where
   pub answers : (s : Memory) → length s.detectors.list ≡ 8 → Empty s → (cs : List Call) (c : Call) → answer_in c (memory_after cs s) ≡ book_answer (bare s) c (book_after (bare s) cs [])
   -- what the book is fed of the memory does not change with them
   pub fed : (s : Memory) → length s.detectors.list ≡ 8 → Empty s → (cs : List Call) → bare (memory_after cs s) ≡ bare s
-  -- the hit text of what they left, replayed over the same detectors without hits, restores it; only the checks before it can refuse it
-  pub round_trip :
-      (s z : Memory) → length s.detectors.list ≡ 8 → Empty s → length z.detectors.list ≡ 8 → Empty z → bare z ≡ bare s → (cs : List Call) → Lent (memory_after cs s) → (buf : List ℕ) (n : ℕ) (left : List ℕ)
-      → put_hits_of buf (memory_after cs s).hit_values (memory_after cs s).hit_tags (memory_after cs s).used ≡ written (passed tt) n left
-      → RoundTrip (memory_after cs s) z (replay_hits_of (take n left) z)
   -- where a detector wins, only 12 and 13 end the run
   pub nine : (B : Batch) (s : Memory) (place : ℕ) (t : Memory) → (trace_rays_of B s).outcome ≡ refused 9 place t → check_batch B s ≡ refused_at 9 place
-  -- nor does 9 refuse a line of a hit text
-  pub nine_replay : (text : List ℕ) (s : Memory) (place : ℕ) (t : Memory) → replay_hits_of text s ≡ refused 9 place t → check_replay s ≡ refused_at 9 place
 
 pub demand_3 : {M : Type 1} → Demand3 M
 demand_3 =
     record {
       trace_rays_lem = trace_rays_lem.met;
       record_hit_classified = record_hit_classified.met;
-      replay_hits_lem = replay_hits_lem.met;
-      put_hits_lem = put_hits_lem.met;
       refilter = refilter.met;
       filtered_pixel_flux = filtered_pixel_flux.met;
       irradiance_at_lem = irradiance_at_lem.met;
@@ -82,7 +63,5 @@ demand_3 =
       calls = lists.told;
       answers = answers-alike;
       fed = lists.fed;
-      round_trip = replayed.trip;
       nine = nine_before;
-      nine_replay = no-line-nine;
     }

@@ -10,11 +10,9 @@ pub mod Checks
 pub mod Split
 pub mod Places
 pub mod Wishes
-pub mod Again
 pub mod Booked
 pub mod Lists
 pub mod Answers
 pub mod Nine
-pub mod Replayed
 pub mod Demand
 pub mod Example

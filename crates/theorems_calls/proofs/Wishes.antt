@@ -2,7 +2,6 @@
 use Prim.Native.Nat.{ℕ, ◌≤◌, ◌<◌}
 use mathlib.Core.Path.{◌≡◌, refl, ap, sym, ◌∙◌}
 use mathlib.Core.Bool.{Bool, true, false, cond}
-use mathlib.Core.List.{List}
 use native.Mathlib.Omega.{arith}
 use lib.ListN.{length}
 use borrow.Author.Tests.{le-leb, lt-ltb}
@@ -12,7 +11,7 @@ use Rattle.detector.specs.declared.DetectorHit.{DetectorHit}
 use Rattle.detectors.specs.declared.Detectors.{Detectors}
 use Rattle.detectors.specs.Detectors.{all_pixels_of, check_detectors_of, check_asked, placed_of, find_of}
 use Rattle.detectors.proofs.Passed.{Sound, sound, asked_sound, both_passed}
-use Rattle.memory.specs.Memory.{Memory, Outcome, refused, unless, record_of, are_lengths_of, is_memory, record_hit_classified_of}
+use Rattle.memory.specs.Memory.{Memory, Outcome, refused, unless, record_of, is_memory, record_hit_classified_of}
 use Rattle.memory.proofs.Plain.{map_outcome}
 use Rattle.faces.specs.declared.Faces.{Faces}
 use Rattle.faces.specs.Faces.{new_faces_of, face_count_of}
@@ -22,14 +21,12 @@ use Rattle.trace.specs.Trace.{Batch, rays_in, all_steps, start_of, scene_in, run
 use Rattle.trace.proofs.Pieces.{same_checks}
 use Rattle.theorems_runs.specs.Room.{Admitted}
 use Rattle.theorems_runs.proofs.Waves.{admitted_kept}
-use Rattle.hit_text.specs.Replay.{check_replay_of, check_replay, play_text, replay_hits_of}
-use Rattle.theorems_calls.specs.Calls.{Call, tracing, recording, replaying, writing, refilter, part, irradiance, crossing, area, outcome_in}
+use Rattle.theorems_calls.specs.Calls.{Call, tracing, recording, refilter, part, irradiance, crossing, area, outcome_in}
 use Rattle.theorems_calls.specs.Book.{bare_detectors, bare, Wish, granted, check_hit, no_wish, wish_in}
 use Rattle.theorems_calls.proofs.Drives.{Brought, map_run, map-drive}
-use Rattle.hit_text.proofs.Natural.{play_natural}
 use Rattle.theorems_calls.proofs.Sights.{brought_there}
 use Rattle.theorems_calls.proofs.Checks.{Passes, passes, started, said}
-use Rattle.theorems_calls.proofs.Bare.{emptied, bare_each, bare_checks, bare_asked, bare_all, faces_bare, bare_flux, bare_counts, bare_values, bare_tags, bare_detectors_lem, bare_memory}
+use Rattle.theorems_calls.proofs.Bare.{emptied, bare_each, bare_asked, bare_all, faces_bare, bare_flux, bare_counts, bare_values, bare_tags, bare_detectors_lem, bare_memory}
 
 pub record Lawful (w : Wish) : Type 1 where
   -- the hits that it can bring with these detectors
@@ -114,48 +111,6 @@ module _ (h : DetectorHit) where
         there = λ m e k q. ap (λ x. check_hit x m) q ∙ e;
       }
 
--- ---- a replay
-
-replay_passes : (m : Memory) → check_replay m ≡ passed tt → (check_detectors_of m.detectors ≡ passed tt) × (is_memory m ≡ true)
-unfolding check_replay check_replay_of is_memory
-replay_passes m e =
-    let b = both_passed tt (check_detectors_of m.detectors) _ e in
-    (b.0, said _ 9 0 b.1)
-
-pub replay_blind : (m : Memory) → check_replay (emptied m) ≡ check_replay m
-unfolding check_replay check_replay_of are_lengths_of
-replay_blind m = rw (bare_detectors_lem m, bare_flux m, bare_counts m, bare_values m, bare_tags m, bare_checks m.detectors, bare_all m.detectors)
-
--- a batch that passes its checks passes those of a replay
-pub batch_replays : (B : Batch) (m : Memory) → check_batch B m ≡ passed tt → check_replay m ≡ passed tt
-unfolding check_replay check_replay_of is_memory
-batch_replays B m e =
-    let p : Passes B m = passes B m e in
-    rw (p.detectors, lengths_held m p.lengths)
-
--- and so does a recording's hit
-pub hit_replays : (h : DetectorHit) (m : Memory) → check_hit h m ≡ passed tt → check_replay m ≡ passed tt
-unfolding check_hit check_asked check_replay check_replay_of is_memory
-hit_replays h m e =
-    let a = both_passed tt (check_asked m.detectors h.detector) _ e in
-    let d = both_passed tt (check_detectors_of m.detectors) _ a.0 in
-    rw (d.0, said (is_memory m) 9 0 a.1)
-
-replay_there : (m : Memory) → check_replay m ≡ passed tt → (h : DetectorHit) → h.detector.0 < m.detectors.count → check_hit h m ≡ passed tt
-unfolding check_hit check_asked
-replay_there m e h k =
-    let p = replay_passes m e in
-    rw (p.0, lt-ltb h.detector.0 m.detectors.count k, p.1)
-
-replaying_lawful : (text : List ℕ) → Lawful (wish_in (replaying text))
-unfolding wish_in
-replaying_lawful text =
-    record {
-      Brings = λ ds h. h.detector.0 < ds.count;
-      natural = λ N M φ put put' s e same n. play_natural φ put put' s.detectors.count same text n;
-      there = replay_there;
-    }
-
 -- ---- every call
 
 nothing_lawful : Lawful no_wish
@@ -170,8 +125,6 @@ pub lawful : (c : Call) → Lawful (wish_in c)
 unfolding wish_in
 lawful (tracing B) = tracing_lawful B
 lawful (recording h) = recording_lawful h
-lawful (replaying text) = replaying_lawful text
-lawful (writing buf) = nothing_lawful
 lawful (refilter d f work) = nothing_lawful
 lawful (part d f work) = nothing_lawful
 lawful (irradiance d px py) = nothing_lawful
@@ -198,7 +151,7 @@ found_unless ds d x m o = go (check_asked ds d) x
     go (refused_at n place) x = refl
 
 pub meant : (c : Call) (m : Memory) → outcome_in c m ≡ granted (wish_in c) (emptied m) record_of m
-unfolding outcome_in wish_in granted trace_rays_of record_hit_classified_of check_hit replay_hits_of
+unfolding outcome_in wish_in granted trace_rays_of record_hit_classified_of check_hit
 meant (tracing B) m =
     after_unless (check_batch B m) m (run_on record_of m.detectors B m)
     ∙ ap (λ c. unless c m (run_on record_of m.detectors B m).outcome) (sym (batch_blind B m))
@@ -206,10 +159,6 @@ meant (tracing B) m =
 meant (recording h) m =
     found_unless m.detectors h.detector (is_memory m) m (record_of m h)
     ∙ ap (λ c. unless c m (record_of m h)) (sym (hit_blind h m))
-meant (replaying text) m =
-    ap (λ c. unless c m (play_text record_of m.detectors.count text m)) (sym (replay_blind m))
-    ∙ ap (λ (ds : Detectors). unless (check_replay (emptied m)) m (play_text record_of ds.count text m)) (sym (bare_detectors_lem m))
-meant (writing buf) m = refl
 meant (refilter d f work) m = refl
 meant (part d f work) m = refl
 meant (irradiance d px py) m = refl

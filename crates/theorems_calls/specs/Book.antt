@@ -11,18 +11,13 @@ use Rattle.detectors.specs.declared.Placed.{Placed}
 use Rattle.detectors.specs.Detectors.{max_detectors, detector_at, all_pixels_of, check_asked, find_of}
 use Rattle.detectors.specs.Readings.{irradiance_in_of}
 use Rattle.memory.specs.Memory.{Memory, Outcome, done, memory_left, unless, judged, listed, cell_in, capacity, is_memory}
-use Rattle.memory.specs.Memory.{is_hit_list_of}
 use Rattle.memory.specs.Plain.{View, sharing, number_in, added, view_in, plus_all}
 use Rattle.filter.specs.declared.RayPathFilter.{RayPathFilter}
 use Rattle.filter.specs.Filters.{is_all_of, passes_of, refill_of}
 use Rattle.filter.specs.Handed.{Handed, handed, from_map, check_filter_of}
 use Rattle.trace.specs.Trace.{Batch, Trace, check_batch, run_on, trace_after}
-use Rattle.hit_text.specs.HitText.{Written, written, hit_text, whole_or_none}
-use Rattle.hit_text.specs.Replay.{check_replay, play_text}
-use Rattle.theorems_calls.specs.Calls.{Call, tracing, recording, replaying, writing, refilter, part, irradiance}
-use Rattle.theorems_calls.specs.Calls.{crossing, area}
-use Rattle.theorems_calls.specs.Calls.{Answer, record_said, replay_said, write_said, filter_said, part_said}
-use Rattle.theorems_calls.specs.Calls.{reading_said, crossing_said}
+use Rattle.theorems_calls.specs.Calls.{Call, tracing, recording, refilter, part, irradiance, crossing, area}
+use Rattle.theorems_calls.specs.Calls.{Answer, record_said, filter_said, part_said, reading_said, crossing_said}
 use Rattle.theorems_calls.specs.Calls.{verdict, traced_answer}
 use Rattle.doubles.specs.Doubles.{#0}
 
@@ -89,9 +84,6 @@ no_wish = record { check = λ s. passed tt; write = λ M put ds m. done m }
 unfoldable pub wish_in : Call → Wish
 wish_in (tracing B) = record { check = check_batch B; write = λ M put ds m. (run_on put ds B m).outcome }
 wish_in (recording h) = record { check = check_hit h; write = λ M put ds m. put m h }
-wish_in (replaying text) =
-    record { check = check_replay; write = λ M put ds m. play_text put ds.count text m }
-wish_in (writing buf) = no_wish
 wish_in (refilter d f work) = no_wish
 wish_in (part d f work) = no_wish
 wish_in (irradiance d px py) = no_wish
@@ -160,17 +152,9 @@ book_reading s d px py b (passed p) =
     (refused_at 9 0)
 book_reading s d px py b (refused_at n place) = refused_at n place
 
--- the hit text of the book
-unfoldable pub book_written : Memory → List ℕ → List DetectorHit → Written
-book_written s buf b =
-    cond (is_hit_list_of (length s.hit_values) (length s.hit_tags) (length b)) (whole_or_none buf (hit_text b))
-    (written (refused_at 9 0) 0 buf)
-
 unfoldable pub book_answer : Memory → Call → List DetectorHit → Answer
 book_answer s (tracing B) b = traced_answer (book_traced s B b)
 book_answer s (recording h) b = record_said (verdict (book_granted s (wish_in (recording h)) b))
-book_answer s (replaying text) b = replay_said (verdict (book_granted s (wish_in (replaying text)) b))
-book_answer s (writing buf) b = write_said (book_written s buf b)
 book_answer s (refilter d f work) b = filter_said (book_filtered s d f work b (book_asked s d work b))
 book_answer s (part d f work) b = part_said (book_part s d f work b (book_asked s d work b))
 book_answer s (irradiance d px py) b = reading_said (book_reading s d px py b (find_of s.detectors d))

@@ -16,8 +16,6 @@ use Rattle.filter.specs.declared.RayPathFilter.{RayPathFilter}
 use Rattle.filter.specs.Handed.{Handed, refilter_of, filtered_pixel_flux_of}
 use Rattle.report.specs.declared.NonSeqTraceReport.{NonSeqTraceReport}
 use Rattle.trace.specs.Trace.{Batch, Trace, trace_rays_of}
-use Rattle.hit_text.specs.HitText.{Written, put_hits_of}
-use Rattle.hit_text.specs.Replay.{replay_hits_of}
 
 -- each call with its arguments besides detectors and memory
 pub data Call : Type 0 where
@@ -25,10 +23,6 @@ pub data Call : Type 0 where
   tracing : Batch → Call
   -- `record_hit_classified`
   recording : DetectorHit → Call
-  -- `replay_hits` of a text
-  replaying : List ℕ → Call
-  -- `put_hits` into the caller's buffer
-  writing : List ℕ → Call
   -- `refilter` and `filtered_pixel_flux` of a detector, with the caller's work map
   refilter : DetectorNo → RayPathFilter → List Float → Call
   part : DetectorNo → RayPathFilter → List Float → Call
@@ -44,9 +38,6 @@ pub data Answer : Type 0 where
   -- done or refused, and the report
   trace_said : Checked Unit → NonSeqTraceReport → Answer
   record_said : Checked Unit → Answer
-  replay_said : Checked Unit → Answer
-  -- done or refused, the text's length, and the buffer
-  write_said : Written → Answer
   -- done or refused, the work map, its total and its count
   filter_said : Handed → Answer
   part_said : List Float → Answer
@@ -64,8 +55,6 @@ traced_answer t = trace_said (verdict t.outcome) t.report
 unfoldable pub answer_in : Call → Memory → Answer
 answer_in (tracing B) m = traced_answer (trace_rays_of B m)
 answer_in (recording h) m = record_said (verdict (record_hit_classified_of m h))
-answer_in (replaying text) m = replay_said (verdict (replay_hits_of text m))
-answer_in (writing buf) m = write_said (put_hits_of buf m.hit_values m.hit_tags m.used)
 answer_in (refilter d f work) m =
     filter_said (refilter_of m.detectors d f m.flux work m.hit_values m.hit_tags m.used)
 answer_in (part d f work) m =
@@ -74,14 +63,11 @@ answer_in (irradiance d px py) m = reading_said (irradiance_at_of m.detectors d 
 answer_in (crossing d r) m = crossing_said (intersect_ray_of d r)
 answer_in (area d) m = reading_said (pixel_area_m2_of d)
 
--- ---- what a call leaves: filters, readings and the writer of the hit text are lent the memory to read and write none
--- of it
+-- ---- what a call leaves: filters and readings are lent the memory to read and write none of it
 
 unfoldable pub outcome_in : Call → Memory → Outcome Memory
 outcome_in (tracing B) m = (trace_rays_of B m).outcome
 outcome_in (recording h) m = record_hit_classified_of m h
-outcome_in (replaying text) m = replay_hits_of text m
-outcome_in (writing buf) m = done m
 outcome_in (refilter d f work) m = done m
 outcome_in (part d f work) m = done m
 outcome_in (irradiance d px py) m = done m

@@ -2,4 +2,3 @@
 pub mod Parts
 pub mod Calls
 pub mod Book
-pub mod Replayed

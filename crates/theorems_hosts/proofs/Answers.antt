@@ -21,25 +21,22 @@ use Rattle.report.specs.declared.NonSeqTraceReport.{NonSeqTraceReport}
 use Rattle.report.specs.Report.{start_report_of}
 use Rattle.run.specs.Run.{Run}
 use Rattle.trace.specs.Trace.{Batch, Trace, check_batch, run_on, trace_after, trace_rays_of}
-use Rattle.hit_text.specs.HitText.{Written}
-use Rattle.hit_text.specs.Replay.{replay_hits_of}
-use Rattle.host_hits.specs.Hits.{written_from, replayed_from}
 use Rattle.host_detectors.specs.declared.maps.HostPart.{HostPart}
 use Rattle.host_detectors.specs.Maps.{recorded_from, filtered_from, refilter_by, host_refilter_of, part_from}
 use Rattle.host_numbers.specs.Numbers.{checked_of, read_of}
 use Rattle.host_texts.specs.Texts.{host_put_answer_of}
 use Rattle.host_tracing.specs.declared.answers.HostTraced.{HostTraced}
 use Rattle.host_tracing.specs.Flat.{flat_values, flat_tags}
-use Rattle.host_tracing.specs.Tracing.{left_by_lem, traced_in, host_trace_rays_of}
-use Rattle.theorems_calls.specs.Calls.{Call, tracing, recording, replaying, writing, refilter, irradiance, Answer, trace_said, record_said, replay_said, write_said, filter_said, part_said, reading_said, crossing_said, verdict, answer_in, outcome_in}
+use Rattle.host_tracing.specs.Tracing.{left_by, traced_in, host_trace_rays_of}
+use Rattle.theorems_calls.specs.Calls.{Call, tracing, recording, refilter, irradiance, Answer, trace_said, record_said, filter_said, part_said, reading_said, crossing_said, verdict, answer_in, outcome_in}
 use Rattle.theorems_calls.specs.Book.{bare_detectors, bare, with_used, granted, wish_in, plain_hit, book_granted, book_after, book_traced, book_asked, book_filtered, book_reading, book_answer}
 use Rattle.theorems_calls.proofs.Bare.{bare_first, bare_pixels_at, bare_checks, bare_asked, bare_hits, bare_detectors_lem}
 use Rattle.theorems_calls.proofs.Booked.{left_map, Sane}
 use Rattle.theorems_calls.proofs.Lists.{call_booked, after_calls, after_sane}
 use Rattle.theorems_calls.proofs.Answers.{answer_same}
-use Rattle.theorems_hosts.specs.HostCalls.{HostCall, trace_rays, trace_given_rays, record_hit, replay_hits, put_hits, refilter_map, pixels_in, irradiance_at, put_answer, check_detectors, check_detector, intersect_ray, pixel_area_m2}
-use Rattle.theorems_hosts.specs.HostCalls.{traced, recorded, replayed, filtered, part, reading, written, checked, crossed, held_in, host_answer_in, host_memory_after}
-use Rattle.theorems_hosts.specs.HostBook.{ambient_in, batch_with, calls_in, traced_with, traced_by, book_tracing, recorded_with, recorded_by, replayed_with, replayed_by, book_sifted, host_book_answer}
+use Rattle.theorems_hosts.specs.HostCalls.{HostCall, trace_rays, trace_given_rays, record_hit, refilter_map, pixels_in, irradiance_at, put_answer, check_detectors, check_detector, intersect_ray, pixel_area_m2}
+use Rattle.theorems_hosts.specs.HostCalls.{traced, recorded, filtered, part, reading, written, checked, crossed, held_in, host_answer_in, host_memory_after}
+use Rattle.theorems_hosts.specs.HostBook.{ambient_in, batch_with, calls_in, traced_with, traced_by, book_tracing, recorded_with, recorded_by, book_sifted, host_book_answer}
 use Rattle.theorems_hosts.proofs.Lists.{calls_left}
 use Rattle.theorems_hosts.proofs.Texts.{handed_in, written_same}
 use Rattle.doubles.specs.Doubles.{#0}
@@ -49,8 +46,6 @@ use Rattle.doubles.specs.Doubles.{#0}
 abbrev said_in : Answer → Checked Unit
 said_in (trace_said c r) = c
 said_in (record_said c) = c
-said_in (replay_said c) = c
-said_in (write_said w) = w.check
 said_in (filter_said h) = passed tt
 said_in (part_said l) = passed tt
 said_in (reading_said c) = passed tt
@@ -59,8 +54,6 @@ said_in (crossing_said c) = passed tt
 abbrev report_in : Answer → NonSeqTraceReport
 report_in (trace_said c r) = r
 report_in (record_said c) = start_report_of 0 #0
-report_in (replay_said c) = start_report_of 0 #0
-report_in (write_said w) = start_report_of 0 #0
 report_in (filter_said h) = start_report_of 0 #0
 report_in (part_said l) = start_report_of 0 #0
 report_in (reading_said c) = start_report_of 0 #0
@@ -69,43 +62,24 @@ report_in (crossing_said c) = start_report_of 0 #0
 abbrev read_in : Answer → Checked Float
 read_in (trace_said c r) = passed #0
 read_in (record_said c) = passed #0
-read_in (replay_said c) = passed #0
-read_in (write_said w) = passed #0
 read_in (filter_said h) = passed #0
 read_in (part_said l) = passed #0
 read_in (reading_said c) = c
 read_in (crossing_said c) = passed #0
 
-abbrev no_text : Written
-no_text = record { check = passed tt; length = 0; buf = [] }
-
-abbrev put_in : Answer → Written
-put_in (trace_said c r) = no_text
-put_in (record_said c) = no_text
-put_in (replay_said c) = no_text
-put_in (write_said w) = w
-put_in (filter_said h) = no_text
-put_in (part_said l) = no_text
-put_in (reading_said c) = no_text
-put_in (crossing_said c) = no_text
-
 -- ---- outcomes in numbers
 
-traced_numbers : (t : Trace Memory) → (left_by_lem t).answer ≡ traced_with (verdict t.outcome) t.report (memory_left t.outcome)
-unfolding left_by_lem
+traced_numbers : (t : Trace Memory) → (left_by t).answer ≡ traced_with (verdict t.outcome) t.report (memory_left t.outcome)
+unfolding left_by
 traced_numbers t = go t.outcome
   where
-    go : (o : Outcome Memory) → (left_by_lem (record { outcome = o; report = t.report })).answer ≡ traced_with (verdict o) t.report (memory_left o)
+    go : (o : Outcome Memory) → (left_by (record { outcome = o; report = t.report })).answer ≡ traced_with (verdict o) t.report (memory_left o)
     go (done m) = refl
     go (refused n place m) = refl
 
 recorded_numbers : (o : Outcome Memory) → (recorded_from o).answer ≡ recorded_with (verdict o) (memory_left o)
 recorded_numbers (done m) = refl
 recorded_numbers (refused n place m) = refl
-
-replayed_numbers : (o : Outcome Memory) → (replayed_from o).answer ≡ replayed_with (verdict o) (memory_left o)
-replayed_numbers (done m) = refl
-replayed_numbers (refused n place m) = refl
 
 -- a tracing of the book is its wish granted
 book_granted_lem : (s : Memory) (B : Batch) (b : List DetectorHit) → book_granted s (wish_in (tracing B)) b ≡ (book_traced s B b).outcome
@@ -146,7 +120,7 @@ module _ (s : Memory) (eight : length s.detectors.list ≡ 8) (empty : Empty s) 
   left_same : (c : Call) → memory_left (outcome_in c (added s b)) ≡ added s (memory_left (book_granted (bare s) (wish_in c) b))
   left_same c = ap memory_left (call_booked s eight empty c b) ∙ left_map (added s) (book_granted (bare s) (wish_in c) b)
 
-  traced_same : (B : Batch) → (left_by_lem (trace_rays_of B (added s b))).answer ≡ traced_by s (book_traced (bare s) B b)
+  traced_same : (B : Batch) → (left_by (trace_rays_of B (added s b))).answer ≡ traced_by s (book_traced (bare s) B b)
   unfolding answer_in book_answer outcome_in
   traced_same B =
       let t = book_traced (bare s) B b in
@@ -171,14 +145,6 @@ module _ (s : Memory) (eight : length s.detectors.list ≡ 8) (empty : Empty s) 
       ∙ ap (λ c. recorded_with c (memory_left o)) (ap said_in (same (recording h)))
       ∙ ap (λ m. recorded_with (verdict (book_granted (bare s) (wish_in (recording h)) b)) m) (left_same (recording h))
 
-  replaying_same : (text : List ℕ) → (replayed_from (replay_hits_of text (added s b))).answer ≡ replayed_by s (book_granted (bare s) (wish_in (replaying text)) b)
-  unfolding answer_in book_answer outcome_in
-  replaying_same text =
-      let o = replay_hits_of text (added s b) in
-      replayed_numbers o
-      ∙ ap (λ c. replayed_with c (memory_left o)) (ap said_in (same (replaying text)))
-      ∙ ap (λ m. replayed_with (verdict (book_granted (bare s) (wish_in (replaying text)) b)) m) (left_same (replaying text))
-
   refilter_same : (f : Option RayPathFilter) (d : ℕ) (work : List Float)
       → refilter_by f (added s b).detectors d (added s b).flux work (added s b).hit_values (added s b).hit_tags (added s b).used ≡ book_sifted s f (record { 0 = d }) work b
   unfolding refilter_by book_sifted answer_in book_answer
@@ -190,8 +156,6 @@ module _ (s : Memory) (eight : length s.detectors.list ≡ 8) (empty : Empty s) 
   host_same (trace_rays g x k n v t r) = ap traced (tracing_same (ambient_in g) (batch_with g x k n v t r))
   host_same (trace_given_rays g x k n rs) = ap traced (tracing_same (ambient_in g) (batch_with g x k n (flat_values rs) (flat_tags rs) (length rs)))
   host_same (record_hit h) = ap recorded (recording_same h)
-  host_same (replay_hits text) = ap replayed (replaying_same text)
-  host_same (put_hits buf) = ap (λ a. written (written_from (put_in a))) (same (writing buf))
   host_same (refilter_map d f work) = ap (λ h. filtered (filtered_from h)) (refilter_same (numbered_filter_of f) d work)
   host_same (pixels_in d) = ap part (seen (λ ds. part_from (find_of ds (record { 0 = d }))) (bare_part (record { 0 = d })))
   host_same (irradiance_at d px py) = ap (λ c. reading (read_of c)) (ap read_in (same (irradiance (record { 0 = d }) px py)))

@@ -19,10 +19,6 @@ use Rattle.host_tracing.proofs.nonseq_trace_given_rays.Statement.{statement as t
 use Rattle.host_tracing.proofs.nonseq_trace_given_rays.Met as trace_given_rays_lem
 use Rattle.host_detectors.proofs.nonseq_record_hit_classified.Statement.{statement as record-hit-classified-meets}
 use Rattle.host_detectors.proofs.nonseq_record_hit_classified.Met as record_hit_classified
-use Rattle.host_hits.proofs.nonseq_replay_hits.Statement.{statement as replay-hits-meets}
-use Rattle.host_hits.proofs.nonseq_replay_hits.Met as replay_hits_lem
-use Rattle.host_hits.proofs.nonseq_put_hits.Statement.{statement as put-hits-meets}
-use Rattle.host_hits.proofs.nonseq_put_hits.Met as put_hits_lem
 use Rattle.host_detectors.proofs.nonseq_refilter.Statement.{statement as refilter-meets}
 use Rattle.host_detectors.proofs.nonseq_refilter.Met as refilter
 use Rattle.host_detectors.proofs.nonseq_pixels_of.Statement.{statement as pixels-of-meets}
@@ -52,8 +48,6 @@ pub record HostDemand3 (M : Type 1) : Type 2 where
   pub trace_rays_lem : trace-rays-meets M
   pub trace_given_rays_lem : trace-given-rays-meets M
   pub record_hit_classified : record-hit-classified-meets M
-  pub replay_hits_lem : replay-hits-meets M
-  pub put_hits_lem : put-hits-meets M
   pub refilter : refilter-meets M
   pub pixels_of_lem : pixels-of-meets M
   pub irradiance_at_lem : irradiance-at-meets M
@@ -77,8 +71,6 @@ host_demand_3 =
       trace_rays_lem = trace_rays_lem.met;
       trace_given_rays_lem = trace_given_rays_lem.met;
       record_hit_classified = record_hit_classified.met;
-      replay_hits_lem = replay_hits_lem.met;
-      put_hits_lem = put_hits_lem.met;
       refilter = refilter.met;
       pixels_of_lem = pixels_of_lem.met;
       irradiance_at_lem = irradiance_at_lem.met;

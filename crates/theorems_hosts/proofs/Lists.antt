@@ -12,32 +12,26 @@ use Rattle.filter.specs.declared.RayPathFilter.{RayPathFilter}
 use Rattle.filter.specs.Filters.{numbered_filter_of}
 use Rattle.report.specs.Report.{start_report_of}
 use Rattle.trace.specs.Trace.{Batch, Trace, trace_rays_of}
-use Rattle.hit_text.specs.Replay.{replay_hits_of}
-use Rattle.host_hits.specs.Hits.{replayed_from}
 use Rattle.host_detectors.specs.Maps.{recorded_from}
 use Rattle.host_tracing.specs.Flat.{flat_values, flat_tags}
-use Rattle.host_tracing.specs.Tracing.{left_by_lem, traced_in, host_trace_rays_of}
+use Rattle.host_tracing.specs.Tracing.{left_by, traced_in, host_trace_rays_of}
 use Rattle.theorems_calls.specs.Calls.{Call, outcome_in, memory_after}
 use Rattle.theorems_calls.specs.Book.{bare, book_after, Told}
 use Rattle.theorems_calls.proofs.Lists as lists
-use Rattle.theorems_hosts.specs.HostCalls.{HostCall, trace_rays, trace_given_rays, record_hit, replay_hits, put_hits, refilter_map, pixels_in, irradiance_at, put_answer, check_detectors, check_detector, intersect_ray, pixel_area_m2}
-use Rattle.theorems_hosts.specs.HostCalls.{tracing_left, recording_left, replaying_left, host_left, host_memory_after}
+use Rattle.theorems_hosts.specs.HostCalls.{HostCall, trace_rays, trace_given_rays, record_hit, refilter_map, pixels_in, irradiance_at, put_answer, check_detectors, check_detector, intersect_ray, pixel_area_m2}
+use Rattle.theorems_hosts.specs.HostCalls.{tracing_left, recording_left, host_left, host_memory_after}
 use Rattle.theorems_hosts.specs.HostBook.{ambient_in, batch_with, tracing_in, refilter_in, call_in, calls_in}
 use Rattle.doubles.specs.Doubles.{#0}
 
 -- ---- one call
 
-left_whole : (t : Trace Memory) → tracing_left (left_by_lem t) ≡ memory_left t.outcome
-unfolding left_by_lem
+left_whole : (t : Trace Memory) → tracing_left (left_by t) ≡ memory_left t.outcome
+unfolding left_by
 left_whole t = refl
 
 recorded_whole : (o : Outcome Memory) → recording_left (recorded_from o) ≡ memory_left o
 recorded_whole (done m) = refl
 recorded_whole (refused n place m) = refl
-
-replayed_whole : (o : Outcome Memory) → replaying_left (replayed_from o) ≡ memory_left o
-replayed_whole (done m) = refl
-replayed_whole (refused n place m) = refl
 
 tracing_left_lem : (ambient : Option OpticalMedium) (B : OpticalMedium → Batch) (m : Memory) → tracing_left (traced_in ambient (λ medium. trace_rays_of (B medium) m) m) ≡ memory_after (tracing_in ambient B) m
 unfolding traced_in tracing_in memory_after outcome_in
@@ -54,8 +48,6 @@ unfolding host_left call_in memory_after outcome_in host_trace_rays_of
 call_left (trace_rays g x k n v t r) m = tracing_left_lem (ambient_in g) (batch_with g x k n v t r) m
 call_left (trace_given_rays g x k n rs) m = tracing_left_lem (ambient_in g) (batch_with g x k n (flat_values rs) (flat_tags rs) (length rs)) m
 call_left (record_hit h) m = recorded_whole (record_hit_classified_of m h)
-call_left (replay_hits text) m = replayed_whole (replay_hits_of text m)
-call_left (put_hits buf) m = refl
 call_left (refilter_map d f work) m = refilter_left (numbered_filter_of f) d work m
 call_left (pixels_in d) m = refl
 call_left (irradiance_at d px py) m = refl

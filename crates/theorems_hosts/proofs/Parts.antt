@@ -12,18 +12,18 @@ use Rattle.material.specs.declared.OpticalMedium.{OpticalMedium}
 use Rattle.memory.specs.Memory.{Memory, Outcome, done, refused}
 use Rattle.trace.specs.Trace.{Batch, Trace, check_batch, trace_rays_of}
 use Rattle.host_tracing.specs.declared.answers.HostConfig.{HostConfig}
-use Rattle.host_tracing.specs.Tracing.{left_by_lem, traced_in, host_trace_rays_of}
+use Rattle.host_tracing.specs.Tracing.{left_by, traced_in, host_trace_rays_of}
 use Rattle.theorems_marks.proofs.Only.{never_0}
 use Rattle.theorems_calls.specs.Parts.{Part, Splits, shifted, then_on, with_rays, trace_parts}
 use Rattle.theorems_calls.proofs.Split as splitting
 use Rattle.theorems_hosts.specs.HostBook.{ambient_in, batch_with}
 use Rattle.theorems_hosts.specs.HostParts.{outcome_from, host_trace_parts}
 
-from_left : (t : Trace Memory) → ((place : ℕ) (m : Memory) → t.outcome ≡ refused 0 place m → ⊥) → outcome_from (left_by_lem t) ≡ t.outcome
-unfolding outcome_from left_by_lem
+from_left : (t : Trace Memory) → ((place : ℕ) (m : Memory) → t.outcome ≡ refused 0 place m → ⊥) → outcome_from (left_by t) ≡ t.outcome
+unfolding outcome_from left_by
 from_left t none = go t.outcome refl
   where
-    go : (o : Outcome Memory) → t.outcome ≡ o → outcome_from (left_by_lem (record { outcome = o; report = t.report })) ≡ o
+    go : (o : Outcome Memory) → t.outcome ≡ o → outcome_from (left_by (record { outcome = o; report = t.report })) ≡ o
     go (done m) e = refl
     go (refused zero place m) e = absurd (none place m e)
     go (refused (suc n) place m) e = rw (ne_eqb (suc n) 0 (λ q. omega (arith, q)))

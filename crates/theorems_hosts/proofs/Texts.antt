@@ -26,7 +26,7 @@ use Rattle.report.specs.declared.NonSeqTraceReport.{NonSeqTraceReport}
 use Rattle.answer_text.specs.declared.maps.Grid.{Grid}
 use Rattle.answer_text.specs.Answer.{Held, few_of, grid_from, grid_at_of, shown_of, shown_map, detector_text, detector_map_text, each_from, detector_count_of, count_in, detectors_text, maps_text, answer_text}
 use Rattle.host_texts.specs.Texts.{is_held_of, check_held_of, written_after, put_checked_of, put_by, host_put_answer_of}
-use Rattle.theorems_calls.specs.Calls.{Call, refilter, part, Answer, trace_said, record_said, replay_said, write_said, filter_said, part_said, reading_said, crossing_said, answer_in}
+use Rattle.theorems_calls.specs.Calls.{Call, refilter, part, Answer, trace_said, record_said, filter_said, part_said, reading_said, crossing_said, answer_in}
 use Rattle.theorems_calls.specs.Book.{bare_detector, bare_detectors, bare, book_after, book_answer}
 use Rattle.theorems_calls.proofs.Bare.{bare_at, bare_pixels_at, bare_checks, bare_all, bare_hits, bare_flux, bare_values, bare_tags, bare_detectors_lem}
 use Rattle.theorems_calls.proofs.Reached.{added_flux, added_values, added_tags}
@@ -105,8 +105,6 @@ module _ (s : Memory) (eight : length s.detectors.list ≡ 8) where
 abbrev pub handed_in : Answer → Handed
 handed_in (trace_said c r) = handed c [] #0 0
 handed_in (record_said c) = handed c [] #0 0
-handed_in (replay_said c) = handed c [] #0 0
-handed_in (write_said w) = handed w.check [] #0 0
 handed_in (filter_said h) = h
 handed_in (part_said l) = handed (passed tt) l #0 0
 handed_in (reading_said c) = handed (passed tt) [] #0 0

@@ -27,17 +27,12 @@ use Rattle.host_tracing.specs.declared.answers.HostTraced.{HostTraced}
 use Rattle.host_tracing.specs.Flat.{flat_values, flat_tags}
 use Rattle.host_tracing.specs.Tracing.{trace_config_of}
 use Rattle.host_texts.specs.Texts.{host_put_answer_of}
-use Rattle.host_hits.specs.declared.HostReplayed.{HostReplayed}
-use Rattle.host_hits.specs.Hits.{written_from}
-use Rattle.theorems_calls.specs.Calls.{Call, tracing, recording, replaying, writing, refilter, irradiance, crossing}
-use Rattle.theorems_calls.specs.Calls.{area, verdict}
-use Rattle.theorems_calls.specs.Book.{bare, wish_in, book_granted, book_traced, book_written, book_asked, book_filtered}
-use Rattle.theorems_calls.specs.Book.{book_reading}
-use Rattle.theorems_hosts.specs.HostCalls.{HostCall, trace_rays, trace_given_rays, record_hit, replay_hits, put_hits}
-use Rattle.theorems_hosts.specs.HostCalls.{refilter_map, pixels_in, irradiance_at, put_answer, check_detectors}
-use Rattle.theorems_hosts.specs.HostCalls.{check_detector, intersect_ray, pixel_area_m2, HostAnswer, traced}
-use Rattle.theorems_hosts.specs.HostCalls.{recorded, replayed, filtered, part, reading, written, checked}
-use Rattle.theorems_hosts.specs.HostCalls.{crossed, held_in}
+use Rattle.theorems_calls.specs.Calls.{Call, tracing, recording, refilter, irradiance, crossing, area, verdict}
+use Rattle.theorems_calls.specs.Book.{bare, wish_in, book_granted, book_traced, book_asked, book_filtered, book_reading}
+use Rattle.theorems_hosts.specs.HostCalls.{HostCall, trace_rays, trace_given_rays, record_hit, refilter_map}
+use Rattle.theorems_hosts.specs.HostCalls.{pixels_in, irradiance_at, put_answer, check_detectors, check_detector}
+use Rattle.theorems_hosts.specs.HostCalls.{intersect_ray, pixel_area_m2, HostAnswer, traced, recorded, filtered}
+use Rattle.theorems_hosts.specs.HostCalls.{part, reading, written, checked, crossed, held_in}
 use Rattle.doubles.specs.Doubles.{#0}
 
 -- ---- the library's calls that a host's call makes: none where a number that is no medium's or no filter's is refused
@@ -62,8 +57,6 @@ call_in (trace_rays g x k n v t r) = tracing_in (ambient_in g) (batch_with g x k
 call_in (trace_given_rays g x k n rs) =
     tracing_in (ambient_in g) (batch_with g x k n (flat_values rs) (flat_tags rs) (length rs))
 call_in (record_hit h) = recording h ∷ []
-call_in (replay_hits text) = replaying text ∷ []
-call_in (put_hits buf) = writing buf ∷ []
 call_in (refilter_map d f work) = refilter_in (numbered_filter_of f) d work
 call_in (irradiance_at d px py) = irradiance (record { 0 = d }) px py ∷ []
 call_in (intersect_ray d r) = crossing d r ∷ []
@@ -100,14 +93,6 @@ recorded_with c m =
 abbrev pub recorded_by : Memory → Outcome (List DetectorHit) → HostRecorded
 recorded_by s o = recorded_with (verdict o) (added s (memory_left o))
 
-abbrev pub replayed_with : Checked Unit → Memory → HostReplayed
-replayed_with c m =
-    let n = checked_of c in
-    record { refusal = n.refusal; place = n.place; used = m.used; detectors = m.detectors }
-
-abbrev pub replayed_by : Memory → Outcome (List DetectorHit) → HostReplayed
-replayed_by s o = replayed_with (verdict o) (added s (memory_left o))
-
 unfoldable pub book_sifted : Memory → Option RayPathFilter → DetectorNo → List Float → List DetectorHit → Handed
 book_sifted s (some f) d work b = book_filtered (bare s) d f work b (book_asked (bare s) d work b)
 book_sifted s none d work b = handed (refused_at 17 0) work #0 0
@@ -117,8 +102,6 @@ host_book_answer s (trace_rays g x k n v t r) b = traced (book_tracing s (ambien
 host_book_answer s (trace_given_rays g x k n rs) b =
     traced (book_tracing s (ambient_in g) (batch_with g x k n (flat_values rs) (flat_tags rs) (length rs)) b)
 host_book_answer s (record_hit h) b = recorded (recorded_by s (book_granted (bare s) (wish_in (recording h)) b))
-host_book_answer s (replay_hits text) b = replayed (replayed_by s (book_granted (bare s) (wish_in (replaying text)) b))
-host_book_answer s (put_hits buf) b = written (written_from (book_written (bare s) buf b))
 host_book_answer s (refilter_map d f work) b =
     filtered (filtered_from (book_sifted s (numbered_filter_of f) (record { 0 = d }) work b))
 host_book_answer s (pixels_in d) b = part (part_from (find_of (bare s).detectors (record { 0 = d })))

@@ -14,7 +14,7 @@ use Rattle.report.specs.declared.NonSeqTraceReport.{NonSeqTraceReport}
 use Rattle.answer_text.specs.Answer.{Held, held}
 use Rattle.host_numbers.specs.declared.HostChecked.{HostChecked}
 use Rattle.host_numbers.specs.declared.HostReading.{HostReading}
-use Rattle.host_numbers.specs.Numbers.{checked_of, read_of, Written}
+use Rattle.host_numbers.specs.Numbers.{checked_of, read_of}
 use Rattle.host_detectors.specs.declared.detecting.HostCrossing.{HostCrossing}
 use Rattle.host_detectors.specs.declared.maps.HostRecorded.{HostRecorded}
 use Rattle.host_detectors.specs.declared.maps.HostPart.{HostPart}
@@ -25,11 +25,7 @@ use Rattle.host_tracing.specs.declared.answers.HostTraced.{HostTraced}
 use Rattle.host_tracing.specs.declared.slices.GivenRay.{GivenRay}
 use Rattle.host_tracing.specs.Flat.{flat_values, flat_tags}
 use Rattle.host_tracing.specs.Tracing.{Left, host_trace_rays_of}
-use Rattle.hit_text.specs.HitText.{put_hits_of}
-use Rattle.hit_text.specs.Replay.{replay_hits_of}
-use Rattle.host_hits.specs.declared.HostReplayed.{HostReplayed}
-use Rattle.host_hits.specs.Hits.{written_from, Replaying, replayed_from}
-use Rattle.host_texts.specs.Texts.{host_put_answer_of}
+use Rattle.host_texts.specs.Texts.{Written, host_put_answer_of}
 
 -- each call with its arguments besides detectors and memory
 pub data HostCall : Type 0 where
@@ -39,10 +35,6 @@ pub data HostCall : Type 0 where
   trace_given_rays : HostConfig → List Float → List ℕ → ℕ → List GivenRay → HostCall
   -- `nonseq_record_hit_classified`
   record_hit : DetectorHit → HostCall
-  -- `nonseq_replay_hits` of a hit text
-  replay_hits : List ℕ → HostCall
-  -- `nonseq_put_hits` into a buffer
-  put_hits : List ℕ → HostCall
   -- `nonseq_refilter`: detector, filter, work map
   refilter_map : ℕ → ℕ → List Float → HostCall
   -- `nonseq_pixels_of` a detector
@@ -63,7 +55,6 @@ pub data HostCall : Type 0 where
 pub data HostAnswer : Type 0 where
   traced : HostTraced → HostAnswer
   recorded : HostRecorded → HostAnswer
-  replayed : HostReplayed → HostAnswer
   filtered : Sifted → HostAnswer
   part : HostPart → HostAnswer
   reading : HostReading → HostAnswer
@@ -80,8 +71,6 @@ host_answer_in (trace_rays g x k n v t r) m = traced (host_trace_rays_of g x k n
 host_answer_in (trace_given_rays g x k n rs) m =
     traced (host_trace_rays_of g x k n (flat_values rs) (flat_tags rs) (length rs) m).answer
 host_answer_in (record_hit h) m = recorded (recorded_from (record_hit_classified_of m h)).answer
-host_answer_in (replay_hits text) m = replayed (replayed_from (replay_hits_of text m)).answer
-host_answer_in (put_hits buf) m = written (written_from (put_hits_of buf m.hit_values m.hit_tags m.used))
 host_answer_in (refilter_map d f work) m =
     filtered (filtered_from (host_refilter_of m.detectors d f m.flux work m.hit_values m.hit_tags m.used))
 host_answer_in (pixels_in d) m = part (part_from (find_of m.detectors (record { 0 = d })))
@@ -101,16 +90,11 @@ tracing_left l = lent_memory l.answer.detectors l.flux l.hits l.hit_values l.hit
 abbrev pub recording_left : Recording → Memory
 recording_left l = lent_memory l.answer.detectors l.flux l.hits l.hit_values l.hit_tags l.answer.used
 
-abbrev pub replaying_left : Replaying → Memory
-replaying_left l = lent_memory l.answer.detectors l.flux l.hits l.hit_values l.hit_tags l.answer.used
-
 unfoldable pub host_left : HostCall → Memory → Memory
 host_left (trace_rays g x k n v t r) m = tracing_left (host_trace_rays_of g x k n v t r m)
 host_left (trace_given_rays g x k n rs) m =
     tracing_left (host_trace_rays_of g x k n (flat_values rs) (flat_tags rs) (length rs) m)
 host_left (record_hit h) m = recording_left (recorded_from (record_hit_classified_of m h))
-host_left (replay_hits text) m = replaying_left (replayed_from (replay_hits_of text m))
-host_left (put_hits buf) m = m
 host_left (refilter_map d f work) m = m
 host_left (pixels_in d) m = m
 host_left (irradiance_at d px py) m = m

@@ -5,40 +5,33 @@ use std::fmt;
 /// A call that was refused: why, and where.
 #[derive(Clone, Copy, Debug, PartialEq, Eq)]
 pub struct Error {
-    /// The documents' number, one of [`TEXTS`].
+    /// The documents' number, 1 to 18.
     pub number: u32,
     /// The list place of what was refused, from 0; for a scene text the line's number, from 1.
     pub place: u32,
 }
 
-/// What each number is given for. The documents have numbers between these that no call here answers.
-pub const TEXTS: [(u32, &str); 20] = [
-    (1, "threshold below 0 or not finite"),
-    (2, "bounce limit over 16"),
-    (3, "a list over its limit"),
-    (4, "asked detector not there"),
-    (5, "width or height at most 0 or not finite"),
-    (6, "a resolution 0"),
-    (7, "a resolution over 4,096"),
-    (8, "unit normal dot unit up beyond 0.9999 in size"),
-    (9, "a slice of another length than needed"),
-    (10, "ray part not finite, power below 0, or direction not a unit vector"),
-    (11, "over 8 media, or one not a solid"),
-    (12, "hit list full when a hit is to be written"),
-    (13, "pixel or detector count to be raised is 2^32 - 1"),
-    (14, "wavelength at most 0 at a clear solid"),
-    (15, "index outside its rule"),
-    (16, "built ray part not finite"),
-    (17, "scene text, or line of a hit text, not as it should be, or a scene text over 65,536 bytes"),
-    (18, "detector centre, normal or up part not finite, or normal or up of a length at most 1e-15 or not finite"),
-    (19, "detector of a hit text's line not in the scene"),
-    (27, "hit text longer than the room for it"),
+/// What each number is given for, in order from 1.
+pub const TEXTS: [&str; 18] = [
+    "threshold below 0 or not finite",
+    "bounce limit over 16",
+    "a list over its limit",
+    "asked detector not there",
+    "width or height at most 0 or not finite",
+    "a resolution 0",
+    "a resolution over 4,096",
+    "unit normal dot unit up beyond 0.9999 in size",
+    "a slice of another length than needed",
+    "ray part not finite, power below 0, or direction not a unit vector",
+    "over 8 media, or one not a solid",
+    "hit list full when a hit is to be written",
+    "pixel or detector count to be raised is 2^32 - 1",
+    "wavelength at most 0 at a clear solid",
+    "index outside its rule",
+    "built ray part not finite",
+    "scene text not as it should be, or over 65,536 bytes",
+    "detector centre, normal or up part not finite, or normal or up of a length at most 1e-15 or not finite",
 ];
-
-/// What a number is given for.
-fn text(number: u32) -> &'static str {
-    TEXTS.iter().find(|(n, _)| *n == number).map_or("no such refusal", |(_, text)| text)
-}
 
 impl Error {
     /// None for number 0.
@@ -51,7 +44,10 @@ impl Error {
 
     /// What the number is given for.
     pub fn text(&self) -> &'static str {
-        text(self.number)
+        match (self.number as usize).checked_sub(1).and_then(|i| TEXTS.get(i)) {
+            Some(text) => text,
+            None => "no such refusal",
+        }
     }
 }
 
@@ -63,39 +59,7 @@ impl fmt::Display for Error {
 
 impl std::error::Error for Error {}
 
-/// A replay that was refused: why, and where. Its place is no `u32`, since a text may have more than 2^32 lines.
-#[derive(Clone, Copy, Debug, PartialEq, Eq)]
-pub struct ReplayError {
-    /// The documents' number: 17, 19, 12 or 13.
-    pub number: u32,
-    /// The refused line's number, from 1.
-    pub place: usize,
-}
-
-impl ReplayError {
-    /// None for number 0.
-    pub(crate) fn check(number: u32, place: usize) -> Result<(), ReplayError> {
-        if number == 0 {
-            return Ok(());
-        }
-        Err(ReplayError { number, place })
-    }
-
-    /// What the number is given for.
-    pub fn text(&self) -> &'static str {
-        text(self.number)
-    }
-}
-
-impl fmt::Display for ReplayError {
-    fn fmt(&self, f: &mut fmt::Formatter<'_>) -> fmt::Result {
-        write!(f, "refused by {} at line {}: {}", self.number, self.place, self.text())
-    }
-}
-
-impl std::error::Error for ReplayError {}
-
-/// Why a memory, or a map or a text that is made of one, does not come back: their sizes are the caller's.
+/// Why a memory, or a map that is made of one, does not come back: their sizes are the caller's.
 #[derive(Clone, Copy, Debug, PartialEq, Eq)]
 pub enum MemoryError {
     /// A call was refused.

@@ -20,7 +20,6 @@ plain!(HostFiltered { refusal: u32, place: u32, total_flux_watts: f64, hit_count
 plain!(HostPart { refusal: u32, place: u32, first: usize, pixels: usize });
 plain!(HostScene { refusal: u32, place: u32, solids: u32, detectors: u32, rays: u32 });
 plain!(HostText { refusal: u32, place: u32, length: usize });
-plain!(HostReplayed { refusal: u32, place: usize, used: usize, detectors: Detectors });
 plain!(HostTraced { refusal: u32, place: u32, used: usize, report: crate::Report, detectors: Detectors });
 plain!(Detectors { list: [crate::Detector; 8], count: u32 });
 
@@ -64,12 +63,5 @@ extern "C" {
         flux: *const f64, flux_len: usize, hit_values: *const f64, hit_values_len: usize, hit_tags: *const u32, hit_tags_len: usize, used: usize,
     ) -> HostText;
     pub fn nonseq_put_refusal(buf: *mut u8, buf_len: usize, refusal: u32, place: u32) -> usize;
-    pub fn nonseq_put_hits(
-        buf: *mut u8, buf_len: usize, hit_values: *const f64, hit_values_len: usize, hit_tags: *const u32, hit_tags_len: usize, used: usize,
-    ) -> HostText;
-    pub fn nonseq_replay_hits(
-        text: *const u8, text_len: usize, detectors: Detectors, flux: *mut f64, flux_len: usize, hits: *mut u32, hits_len: usize,
-        hit_values: *mut f64, hit_values_len: usize, hit_tags: *mut u32, hit_tags_len: usize, used: usize,
-    ) -> HostReplayed;
     pub fn nonseq_stray_map(buf: *mut u8, buf_len: usize, text: *const u8, text_len: usize) -> usize;
 }

@@ -3,11 +3,10 @@
 //! The library behind it takes lent memory only; here the buffers are owned. A [`Scene`] is a list of solids, a
 //! [`Memory`] holds detectors, their maps and the list of hits; [`Memory::trace`] traces rays through a scene into
 //! it, [`Memory::filtered`] is a detector's map under a filter. [`stray_map`] goes from a scene text to its answer.
-//! [`Memory::hit_text`] is the list of hits as text, which [`Memory::replay`] makes maps and a list of again.
 //!
 //! No call panics or aborts for what it is given. What is not allowed comes back as an [`Error`] with its number in
-//! the documents, in a hit text as a [`ReplayError`]; a buffer whose size the caller chose, and which the machine has no
-//! memory for, as [`MemoryError::NoMemory`].
+//! the documents; a buffer whose size the caller chose, and which the machine has no memory for, as
+//! [`MemoryError::NoMemory`].
 //! Buffers of fixed sizes or of a scene text's lists, each below 256 KiB, and clones are allocated as elsewhere in Rust.
 //!
 //! The library has its buffers on the stack of the thread that calls. [`stray_map`] needs a thread with 768 KiB,
@@ -23,7 +22,7 @@ mod memory;
 mod scene;
 mod text;
 
-pub use error::{Error, MemoryError, ReplayError, TEXTS};
+pub use error::{Error, MemoryError, TEXTS};
 pub use memory::{Filtered, Memory, Refused};
 pub use scene::{Config, Finish, Medium, Scene, Shape, Solid};
 pub use text::{read_scene, stray_map, write_answer, write_refusal, SceneText, MAX_ANSWER};
@@ -55,11 +54,6 @@ pub const MAX_SOLIDS: usize = 32;
 pub const MAX_DETECTORS: usize = 8;
 /// The most rays of a batch.
 pub const MAX_RAYS: usize = 4096;
-
-/// Bytes of a hit text's line of names.
-pub const HIT_NAMES: usize = 59;
-/// The most bytes of each other line of a hit text.
-pub const MAX_HIT_LINE: usize = 112;
 
 /// A place or a direction.
 #[repr(C)]

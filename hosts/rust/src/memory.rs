@@ -1,7 +1,6 @@
 //! Detectors with their maps and the list of hits.
 use crate::ffi::{self, Detectors};
-use crate::{Config, Detector, Error, Filter, GivenRay, Hit, MemoryError, ReplayError, Report, Scene};
-use crate::{HIT_DOUBLES, HIT_NAMES, HIT_WHOLES, MAX_DETECTORS, MAX_HIT_LINE};
+use crate::{Config, Detector, Error, Filter, GivenRay, Hit, MemoryError, Report, Scene, HIT_DOUBLES, HIT_WHOLES, MAX_DETECTORS};
 use std::alloc::{alloc_zeroed, Layout};
 
 /// Up to 8 detectors, the maps of their pixels, and room for a number of hits. What the library is lent, owned.
@@ -52,7 +51,6 @@ pub struct Filtered {
 trait Plain: Copy {}
 impl Plain for f64 {}
 impl Plain for u32 {}
-impl Plain for u8 {}
 
 /// So many zeros for each of so many, or no memory for them, where `vec!` would end the program. The system hands out
 /// what is touched, as it does for `vec!`.
@@ -170,42 +168,6 @@ impl Memory {
         self.detectors = r.detectors;
         self.used = r.used;
         Error::check(r.refusal, r.place)
-    }
-
-    /// The hits as text, a line each behind a line of names. [`HIT_NAMES`] bytes and [`MAX_HIT_LINE`] for each hit are
-    /// asked for, of which the system hands out what the text takes.
-    pub fn hit_text(&self) -> Result<Vec<u8>, MemoryError> {
-        let lines = self.used.checked_mul(MAX_HIT_LINE).ok_or(MemoryError::NoMemory)?;
-        let mut buf = zeros(lines.checked_add(HIT_NAMES).ok_or(MemoryError::NoMemory)?, 1)?;
-        let n = self.put_hits(&mut buf)?;
-        buf.truncate(n);
-        Ok(buf)
-    }
-
-    /// The same text from the start of a buffer on, and its length. Refused by 27 where it does not fit: the buffer is
-    /// left.
-    pub fn put_hits(&self, buf: &mut [u8]) -> Result<usize, Error> {
-        let r = unsafe {
-            ffi::nonseq_put_hits(
-                buf.as_mut_ptr(), buf.len(), self.hit_values.as_ptr(), self.hit_values.len(), self.hit_tags.as_ptr(), self.hit_tags.len(), self.used,
-            )
-        };
-        Error::check(r.refusal, r.place).map(|()| r.length)
-    }
-
-    /// A hit text replayed: each line's hit recorded behind those that are here, until a line is refused, by 17 where it
-    /// is not as it should be, by 19 where there is no such detector, by 12 or 13 as in a tracing. The hits of the lines
-    /// before it stay. The text is neither copied nor changed; a text of no hits is its line of names.
-    pub fn replay(&mut self, text: &[u8]) -> Result<(), ReplayError> {
-        let r = unsafe {
-            ffi::nonseq_replay_hits(
-                text.as_ptr(), text.len(), self.detectors, self.flux.as_mut_ptr(), self.flux.len(), self.hits.as_mut_ptr(), self.hits.len(),
-                self.hit_values.as_mut_ptr(), self.hit_values.len(), self.hit_tags.as_mut_ptr(), self.hit_tags.len(), self.used,
-            )
-        };
-        self.detectors = r.detectors;
-        self.used = r.used;
-        ReplayError::check(r.refusal, r.place)
     }
 
     /// The part of the flux map that is a detector's.

@@ -17,7 +17,6 @@ fn sizes() {
     assert_eq!((size_of::<ffi::HostTraced>(), offset_of!(ffi::HostTraced, detectors)), (1000, 96));
     assert_eq!(size_of::<ffi::HostRecorded>(), 920);
     assert_eq!((size_of::<ffi::HostText>(), offset_of!(ffi::HostText, length)), (16, 8));
-    assert_eq!((size_of::<ffi::HostReplayed>(), offset_of!(ffi::HostReplayed, place), offset_of!(ffi::HostReplayed, detectors)), (928, 8, 24));
 }
 
 fn odd(k: f64) -> Detector {
@@ -49,21 +48,6 @@ fn records_come_back() {
     }
 }
 
-/// So does a refused replay, and it tells refusal, place and number used apart.
-#[test]
-fn records_come_back_from_a_replay() {
-    let mut detectors = Detectors { list: [0.0, 1.0, 2.0, 3.0, 4.0, 5.0, 6.0, 7.0].map(odd), count: 8 };
-    for refusal in [9, 3] {
-        let (mut f, mut h, mut p, mut k) = ([0.5; 1], [7; 1], [0.25; 4], [9; 4]);
-        let text = b"detector place_x";
-        let r = unsafe { ffi::nonseq_replay_hits(text.as_ptr(), text.len(), detectors, f.as_mut_ptr(), 1, h.as_mut_ptr(), 1, p.as_mut_ptr(), 4, k.as_mut_ptr(), 4, 77) };
-        assert_eq!((r.refusal, r.place, r.used), (refusal, 0, 77));
-        assert_eq!(r.detectors, detectors);
-        assert_eq!((f, h, p, k), ([0.5; 1], [7; 1], [0.25; 4], [9; 4]));
-        detectors.count = 9;
-    }
-}
-
 /// A recorded hit stands in the list field by field.
 #[test]
 fn hits_are_written() {
@@ -78,27 +62,6 @@ fn hits_are_written() {
     assert_eq!(p, [0.0, 0.0, 0.0, 0.0, 0.5, -0.25, 2.0, 633.0]);
     assert_eq!(k, [0, 0, 0, 0, 2, 11, 12, 13]);
     assert_eq!((r.detectors.list[2].total_rays_hit, r.detectors.list[2].total_flux_watts), (42, 2.0));
-    assert_eq!(r.detectors.list[1].total_rays_hit, 0);
-}
-
-/// A hit's line has every field in the format's order, and a replay puts each where it was.
-#[test]
-fn hits_go_through_their_text() {
-    let d = Detector::new(Vec3::default(), Vec3::new(0.0, 0.0, 1.0), Vec3::new(0.0, 1.0, 0.0), (4.0, 4.0), (1, 1)).unwrap();
-    let detectors = Detectors { list: [d; 8], count: 3 };
-    let (p, k) = ([0.5, -0.25, 2.0, 633.0, 9.0, 9.0, 9.0, 9.0], [2, 11, 12, 13, 9, 9, 9, 9]);
-    let mut buf = [b'.'; 100];
-    let w = unsafe { ffi::nonseq_put_hits(buf.as_mut_ptr(), 100, p.as_ptr(), 8, k.as_ptr(), 8, 1) };
-    let text = b"detector place_x place_y flux nm bounce reflections totals\n2 3fe bfd 4 4083c8 11 12 13\n";
-    assert_eq!((w.refusal, w.place, w.length), (0, 0, text.len()));
-    assert_eq!((&buf[..w.length], &buf[w.length..]), (&text[..], &[b'.'; 100][w.length..]));
-    let (mut f, mut h, mut v, mut t) = ([0.5; 3], [7; 3], [0.0; 8], [0; 8]);
-    let r = unsafe { ffi::nonseq_replay_hits(text.as_ptr(), text.len(), detectors, f.as_mut_ptr(), 3, h.as_mut_ptr(), 3, v.as_mut_ptr(), 8, t.as_mut_ptr(), 8, 1) };
-    assert_eq!((r.refusal, r.place, r.used), (0, 0, 2));
-    assert_eq!((f, h), ([0.5, 0.5, 2.5], [7, 7, 8]));
-    assert_eq!(v, [0.0, 0.0, 0.0, 0.0, 0.5, -0.25, 2.0, 633.0]);
-    assert_eq!(t, [0, 0, 0, 0, 2, 11, 12, 13]);
-    assert_eq!((r.detectors.list[2].total_rays_hit, r.detectors.list[2].total_flux_watts, r.detectors.count), (1, 2.0, 3));
     assert_eq!(r.detectors.list[1].total_rays_hit, 0);
 }
 

@@ -101,49 +101,6 @@ fn memories_the_machine_can_not_hold() {
     assert_eq!(memory.filtered(2, Filter::All), Err(MemoryError::Refused(Error { number: 4, place: 0 })));
 }
 
-/// 59 bytes and 112 a hit are asked for; where they are not to be had, no text is made. A replay asks for nothing.
-#[test]
-fn hit_texts_the_machine_can_not_hold() {
-    let hit = Hit { local_x: 0.0, local_y: 0.0, flux_watts: 1.0, wavelength_nm: 500.0, detector: 0, bounce_count: 0, reflection_count: 0, tir_count: 0 };
-    let fresh = Memory::new(&[screen(2)], 1000).unwrap();
-    let mut m = fresh.clone();
-    (0..700).for_each(|_| m.record(hit).unwrap());
-    let most = HIT_NAMES + MAX_HIT_LINE * 700;
-    let (text, bytes) = asked(|| m.hit_text().unwrap());
-    assert_eq!(bytes, most);
-    assert_eq!(short_of_memory(most - 1, || m.hit_text()), Err(MemoryError::NoMemory));
-    assert_eq!(short_of_memory(most, || m.hit_text()), Ok(text.clone()));
-    let mut again = fresh.clone();
-    assert_eq!(asked(|| again.replay(&text)), (Ok(()), 0));
-    assert_eq!((asked(|| m.put_hits(&mut vec![0; 0])), again == m), ((Err(Error { number: 27, place: 0 }), 0), true));
-}
-
-/// The longest line that a hit can have, as long as the bound says.
-#[test]
-fn the_longest_line() {
-    let (p, k) = ([f64::from_bits(0x1234_5678_9abc_def1); 4], [u32::MAX; 4]);
-    let mut buf = [0; HIT_NAMES + MAX_HIT_LINE];
-    let r = unsafe { ffi::nonseq_put_hits(buf.as_mut_ptr(), buf.len(), p.as_ptr(), 4, k.as_ptr(), 4, 1) };
-    assert_eq!((r.refusal, r.length, buf[r.length - 1]), (0, HIT_NAMES + MAX_HIT_LINE, b'\n'));
-}
-
-#[test]
-fn hit_texts_of_any_length() {
-    let mut m = Memory::new(&[screen(2)], 1).unwrap();
-    let names = m.hit_text().unwrap();
-    let mut text = vec![b'\n'; 100_000_000];
-    assert_eq!(m.replay(&text), Err(ReplayError { number: 17, place: 1 }));
-    text.fill(b'0');
-    assert_eq!(m.replay(&text), Err(ReplayError { number: 17, place: 1 }));
-    text[..names.len()].copy_from_slice(&names);
-    assert_eq!(m.replay(&text), Err(ReplayError { number: 17, place: 2 }));
-    text.fill(b' ');
-    text[..names.len()].copy_from_slice(&names);
-    *text.last_mut().unwrap() = b'\n';
-    assert_eq!(m.replay(&text), Err(ReplayError { number: 17, place: 2 }));
-    assert_eq!(m.hits().count(), 0);
-}
-
 #[test]
 fn texts_of_any_length() {
     let mut text = vec![b'\n'; 100_000_000];

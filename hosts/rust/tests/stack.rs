@@ -17,14 +17,13 @@ struct Given {
     rays: Vec<GivenRay>,
     flat: (Vec<f64>, Vec<u32>),
     memory: Memory,
-    hit_text: Vec<u8>,
     hit: Hit,
 }
 
 type Call = (&'static str, fn(&mut Given) -> bool);
 
 /// Each answers whether it was answered, and not refused.
-const CALLS: [Call; 18] = [
+const CALLS: [Call; 16] = [
     ("nonseq_new_detector", |_| Detector::new(Z, Z, Y, (4.0, 4.0), (16, 32)).is_ok()),
     ("nonseq_check_detector", |g| g.memory.detectors()[7].check().is_ok()),
     ("nonseq_check_detectors", |g| Memory::new(g.memory.detectors(), 1).is_ok()),
@@ -40,8 +39,6 @@ const CALLS: [Call; 18] = [
     ("nonseq_read_scene", |g| read_scene(&g.text).is_ok()),
     ("nonseq_put_answer", |g| Filter::ALL.iter().all(|&f| format!("{:?}", write_answer(&g.memory, &Report::default(), f)).len() > 1000)),
     ("nonseq_put_refusal", |_| !write_refusal(&Error { number: 17, place: u32::MAX }).is_empty()),
-    ("nonseq_put_hits", |g| g.memory.hit_text().is_ok_and(|text| text.len() > 50_000)),
-    ("nonseq_replay_hits", |g| g.memory.replay(&g.hit_text).is_ok()),
     ("nonseq_stray_map", |g| stray_map(&g.text).starts_with(b"rays")),
 ];
 
@@ -92,8 +89,7 @@ fn given() -> Given {
     let mut memory = Memory::new(&detectors, 100_000).unwrap();
     let hit = Hit { local_x: 0.3, local_y: 0.1, flux_watts: 1.0, wavelength_nm: 550.0, detector: 7, bounce_count: 1, reflection_count: 1, tir_count: 1 };
     (0..1000).for_each(|i| memory.record(Hit { local_x: -15.0 + 0.03 * i as f64, ..hit }).unwrap());
-    let (text, hit_text) = (text.into_bytes(), memory.hit_text().unwrap());
-    Given { text, scene, config: Config { min_power_threshold: 0.0, max_bounces: 16, ambient: Medium::Air }, rays, flat, memory, hit_text, hit }
+    Given { text: text.into_bytes(), scene, config: Config { min_power_threshold: 0.0, max_bounces: 16, ambient: Medium::Air }, rays, flat, memory, hit }
 }
 
 /// One call on a thread with so many KiB.

@@ -11,8 +11,11 @@ put-ledger-requires c κs = search rules
 put-tallies-requires : tie.Need-put-tallies-requires
 put-tallies-requires c κs = search rules
 
-put-blocks-requires : tie.Need-put-blocks-requires
-put-blocks-requires c κs = search rules
+put-detectors-requires : tie.Need-put-detectors-requires
+put-detectors-requires c κs = search rules
+
+put-maps-requires : tie.Need-put-maps-requires
+put-maps-requires c κs = search rules
 
 same_length : tie.Need-same-length
 same_length c = search rules
@@ -20,13 +23,21 @@ same_length c = search rules
 returns : tie.Need-returns
 unfolding answer_text
 returns c =
-    let at-put-tallies = c.before.before.before.before.before.before in
-    let put-tallies = at-put-tallies.put-tallies in
-    let put-ledger = at-put-tallies.before.before.before.before.put-ledger in
+    let at-put-detectors = c.before.before.before.before.before.before in
+    let put-detectors = at-put-detectors.put-detectors in
+    let put-tallies = at-put-detectors.before.before.before.before.put-tallies in
+    let put-ledger = at-put-detectors.before.before.before.before.before.before.before.before.put-ledger in
     put_join _ _ _ _ _ _ _ put-ledger.ensures
-    (put_join _ _ _ _ _ _ _ put-tallies.ensures c.before.before.put-blocks.ensures)
+    (put_join _ _ _ _ _ _ _ put-tallies.ensures
+    (put_join _ _ _ _ _ _ _ put-detectors.ensures c.before.before.put-maps.ensures))
 
 pub put-answer-spec : {M : Type 1} → statement M
 put-answer-spec =
     tie.close
-    (tie.spec put-ledger-requires put-tallies-requires put-blocks-requires same_length returns)
+    (tie.spec
+    put-ledger-requires
+    put-tallies-requires
+    put-detectors-requires
+    put-maps-requires
+    same_length
+    returns)

@@ -1,19 +1,55 @@
 -- `answer_text::put_refusal` meets its contract. Assumes nothing.
+use Rattle.answer_text.specs.Answer.{refusal_text}
 use borrow.Author.Rules.{rules}
+use Rattle.printing.proofs.Writing.{put_join}
 use Rattle.answer_text.proofs.put_refusal.Statement.{statement}
 use Rattle.answer_text.proofs.put_refusal.Tie as tie
+use Rattle.fields.specs.Split.{bytes}
 
 wide-requires : tie.Need-wide-requires
 wide-requires c κs = search rules
 
-put-refusal-at-requires : tie.Need-put-refusal-at-requires
-put-refusal-at-requires c κs = search rules
+wide-requires-2 : tie.Need-wide-requires-2
+wide-requires-2 c κs = search rules
+
+slice-aggregate-put-all : tie.Need-slice-aggregate-put-all
+slice-aggregate-put-all c = search rules
+
+put-all-requires : tie.Need-put-all-requires
+put-all-requires c κs = search rules
+
+slice-aggregate-put-row : tie.Need-slice-aggregate-put-row
+slice-aggregate-put-row c = search rules
+
+slice-aggregate-put-row-2 : tie.Need-slice-aggregate-put-row-2
+slice-aggregate-put-row-2 c = search rules
+
+put-row-requires : tie.Need-put-row-requires
+put-row-requires c κs = search rules
 
 same_length : tie.Need-same-length
 same_length c = search rules
 
 returns : tie.Need-returns
-returns c = rw c.before.before.before.wide.ensures at c.before.before.put-refusal-at.ensures
+unfolding bytes refusal_text
+returns c =
+    let at-put-all = c.before.before.before.before.before.before.before.before in
+    let put_all_lem = at-put-all.put_all_lem in
+    let wide2 = at-put-all.before.before.before.wide2 in
+    let wide = at-put-all.before.before.before.before.wide in
+    put_join _ _ _ _ _ _ _ put_all_lem.ensures
+    (rw (wide.ensures, wide2.ensures) at c.before.before.put-row.ensures)
 
 pub put-refusal-spec : {M : Type 1} → statement M
-put-refusal-spec = tie.close (tie.spec wide-requires put-refusal-at-requires same_length returns)
+put-refusal-spec =
+    tie.close
+    (tie.spec
+    wide-requires
+    wide-requires-2
+    slice-aggregate-put-all
+    put-all-requires
+    slice-aggregate-put-row
+    slice-aggregate-put-row-2
+    put-row-requires
+    same_length
+    returns)

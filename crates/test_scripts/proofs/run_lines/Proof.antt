@@ -5,7 +5,7 @@ use Rattle.test_scripts.proofs.run_lines.Tie as tie
 
 abbrev invariant-loop : tie.invariant-loop
 invariant-loop name table all numbers₀ text₀ values₀ tags₀ flux₀ hits₀ hit-values₀ hit-tags₀ written₀ at₀ numbers text values tags flux hits hit-values hit-tags written at =
-    (length numbers ≡ length numbers₀) × (length text ≡ 65538) × (length values ≡ 34257) × (length tags ≡ 41121) × (length flux ≡ 8200) × (length hits ≡ 8200) × (length hit-values ≡ 8200) × (length hit-tags ≡ 8200) × (length written ≡ 262144)
+    (length numbers ≡ length numbers₀) × (length text ≡ 65538) × (length values ≡ 34257) × (length tags ≡ 41121) × (length flux ≡ 8200) × (length hits ≡ 8200) × (length hit-values ≡ 8200) × (length hit-tags ≡ 8200) × (length written ≡ 131072)
 
 abbrev decreases-loop : tie.decreases-loop
 decreases-loop name table all numbers₀ text₀ values₀ tags₀ flux₀ hits₀ hit-values₀ hit-tags₀ written₀ at₀ numbers text values tags flux hits hit-values hit-tags written at =

@@ -24,8 +24,6 @@ pub fn make(verb: &str, words: &mut Words, state: &mut State) -> Result<Answer, 
         "answer" => answer(words, state),
         "refusal" => refusal(words, state),
         "map" => map(words, state),
-        "put_hits" => put_hits(words, state),
-        "replay" => replay(words, state),
         "pixel" => pixel(words, state),
         "caught" => caught(words, state),
         "hit" => hit(words, state),
@@ -231,33 +229,6 @@ fn map(words: &mut Words, state: &mut State) -> Result<Answer, String> {
     let told = wrote(state, &buf, length)?;
     let second = safe::text(stray_map(&state.text), length, buf.list());
     Ok(told.beside(second))
-}
-
-fn put_hits(words: &mut Words, state: &mut State) -> Result<Answer, String> {
-    let mut buf = buffer(words)?;
-    let m = &state.memory;
-    let (hit_values, hit_tags) = (m.hit_values.clone(), m.hit_tags.clone());
-    let r = unsafe { ffi::nonseq_put_hits(buf.at_mut(), buf.len(), hit_values.at(), hit_values.len(), hit_tags.at(), hit_tags.len(), m.used) };
-    unchanged(m, &m.flux, &hit_values, &hit_tags)?;
-    let told = wrote(state, &buf, r.length)?;
-    Ok(Answer::of(r.refusal, r.place).then(told))
-}
-
-fn replay(words: &mut Words, state: &mut State) -> Result<Answer, String> {
-    words.end()?;
-    let text = Lent::of(&state.hit_text);
-    let (detectors, was_empty, m) = (state.all_detectors(), state.memory.is_empty(), &mut state.memory);
-    let r = unsafe {
-        ffi::nonseq_replay_hits(
-            text.at(), text.len(), detectors, m.flux.at_mut(), m.flux.len(), m.hits.at_mut(), m.hits.len(),
-            m.hit_values.at_mut(), m.hit_values.len(), m.hit_tags.at_mut(), m.hit_tags.len(), m.used,
-        )
-    };
-    hold(text.is_still(&state.hit_text), "the call changed the text")?;
-    state.recorded(&r.detectors, r.used)?;
-    let answer = Answer::of(r.refusal, r.place).whole(r.used as u64);
-    let second = if was_empty { safe::replay(state, &answer) } else { Ok(()) };
-    Ok(answer.beside(second))
 }
 
 fn pixel(words: &mut Words, state: &State) -> Result<Answer, String> {

@@ -1,6 +1,6 @@
 //! The index, the files of scripts and their lines. Whatever is not as it should be is reported, with file and line.
 use crate::lent::hold;
-use crate::state::{State, HIT_TEXT_ROOM, TEXT_ROOM};
+use crate::state::{State, TEXT_ROOM};
 use crate::words::{whole, Answer, Words};
 use crate::{calls, set_up};
 
@@ -158,11 +158,6 @@ fn laid_out(folder: Folder, verb: &str, words: &mut Words, lines: &mut Lines, st
             let many = words.at_most(TEXT_ROOM)?;
             words.end()?;
             state.text = lines.text(many)?.to_vec();
-        }
-        "hit_text" => {
-            let many = words.at_most(HIT_TEXT_ROOM)?;
-            words.end()?;
-            state.hit_text = lines.text(many)?.to_vec();
         }
         "file" => {
             let text = named(folder, words)?;

@@ -1,4 +1,4 @@
-//! Lines that lay numbers out. `text`, `hit_text` and `file` are read with the file, in files.rs.
+//! Lines that lay numbers out. `text` and `file` are read with the file, in files.rs.
 use crate::lent::Lent;
 use crate::state::*;
 use crate::words::Words;
@@ -7,7 +7,6 @@ pub fn obey(verb: &str, words: &mut Words, state: &mut State) -> Result<(), Stri
     match verb {
         "byte" => byte(words, state),
         "cut" => cut(words, state),
-        "hit_written" => hit_written(words, state),
         "lend" => lend(words, state),
         "empty" => empty(words, state),
         "set" => set(words, state),
@@ -29,13 +28,6 @@ fn cut(words: &mut Words, state: &mut State) -> Result<(), String> {
     let many = words.at_most(state.text.len())?;
     words.end()?;
     state.text.truncate(many);
-    Ok(())
-}
-
-fn hit_written(words: &mut Words, state: &mut State) -> Result<(), String> {
-    let many = words.at_most(state.written.len())?;
-    words.end()?;
-    state.hit_text = state.written[..many].to_vec();
     Ok(())
 }
 

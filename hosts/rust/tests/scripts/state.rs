@@ -10,7 +10,6 @@ pub const SOLID_ROOM: usize = 33;
 pub const RAY_ROOM: usize = 4_097;
 pub const PLACES_ROOM: usize = 8_200;
 pub const WRITTEN_ROOM: usize = 131_072;
-pub const HIT_TEXT_ROOM: usize = 131_072;
 
 /// The eight lists that are read from a scene text, each with all its room.
 #[derive(Clone)]
@@ -95,12 +94,6 @@ impl LentMemory {
         caught && maps && same(self.hit_values.list(), other.hit_values.list()) && self.hit_tags.list() == other.hit_tags.list()
     }
 
-    /// Whether nothing was caught yet.
-    pub fn is_empty(&self) -> bool {
-        let caught = self.totals.iter().chain(self.flux.list()).any(|x| x.bits() != 0) || self.counts.iter().chain(self.hits.list()).any(|&n| n != 0);
-        self.used == 0 && !caught
-    }
-
     /// That nothing was written beside the lent slices.
     pub fn check(&self) -> Result<(), String> {
         let all = self.flux.is_whole() && self.hits.is_whole() && self.hit_values.is_whole() && self.hit_tags.is_whole();
@@ -116,7 +109,6 @@ pub struct State {
     pub memory: LentMemory,
     pub report: Report,
     pub written: Vec<u8>,
-    pub hit_text: Vec<u8>,
 }
 
 impl State {
@@ -130,8 +122,7 @@ impl State {
             hit_tags: Lent::of(&[]),
             used: 0,
         };
-        let (text, written, hit_text) = (Vec::new(), Vec::new(), Vec::new());
-        State { text, lists: Lists::new(), solids: 0, detectors: 0, memory, report: Report::default(), written, hit_text }
+        State { text: Vec::new(), lists: Lists::new(), solids: 0, detectors: 0, memory, report: Report::default(), written: Vec::new() }
     }
 
     /// One of the eight detectors with what it has caught.

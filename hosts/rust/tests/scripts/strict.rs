@@ -26,16 +26,6 @@ hit 0 = 3ff 3ff 3ff 40813 0 0 0 0
 answer 0 131072 = 0 0 204 ?
 written answer.txt = 1
 irradiance 0 1 1 = 0 0 410e848
-put_hits 84 = 27 0 0 ?
-hit_written 0
-replay = 17 1 1
-put_hits 85 = 0 0 85 ?
-hit_written 85
-hit_text 63
-detector place_x place_y flux nm bounce reflections totals
-0 0
-
-replay = 17 2 1
 refilter 0 1 4 = 0 0 3ff 1 ?
 trace_lent 0 0 7 10 1 = 17 0 1 0 0 0 0 0 0 0 0 0 0 0 0 0 0
 record 8 8 4 0 0 0 1 0 = 0 0 2
@@ -88,7 +78,7 @@ fn reports(line: &str) -> Vec<String> {
 }
 
 /// Lines that a script can't have, and what is reported of each.
-const DAMAGED: [(&str, &str); 60] = [
+const DAMAGED: [(&str, &str); 52] = [
     ("trance 0 1 = 0 0", "no line with an answer begins with trance"),
     ("emtpy", "no line without an answer begins with emtpy"),
     ("Empty", "no line without an answer begins with Empty"),
@@ -128,11 +118,6 @@ const DAMAGED: [(&str, &str); 60] = [
     ("text 65538", "over 65537: 65538"),
     ("text 9", "the file ends before the text does"),
     ("text 1", "no newline behind the text"),
-    ("hit_text 131073", "over 131072: 131073"),
-    ("hit_text 9", "the file ends before the text does"),
-    ("hit_text 1", "no newline behind the text"),
-    ("hit_written 1", "over 0: 1"),
-    ("hit_written 0 0", "a word too many: 0"),
     ("file none.txt", "no file none.txt"),
     ("file scene.txt answer.txt", "a word too many: answer.txt"),
     ("check 8 = 0 0", "not below 8: 8"),
@@ -144,9 +129,6 @@ const DAMAGED: [(&str, &str); 60] = [
     ("trace 4097 1 = 0", "over 0: 1"),
     ("trace_lent 1387 0 0 0 0 = 0", "over 1386: 1387"),
     ("answer 0 131073 = 0 0 0 0", "over 131072: 131073"),
-    ("put_hits 131073 = 0 0 0 0", "over 131072: 131073"),
-    ("replay 0 = 17 1 0", "a word too many: 0"),
-    ("replay", "no line without an answer begins with replay"),
     ("written none.txt = 0", "no file none.txt"),
     ("ratio 3ff 3ff 0 0 = 3ff", "a word is missing"),
 ];
@@ -221,5 +203,5 @@ fn guards_are_held() {
 fn a_script_well_formed() {
     let run = run("a.txt 2\n", &WELL_FORMED.replace("scene\nread", &format!("text {}\n{SCENE}\nread", SCENE.len())));
     assert_eq!(run.reports, [""; 0]);
-    assert_eq!(run.last_line(), "2 scripts, 36 lines compared, 0 differ");
+    assert_eq!(run.last_line(), "2 scripts, 32 lines compared, 0 differ");
 }

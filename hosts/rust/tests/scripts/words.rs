@@ -72,7 +72,7 @@ pub struct Answer {
 }
 
 impl Answer {
-    pub fn of(refusal: u32, place: impl TryInto<u64>) -> Answer {
+    pub fn of(refusal: u32, place: u32) -> Answer {
         Answer::default().whole(refusal).whole(place)
     }
     pub fn whole(mut self, n: impl TryInto<u64>) -> Answer {

@@ -57,12 +57,6 @@ enum-told-17 c = search rules
 enum-told-18 : tie.Need-enum-told-18
 enum-told-18 c = search rules
 
-enum-told-19 : tie.Need-enum-told-19
-enum-told-19 c = search rules
-
-enum-told-20 : tie.Need-enum-told-20
-enum-told-20 c = search rules
-
 returns : tie.Need-returns
 returns c = simp c.enum_told.given.1
 
@@ -117,12 +111,6 @@ returns-17 c = simp c.enum-told17.given.1
 returns-18 : tie.Need-returns-18
 returns-18 c = simp c.enum-told18.given.1
 
-returns-19 : tie.Need-returns-19
-returns-19 c = simp c.enum-told19.given.1
-
-returns-20 : tie.Need-returns-20
-returns-20 c = simp c.enum-told20.given.1
-
 pub number-spec : {M : Type 1} → statement M
 number-spec =
     tie.close
@@ -145,8 +133,6 @@ number-spec =
     enum-told-16
     enum-told-17
     enum-told-18
-    enum-told-19
-    enum-told-20
     returns
     returns-2
     returns-3
@@ -164,6 +150,4 @@ number-spec =
     returns-15
     returns-16
     returns-17
-    returns-18
-    returns-19
-    returns-20)
+    returns-18)

@@ -81,7 +81,7 @@ returns c =
     let check = c.before.before.before.before.before.before.check in
     let after-read-scene = c.before.before.before.before.before.before.before.before in
     let read-scene = after-read-scene.before.before.before.before.before.before.before.before.read-scene in
-    text_refused _ _ read-scene.result.check _ _ _ _ read-scene.ensures _ _ _ _ _ _ check.given.1 number.ensures
+    text_refused _ read-scene.result.check _ _ _ _ read-scene.ensures _ _ _ _ _ _ check.given.1 number.ensures
     c.before.before.put-refusal.ensures
 
 same-length-2 : tie.Need-same-length-2
@@ -94,7 +94,7 @@ returns-2 c =
     let the-enum-told = after-enum-told.before.before.before.before.enum_told in
     let after-read-scene = after-enum-told.before.before.before.before.before.before.before.before in
     let read-scene = after-read-scene.before.before.before.before.before.before.read-scene in
-    text_mapped _ _ read-scene.result.check _ _ _ _ read-scene.ensures _ _ _ the-enum-told.given.1 c.before.before.put_map.ensures
+    text_mapped _ read-scene.result.check _ _ _ _ read-scene.ensures _ _ _ the-enum-told.given.1 c.before.before.put_map.ensures
 
 pub put-stray-map-spec : {M : Type 1} → statement M
 put-stray-map-spec =

@@ -114,7 +114,7 @@ returns c =
     let at-most2 = at_front.before.before.before.before.before.at-most2 in
     let at_most = at_front.before.before.before.before.before.before.at_most in
     let detectors = at_front.before.before.before.before.before.before.before.detectors in
-    map_is _ _ _ _ _ _ _ _ _ _ _ _ _ _ detectors.ensures at_most.ensures.0 at-most2.ensures.0 all-pixels.ensures few.ensures.0
+    map_is _ _ _ _ _ _ _ _ _ _ _ _ _ detectors.ensures at_most.ensures.0 at-most2.ensures.0 all-pixels.ensures few.ensures.0
     config.ensures front.ensures front-wholes.ensures front2.ensures front-wholes2.ensures whole.ensures meant.ensures _ _ _
     put-traced.ensures
 

@@ -19,8 +19,8 @@ put-refusal-requires c κs = search rules
 enum_told : tie.Need-enum-told
 enum_told c = search rules
 
-put-shown-requires : tie.Need-put-shown-requires
-put-shown-requires c κs = search rules
+put-answer-requires : tie.Need-put-answer-requires
+put-answer-requires c κs = search rules
 
 same_length : tie.Need-same-length
 same_length c = search rules
@@ -44,7 +44,7 @@ returns c =
     let check = at-check.check in
     let after-trace-rays = at-check.before.before.before.before.before.before.before.before in
     let trace_rays_lem = after-trace-rays.before.before.before.before.trace_rays_lem in
-    refused_text _ _ trace_rays_lem.result _ _ _ _ _ trace_rays_lem.ensures _ _ _ _ _ _ check.given.1 number.ensures
+    refused_text _ trace_rays_lem.result _ _ _ _ _ trace_rays_lem.ensures _ _ _ _ _ _ check.given.1 number.ensures
     c.before.before.put-refusal.ensures
 
 same-length-6 : tie.Need-same-length-6
@@ -68,7 +68,7 @@ returns-2 c =
     let the-enum-told = at-enum-told.enum_told in
     let after-trace-rays = at-enum-told.before.before.before.before.before.before.before.before in
     let trace_rays_lem = after-trace-rays.before.before.before.before.trace_rays_lem in
-    done_text _ _ trace_rays_lem.result _ _ _ _ _ trace_rays_lem.ensures _ _ _ the-enum-told.given.1 c.before.before.put-shown.ensures
+    done_text _ trace_rays_lem.result _ _ _ _ _ trace_rays_lem.ensures _ _ _ the-enum-told.given.1 c.before.before.put_answer_lem.ensures
 
 pub put-traced-spec : {M : Type 1} → statement M
 put-traced-spec =
@@ -79,7 +79,7 @@ put-traced-spec =
     number-requires
     put-refusal-requires
     enum_told
-    put-shown-requires
+    put-answer-requires
     same_length
     same-length-2
     same-length-3

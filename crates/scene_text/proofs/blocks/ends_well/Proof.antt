@@ -1,7 +1,7 @@
 -- `scene_text::blocks::ends_well` meets its contract. Assumes nothing.
 use borrow.Author.Tests.{eq-eqb, ne_eqb}
 use Rattle.scene_text.specs.Blocks.{ends_well_of}
-use Rattle.forms.specs.Lines.{behind}
+use Rattle.scene_text.specs.Lines.{behind}
 use Rattle.scene_text.proofs.blocks.ends_well.Statement.{statement}
 use Rattle.scene_text.proofs.blocks.ends_well.Tie as tie
 

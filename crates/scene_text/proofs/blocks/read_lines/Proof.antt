@@ -3,8 +3,7 @@ use borrow.Author.Rules.{rules}
 use mathlib.Core.Path.{◌≡◌, refl, ◌∙◌}
 use Prim.Native.Nat.{◌+◌, ◌≤◌}
 use lib.ListN.{length}
-use Rattle.forms.specs.Steps.{table}
-use Rattle.scene_text.specs.Steps.{comes_to}
+use Rattle.scene_text.specs.Steps.{table, comes_to}
 use Rattle.scene_text.proofs.Standing.{stands_start, stands_end, left, less}
 use Rattle.scene_text.proofs.blocks.read_lines.Statement.{statement}
 use Rattle.scene_text.proofs.blocks.read_lines.Tie as tie

@@ -11,7 +11,7 @@ pub type Refusal = (u32, usize);
 pub type Checked = Result<(), Refusal>;
 
 /// Refusals are numbered from 1 to this.
-pub const REFUSALS: usize = 27;
+pub const REFUSALS: usize = 18;
 pub const MOST_DETECTORS: u32 = 8;
 pub const MOST_RESOLUTION: u32 = 4096;
 pub const MOST_PIXELS: usize = 4096;
@@ -219,7 +219,7 @@ impl Memory {
         d.whole(self.used);
         d.hex()
     }
-    pub fn are_hits(&self) -> bool {
+    fn are_hits(&self) -> bool {
         let n = self.hit_values.len();
         n == self.hit_tags.len() && n % 4 == 0 && self.used <= (n / 4) as u64
     }

@@ -17,15 +17,15 @@ const LEAST_EMPTY: usize = 25;
 const LEAST_LATER: usize = 60;
 
 /// One of the first n.
-pub fn below(s: &mut Sm, n: usize) -> usize {
+fn below(s: &mut Sm, n: usize) -> usize {
     s.n(n.max(1) as u64) as usize
 }
 
-pub fn any_face(st: &Stage, s: &mut Sm) -> usize {
+fn any_face(st: &Stage, s: &mut Sm) -> usize {
     below(s, st.said.min(8) as usize)
 }
 
-pub fn any_hit(st: &Stage, s: &mut Sm) -> Hit {
+fn any_hit(st: &Stage, s: &mut Sm) -> Hit {
     let d = any_face(st, s);
     let half = |k: usize| 0.5 * st.lists.detector_values[11 * d + k];
     let x = half(9) * s.pick(&[0.0, 1.0, -1.0, 0.5, 2.0, f64::NAN]);
@@ -69,7 +69,7 @@ fn peeks(st: &mut Stage, s: &mut Sm) {
 }
 
 /// A call that leaves the memory.
-pub fn quiet(st: &mut Stage, s: &mut Sm) {
+fn quiet(st: &mut Stage, s: &mut Sm) {
     let d = any_face(st, s);
     let face = st.face(d);
     match s.n(10) {
@@ -92,7 +92,7 @@ pub fn quiet(st: &mut Stage, s: &mut Sm) {
 }
 
 /// A tracing of some of the rays, or a recording, and the memory behind it.
-pub fn writes(st: &mut Stage, s: &mut Sm) {
+fn writes(st: &mut Stage, s: &mut Sm) {
     let rays = st.rays as usize;
     let from = below(s, rays);
     let n = below(s, rays - from + 1);
@@ -152,7 +152,7 @@ fn with_double(st: &mut Stage, slice: &str, i: usize, x: f64, call: impl FnOnce(
     st.set(slice, i, old);
 }
 
-pub fn with_whole(st: &mut Stage, slice: &str, i: usize, n: u32, call: impl FnOnce(&mut Stage)) {
+fn with_whole(st: &mut Stage, slice: &str, i: usize, n: u32, call: impl FnOnce(&mut Stage)) {
     let old = st.set_whole(slice, i, n);
     call(st);
     st.memory();
@@ -178,11 +178,6 @@ fn bad_face(st: &mut Stage, s: &mut Sm, n: u32) {
     let d = any_face(st, s);
     let alone = s.chance(0.3);
     let call = |st: &mut Stage, s: &mut Sm| match alone { true if s.chance(0.5) => st.check(d), true => st.area(d), false => asks_all(st, s) };
-    with_bad_face(st, s, n, d, call);
-}
-
-/// A call with detector d such that this refuses it.
-pub fn with_bad_face(st: &mut Stage, s: &mut Sm, n: u32, d: usize, call: impl FnOnce(&mut Stage, &mut Sm)) {
     let k = below(s, 2);
     match n {
         5 => with_double(st, "detector_values", 11 * d + 9 + k, s.pick(&[0.0, -1.0, f64::NAN, f64::INFINITY, -0.0]), |st| call(st, s)),
@@ -351,7 +346,7 @@ fn try_refused(st: &mut Stage, s: &mut Sm, n: u32) -> bool {
 // ---- lists
 
 /// The scene read, and an empty memory with room for so many hits.
-pub fn start(name: &str, p: &Plan, room: usize) -> Stage {
+fn start(name: &str, p: &Plan, room: usize) -> Stage {
     let mut st = Stage::new(name);
     st.scene(p);
     st.read();
@@ -379,7 +374,7 @@ pub struct Source {
 /// Document 01's.
 pub const NUMBERS: [u32; 17] = [1, 2, 3, 4, 5, 6, 7, 8, 9, 10, 11, 12, 13, 14, 15, 16, 17];
 
-pub fn scene(s: &mut Sm, from: &Source, style: usize) -> (Plan, usize) {
+fn scene(s: &mut Sm, from: &Source, style: usize) -> (Plan, usize) {
     loop {
         let p = (from.plan)(s, style);
         if p.text().len() > MOST_TEXT { continue; }
@@ -390,14 +385,14 @@ pub fn scene(s: &mut Sm, from: &Source, style: usize) -> (Plan, usize) {
 }
 
 /// Whether the memory is the empty one with its plain list of hits added.
-pub fn is_book(st: &Stage) -> bool {
+fn is_book(st: &Stage) -> bool {
     let (mut m, dets) = (st.memory.clone(), st.dets());
     m.empty();
     st.memory.list().iter().all(|h| m.put(&dets, h).is_ok()) && m.digest() == st.memory.digest()
 }
 
 /// Room for all of so many hits, or for fewer.
-pub fn tight(s: &mut Sm, hits: usize) -> usize {
+fn tight(s: &mut Sm, hits: usize) -> usize {
     if s.chance(0.3) { hits.saturating_sub(1 + below(s, 3)) } else { hits + below(s, 3) }
 }
 

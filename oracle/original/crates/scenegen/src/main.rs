@@ -3,8 +3,7 @@
 //!
 //!   scenegen scene SEED          scene text (filter -)
 //!   scenegen answer SEED FILTER  the original's answer under filter 0..4
-//!   scenegen batch FROM COUNT DIR [closed] [nowhere] [mirrors]   writes DIR/SEED.F.in and DIR/SEED.F.out, F in 0..4,
-//!                                and where it is not refused DIR/SEED.hits, the hit text of its list;
+//!   scenegen batch FROM COUNT DIR [closed] [nowhere] [mirrors]   writes DIR/SEED.F.in and DIR/SEED.F.out, F in 0..4;
 //!                                with `closed` every cylinder and every second box of a scene is a closed cylinder of its
 //!                                sizes, with `nowhere` some detectors face nowhere (head of nowhere.rs), with
 //!                                `mirrors` solids are mirrors at the threshold (head of mirrors.rs)
@@ -30,7 +29,6 @@ mod closed_scripts;
 mod damage;
 mod edges;
 mod flags;
-mod hit_text;
 mod limits;
 mod mirror_scripts;
 mod mirrors;
@@ -38,9 +36,6 @@ mod nowhere;
 mod nowhere_scripts;
 mod plans;
 mod reader;
-mod replay_limits;
-mod replay_lists;
-mod replay_scripts;
 mod runs;
 mod sample;
 mod scenes;
@@ -844,7 +839,7 @@ fn solids(s: &mut Sm, put: &dyn Fn(&str, String), name: &str, lines: usize, make
     eprintln!("{hits} of {lines} lines of {name} are hits");
 }
 
-/// So many scenes from a seed on, under every filter, with the original's answers and the text of its hits.
+/// So many scenes from a seed on, under every filter, with the original's answers.
 fn batch(from: u64, count: u64, dir: &str, changes: &[String]) {
     let changed = |how: &str| changes.iter().any(|w| w == how);
     let mut drops = mirrors::Drops::default();
@@ -856,9 +851,6 @@ fn batch(from: u64, count: u64, dir: &str, changes: &[String]) {
         if scene_text(&c, "-").len() > 65536 { continue; }
         let s = solve(&c);
         drops.count(&c, &s);
-        if let Ok(d) = &s {
-            std::fs::write(format!("{dir}/{seed}.hits"), hit_text::text(&runs::in_order(&d.scene, &d.rep))).unwrap();
-        }
         for f in 0..5u32 {
             std::fs::write(format!("{dir}/{seed}.{f}.in"), scene_text(&c, &f.to_string())).unwrap();
             std::fs::write(format!("{dir}/{seed}.{f}.out"), answer(&s, f)).unwrap();

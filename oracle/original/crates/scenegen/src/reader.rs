@@ -37,14 +37,14 @@ struct Held {
     tags: Vec<u32>,
 }
 
-pub fn double(t: &[u8]) -> Option<f64> {
+fn double(t: &[u8]) -> Option<f64> {
     let digits = !t.is_empty() && t.len() <= 16 && t.iter().all(|b| b"0123456789abcdef".contains(b));
     let bits = digits.then(|| u64::from_str_radix(&format!("{:0<16}", String::from_utf8_lossy(t)), 16).unwrap())?;
     let x = f64::from_bits(bits);
     Some(if x.is_nan() { f64::NAN } else { x })
 }
 
-pub fn whole(t: &[u8], most: u64) -> Option<u32> {
+fn whole(t: &[u8], most: u64) -> Option<u32> {
     let plain = !t.is_empty() && t.len() <= 10 && t.iter().all(u8::is_ascii_digit) && (t[0] != b'0' || t.len() == 1);
     let n: u64 = plain.then(|| std::str::from_utf8(t).unwrap().parse().unwrap())?;
     (n <= most).then_some(n as u32)

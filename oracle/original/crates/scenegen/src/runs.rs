@@ -149,7 +149,7 @@ fn told(c: &Case, rays: &[NonSeqRay], rep: &NonSeqTraceReport) -> Report {
 }
 
 /// The hits of a run that the original did not refuse, in the order of its paths.
-pub fn in_order(scene: &NonSeqScene, rep: &NonSeqTraceReport) -> Vec<Hit> {
+fn in_order(scene: &NonSeqScene, rep: &NonSeqTraceReport) -> Vec<Hit> {
     let mut at = vec![0; scene.detectors.len()];
     let next = |d: usize| { at[d] += 1; hit_on(d, &scene.detectors[d].hits[at[d] - 1]) };
     rep.paths.iter().filter_map(|p| p.hit_detector_id).map(next).collect()

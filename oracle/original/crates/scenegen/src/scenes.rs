@@ -360,36 +360,6 @@ impl Making {
         self.stage.memory.used > 0 || self.traced[0].refusal == 18
     }
 
-    /// Whether hits were left.
-    fn is_hit(&self) -> bool {
-        self.stage.memory.used > 0
-    }
-
-    /// The text of the list, replayed into an emptied memory of the same size, whose list holds the pattern again: that is
-    /// then the memory that was left. Looks at it, the same text of it, and in every second script the text once more.
-    fn replays(&mut self) {
-        let (number, st) = (self.number, &mut self.stage);
-        let (left, n) = (st.memory.clone(), st.hits_length());
-        st.put_hits(n + number % 3);
-        st.hit_written(n);
-        st.lend(left.flux.len(), left.hits.len(), left.hit_values.len(), left.hit_tags.len());
-        st.empty();
-        st.replay();
-        assert!(st.last.is_ok() && st.memory.digest() == left.digest(), "a replay leaves another memory: scene {number}");
-        st.memory();
-        let (used, hits) = (left.used as usize, left.hits.iter().enumerate().filter(|h| *h.1 > 0));
-        [0, used / 2, used - 1].iter().for_each(|&i| st.hit(i));
-        hits.step_by(3).for_each(|(i, _)| st.pixel(i));
-        (0..st.said as usize).for_each(|d| st.caught(d));
-        for filter in 0..5 {
-            if let Some(n) = st.answer_length(filter) { st.answer(filter, n); }
-        }
-        st.put_hits(n);
-        if number % 2 == 1 { return; }
-        st.replay();
-        st.memory();
-    }
-
     /// The answers under every filter, from the memory and to the text, where they are known.
     fn answers(&mut self) {
         let place = self.stage.filter_place();
@@ -402,7 +372,7 @@ impl Making {
 }
 
 /// How many scenes there are, and of what kinds.
-pub struct Tally { all: usize, refusals: [usize; REFUSALS + 1], limits: [usize; 17], flags: [usize; KINDS], pub replayed: usize }
+pub struct Tally { all: usize, refusals: [usize; REFUSALS + 1], limits: [usize; 17], flags: [usize; KINDS] }
 
 impl Tally {
     fn count(&mut self, t: &Traced) {
@@ -417,7 +387,7 @@ impl Tally {
     }
 
     fn new() -> Tally {
-        Tally { all: 0, refusals: [0; REFUSALS + 1], limits: [0; 17], flags: [0; KINDS], replayed: 0 }
+        Tally { all: 0, refusals: [0; REFUSALS + 1], limits: [0; 17], flags: [0; KINDS] }
     }
 
     pub fn table(&self, what: &str) -> String {
@@ -441,33 +411,19 @@ fn close(s: &mut Sm, c: &mut Case) {
     }
 }
 
-/// As it is, with closed cylinders, or with mirrors at the threshold.
-fn of_any_kind(s: &mut Sm, c: &mut Case) {
-    match s.n(3) {
-        0 => close(s, c),
-        1 => mirrors::at_threshold(s, c),
-        _ => (),
-    }
-}
-
 /// What a list of small scenes is made of.
 pub struct Kind {
     name: &'static str,
     styles: &'static [u64],
     change: fn(&mut Sm, &mut Case),
     keeps: fn(&Making) -> bool,
-    /// whether a scene may be changed so that a check refuses it
-    spoils: bool,
-    /// what comes behind the tracings
-    behind: fn(&mut Making),
+    answered: bool,
 }
 
-const PLAIN: Kind = Kind { name: "scene", styles: &[0, 1, 2, 3, 4, 5, 6, 7, 8, 9, 10, 1, 4, 6], change: |_, _| (), keeps: |_| true, spoils: true, behind: |_| () };
-pub const CLOSED: Kind = Kind { name: "closed", styles: &[0, 1, 2, 3, 5, 6, 7, 8, 9, 10, 1, 2], change: close, keeps: Making::is_closed, spoils: true, behind: Making::answers };
-pub const MIRRORS: Kind = Kind { name: "mirrors", styles: &[0, 1, 2, 3, 4, 5, 6, 7, 8, 9, 1, 4, 6], change: mirrors::at_threshold, keeps: Making::drops_or_nearly, spoils: true, behind: Making::answers };
-pub const NOWHERE: Kind = Kind { name: "nowhere", styles: &[0, 1, 2, 3, 4, 5, 6, 9, 2, 4, 5], change: nowhere::quarter, keeps: Making::is_hit_or_nowhere, spoils: true, behind: Making::answers };
-
-pub const REPLAYED: Kind = Kind { name: "replay_scene", styles: &[0, 1, 2, 3, 4, 5, 6, 7, 8, 9, 10, 2, 5], change: of_any_kind, keeps: Making::is_hit, spoils: false, behind: Making::replays };
+const PLAIN: Kind = Kind { name: "scene", styles: &[0, 1, 2, 3, 4, 5, 6, 7, 8, 9, 10, 1, 4, 6], change: |_, _| (), keeps: |_| true, answered: false };
+pub const CLOSED: Kind = Kind { name: "closed", styles: &[0, 1, 2, 3, 5, 6, 7, 8, 9, 10, 1, 2], change: close, keeps: Making::is_closed, answered: true };
+pub const MIRRORS: Kind = Kind { name: "mirrors", styles: &[0, 1, 2, 3, 4, 5, 6, 7, 8, 9, 1, 4, 6], change: mirrors::at_threshold, keeps: Making::drops_or_nearly, answered: true };
+pub const NOWHERE: Kind = Kind { name: "nowhere", styles: &[0, 1, 2, 3, 4, 5, 6, 9, 2, 4, 5], change: nowhere::quarter, keeps: Making::is_hit_or_nowhere, answered: true };
 
 /// The next scene; none where it takes too many steps, the original can't say enough, or little happens.
 fn next(s: &mut Sm, kind: &Kind, style: u64, number: usize) -> Option<Making> {
@@ -484,7 +440,7 @@ fn next(s: &mut Sm, kind: &Kind, style: u64, number: usize) -> Option<Making> {
     let used = alone.stage.memory.used as usize;
     let second = if s.chance(0.2) {
         more(s, style, &first, used)
-    } else if kind.spoils && s.chance(0.45) {
+    } else if s.chance(0.45) {
         spoilt(s, &first, used)
     } else {
         None
@@ -499,8 +455,7 @@ pub fn of_kind(s: &mut Sm, kind: &Kind, scripts: usize, scenes: usize) -> (Vec<S
         turn += 1;
         let style = kind.styles[turn % kind.styles.len()];
         let Some(mut m) = next(s, kind, style, tally.all).filter(kind.keeps) else { continue };
-        (kind.behind)(&mut m);
-        tally.replayed += m.stage.tally.replayed;
+        if kind.answered { m.answers(); }
         m.traced.iter().for_each(|t| tally.count(t));
         out.push(m.stage.script());
     }

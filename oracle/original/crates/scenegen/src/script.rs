@@ -66,10 +66,6 @@ impl Script {
     pub fn scene_text(&mut self, text: &str) {
         self.text += &format!("text {}\n{text}\n", text.len());
     }
-    /// The hit text.
-    pub fn hit_text(&mut self, text: &str) {
-        self.text += &format!("hit_text {}\n{text}\n", text.len());
-    }
     /// A call with what it is to answer.
     pub fn call(&mut self, call: &str, answer: &str) {
         self.text += &format!("{call} = {answer}\n");

@@ -1,6 +1,6 @@
 //! Every script of crates/test_scripts/data: `scenegen scripts DIR SEED` writes the files of scripts and index.txt there,
 //! the worked scenes to DIR/scenes, to DIR/stdout what a run prints in which nothing differs, and to DIR/table.md what
-//! the small scenes, lists of calls, limits, closed cylinders, mirrors, detectors facing nowhere and replays cover.
+//! the small scenes, lists of calls, limits, closed cylinders, mirrors and detectors facing nowhere cover.
 use super::calls::Source;
 use super::script::Script;
 use super::stage::{Stage, Tally};
@@ -48,7 +48,6 @@ fn all(dir: &str, seed: u64) -> (Vec<(&'static str, Vec<Script>)>, String) {
     let (closed, closed_table) = closed_scripts::scripts(seed);
     let (mirrors, mirrors_table) = mirror_scripts::scripts(seed);
     let (nowhere, nowhere_table) = nowhere_scripts::scripts(seed);
-    let (replay, replay_table) = replay_scripts::scripts(seed);
     let sample = STORED_SAMPLE.wrapping_add((seed ^ STORED).wrapping_mul(1000));
     let lists = vec![
         ("worked", worked::scripts(&format!("{dir}/scenes"))),
@@ -59,9 +58,8 @@ fn all(dir: &str, seed: u64) -> (Vec<(&'static str, Vec<Script>)>, String) {
         ("closed", closed),
         ("mirrors", mirrors),
         ("nowhere", nowhere),
-        ("replay", replay),
     ];
-    (lists, [scenes_table, calls_table, limits_table, closed_table, mirrors_table, nowhere_table, replay_table].join("\n"))
+    (lists, [scenes_table, calls_table, limits_table, closed_table, mirrors_table, nowhere_table].join("\n"))
 }
 
 /// The files of one list as they are written.

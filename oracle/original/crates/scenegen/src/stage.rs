@@ -61,7 +61,6 @@ enum Line {
     Note(String),
     SetUp(String),
     Text(String),
-    HitText(String),
     Call(String, String),
 }
 
@@ -73,9 +72,6 @@ pub struct Tally {
     pub kept: usize,
     /// tracings whose lost is not 0, is NaN, is not known
     pub lost: [usize; 3],
-    /// hits that replays put, and replays refused at a line whose hits before it stay
-    pub replayed: usize,
-    pub stayed: usize,
     pub calls: std::collections::BTreeMap<String, usize>,
 }
 
@@ -87,8 +83,6 @@ impl Tally {
             (0..=REFUSALS).for_each(|n| sum.refused[n] += t.refused[n]);
             sum.kept += t.kept;
             (0..3).for_each(|k| sum.lost[k] += t.lost[k]);
-            sum.replayed += t.replayed;
-            sum.stayed += t.stayed;
             for (verb, n) in &t.calls { *sum.calls.entry(verb.clone()).or_default() += n; }
         }
         sum
@@ -109,9 +103,6 @@ pub struct Stage {
     name: String,
     lines: Vec<Line>,
     text: Vec<u8>,
-    hit_text: Vec<u8>,
-    /// what was written last, where it is known
-    written: Option<String>,
     pub lists: Lists,
     pub solids: u32,
     pub said: u32,
@@ -143,6 +134,9 @@ fn written(text: &str, room: usize) -> String {
     format!("{} {}", text.len(), d.hex())
 }
 
+fn written_if(text: Option<&str>, room: usize) -> String {
+    text.map_or("? ?".into(), |t| written(t, room))
+}
 
 impl Stage {
     pub fn new(name: &str) -> Stage {
@@ -152,8 +146,6 @@ impl Stage {
             name: name.into(),
             lines: Vec::new(),
             text: Vec::new(),
-            hit_text: Vec::new(),
-            written: Some(String::new()),
             lists: Lists {
                 run_values: doubles(0), run_tags: wholes(1), solid_values: doubles(2), solid_tags: wholes(3),
                 detector_values: doubles(4), detector_tags: wholes(5), ray_values: doubles(6), ray_tags: wholes(7),
@@ -176,7 +168,6 @@ impl Stage {
                 Line::Note(t) => s.note(t),
                 Line::SetUp(t) => s.set_up(t),
                 Line::Text(t) => s.scene_text(t),
-                Line::HitText(t) => s.hit_text(t),
                 Line::Call(c, a) => s.call(c, a),
             }
         }
@@ -235,15 +226,6 @@ impl Stage {
         self.text.truncate(n);
         self.set_up(format!("cut {n}"));
     }
-    pub fn hit_text(&mut self, text: &str) {
-        self.hit_text = text.as_bytes().to_vec();
-        self.lines.push(Line::HitText(text.into()));
-    }
-    /// The hit text becomes the first of the bytes that were written last.
-    pub fn hit_written(&mut self, n: usize) {
-        self.hit_text = self.written.as_ref().unwrap().as_bytes()[..n].to_vec();
-        self.set_up(format!("hit_written {n}"));
-    }
     pub fn lend(&mut self, flux: usize, hits: usize, values: usize, tags: usize) {
         let old = &self.memory;
         self.memory = Memory { totals: old.totals, counts: old.counts, used: old.used, ..Memory::lent(flux, hits, values, tags) };
@@ -297,11 +279,6 @@ impl Stage {
         self.set_up(format!("set {slice} {i} {n}"));
         std::mem::replace(&mut self.wholes(slice)[i], n)
     }
-    /// A place of a slice of doubles becomes one of these bits, a NaN as it is.
-    pub fn set_bits(&mut self, slice: &str, i: usize, bits: u64) {
-        self.set_up(format!("set {slice} {i} {}", trimmed(bits)));
-        self.doubles(slice)[i] = f64::from_bits(bits);
-    }
     /// Makes a slice of doubles another one, by the places that differ.
     pub fn change(&mut self, slice: &str, to: &[f64]) {
         for (i, &x) in to.iter().enumerate() {
@@ -316,11 +293,6 @@ impl Stage {
 
     // ---- calls
 
-    /// Length and digest of a text, where it is known, that is written into so many bytes; it is what was written last.
-    fn wrote(&mut self, text: Option<&str>, room: usize) -> String {
-        self.written = text.map(|t| if t.len() <= room { t.into() } else { String::new() });
-        text.map_or("? ?".into(), |t| written(t, room))
-    }
     fn call(&mut self, call: String, answer: String) {
         let verb = call.split(' ').next().unwrap().to_string();
         *self.tally.calls.entry(verb).or_default() += 1;
@@ -418,25 +390,6 @@ impl Stage {
         let call = format!("record {} {}", joined(h.values.map(given)), joined(h.tags));
         self.judged(call, r, self.memory.used.to_string());
     }
-    /// The hit text of the list into so many bytes.
-    pub fn put_hits(&mut self, room: usize) {
-        let r = self.memory.hits_text(room);
-        let rest = self.wrote(Some(r.as_deref().unwrap_or("")), room);
-        self.judged(format!("put_hits {room}"), r.map(|_| ()), rest);
-    }
-    /// How long that text is, where it is not refused.
-    pub fn hits_length(&self) -> usize {
-        self.memory.hits_text(usize::MAX).unwrap().len()
-    }
-    /// The hit text replayed into the memory.
-    pub fn replay(&mut self) {
-        let (dets, used) = (self.dets(), self.memory.used);
-        let r = self.memory.replay(&dets, &self.hit_text);
-        let more = self.memory.used - used;
-        self.tally.replayed += more as usize;
-        self.tally.stayed += (r.is_err() && more > 0) as usize;
-        self.judged("replay".into(), r, self.memory.used.to_string());
-    }
     pub fn refilter(&mut self, d: u32, filter: u32, places: usize) {
         let mut work: Vec<f64> = (0..places).map(|i| i as f64 + 0.5).collect();
         let r = self.memory.refilter(&self.dets(), d, filter, &mut work);
@@ -496,14 +449,13 @@ impl Stage {
     pub fn answer(&mut self, filter: u32, room: usize) {
         let r = self.memory.answer(&self.dets(), &self.report, filter);
         let rest = match &r {
-            Ok(text) => self.wrote(text.as_deref(), room),
-            Err(_) => self.wrote(Some(""), room),
+            Ok(text) => written_if(text.as_deref(), room),
+            Err(_) => written("", room),
         };
         self.judged(format!("answer {filter} {room}"), r.map(|_| ()), rest);
     }
     pub fn refusal(&mut self, n: u32, place: u32, room: usize) {
-        let told = self.wrote(Some(&refusal_text(n, place as usize)), room);
-        self.call(format!("refusal {n} {place} {room}"), told);
+        self.call(format!("refusal {n} {place} {room}"), written(&refusal_text(n, place as usize), room));
     }
     /// The answer to the scene text; none where the original can't say all of it.
     pub fn map_text(&self) -> Option<String> {
@@ -526,8 +478,7 @@ impl Stage {
         }
     }
     pub fn map(&mut self, room: usize) {
-        let told = self.wrote(self.map_text().as_deref(), room);
-        self.call(format!("map {room}"), told);
+        self.call(format!("map {room}"), written_if(self.map_text().as_deref(), room));
     }
     /// What was written last is that file.
     pub fn written(&mut self, name: &str) {

@@ -1,7 +1,7 @@
 //! The worked scenes of `scenes/`: a bench trainee's scenes, built here with the original's own types, and texts
 //! that are to be refused. Writes NAME.txt, the scene text, and NAME.answer.txt: the original's answer, or for a
 //! text that is refused before the run the number and place that the documents give, since the original has none.
-//! NAME.hits is the hit text of what a scene leaves. The scripts name these files.
+//! The scripts name these files.
 use super::script::Script;
 use super::scripts::ANSWER_BYTES;
 use super::stage::Stage;
@@ -31,42 +31,6 @@ impl Worked {
     fn traced(&mut self, name: &str, c: &Case, filter: &str) {
         let f = filter.parse().unwrap_or(0);
         self.put(name, c, scene_text(c, filter), answer(&solve(c), f));
-    }
-
-    /// The hit text that a scene leaves in a list of so many places, and the script that traces it, writes it, replays it
-    /// over the same detectors, and answers by the replayed memory what the scene answers.
-    fn kept(&mut self, name: &str, of: &str, c: &Case, room: usize) {
-        let text = scene_text(c, "-");
-        let mut s = Stage::new(&format!("{name}-hits"));
-        s.place(c);
-        s.file(&format!("scenes/{of}.txt"), &text);
-        s.read();
-        let (pixels, rays) = (s.dets().pixels(), c.rays.len());
-        let fresh = |s: &mut Stage| { s.lend(pixels, pixels, 4 * room, 4 * room); s.empty() };
-        fresh(&mut s);
-        assert!(s.trace(0, rays));
-        s.memory();
-        let done = s.last.is_ok();
-        let (left, hits) = (s.memory.clone(), s.memory.hits_text(ANSWER_BYTES).unwrap());
-        assert!(left.used > 2 && (done || left.used as usize == room));
-        std::fs::write(format!("{}/{name}.hits", self.dir), &hits).unwrap();
-        s.put_hits(ANSWER_BYTES);
-        s.written(&format!("scenes/{name}.hits"));
-        s.hit_written(hits.len());
-        fresh(&mut s);
-        s.replay();
-        s.memory();
-        assert!(s.last.is_ok() && s.memory.digest() == left.digest(), "{name}");
-        if done {
-            s.answer(0, ANSWER_BYTES);
-            s.written(&format!("scenes/{of}.answer.txt"));
-            assert_eq!(s.memory.answer(&s.dets(), &s.report, 0).unwrap(), Some(answer(&solve(c), 0)), "{name}");
-        }
-        (0..s.said as usize).for_each(|d| s.caught(d));
-        (0..pixels).filter(|&i| left.hits[i] > 0).for_each(|i| s.pixel(i));
-        s.put_hits(ANSWER_BYTES);
-        s.written(&format!("scenes/{name}.hits"));
-        self.scripts.push(s.script());
     }
 
     fn refused(&mut self, name: &str, text: String, number: u32, place: u32) {
@@ -302,9 +266,5 @@ pub fn scripts(dir: &str) -> Vec<Script> {
     w.traced("barrel", &barrel(true), "-");
     w.traced("rod", &rod(), "-");
     refusals(&mut w);
-    w.kept("window", "window", &window(), 1024);
-    w.kept("lens", "lens", &lens(), 1024);
-    w.kept("rod", "rod", &rod(), 1024);
-    w.kept("window-full", "window", &window(), 4);
     w.scripts
 }

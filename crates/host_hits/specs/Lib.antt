@@ -1,2 +1,0 @@
--- What a host is answered of hit texts.
-pub mod Hits
