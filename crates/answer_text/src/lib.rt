@@ -1,5 +1,7 @@
 // The answer of a tracing as text (document 01, `straymap`): ledger, tallies, detectors and pixels under a
 // filter; and a refusal.
+#![tactic(auto)]
+
 mod detectors_text;
 mod maps;
 mod pixels;

@@ -11,7 +11,7 @@ use filter::{Filtered, RayPathFilter};
 use memory::TEXT_PIXELS;
 
 // How many pixels a detector has, and how many columns.
-#[derive(Drop)]
+#[derive(Clone, Copy)]
 pub struct Grid {
     pub pixels: usize,
     pub columns: usize,

@@ -1,4 +1,6 @@
 // Loops for the drivers in bench/, exported to Rust.
+#![tactic(auto)]
+
 ghost use Rattle.std.specs.Prelude.{◌≡◌, cond};
 ghost use Rattle.std.specs.Float.Ieee.{of_bits};
 ghost use Rattle.std.specs.Float.{binary64};
@@ -13,7 +15,7 @@ use scene::{Intersection, NonSeqHit};
 
 // A hit in plain numbers; all zero but for `met` where there is none.
 #[repr(C)]
-#[derive(Drop)]
+#[derive(Clone, Copy)]
 pub struct BenchHit {
     pub met: u32,
     pub solid: u32,

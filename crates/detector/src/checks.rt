@@ -7,7 +7,7 @@ use crate::Detector2D;
 use error::{Check, NonSeqError};
 use rays::Vec3;
 
-#[derive(Drop)]
+#[derive(Clone, Copy)]
 pub enum NewDetector {
     Made(Detector2D),
     Refused { error: NonSeqError, place: u32 },

@@ -7,7 +7,7 @@ use error::{Check, NonSeqError};
 use rays::{Ray, Vec3};
 
 // The axes of a detector and its half sizes, worked out once a call.
-#[derive(Drop)]
+#[derive(Clone, Copy)]
 pub struct Face {
     pub center: Vec3,
     pub normal: Vec3,
@@ -18,20 +18,20 @@ pub struct Face {
 }
 
 // Where a ray crosses a face: the distance, and the place to the right of the centre and above it.
-#[derive(Drop)]
+#[derive(Clone, Copy)]
 pub struct Crossing {
     pub t: f64,
     pub local_x: f64,
     pub local_y: f64,
 }
 
-#[derive(Drop)]
+#[derive(Clone, Copy)]
 pub enum Crossed {
     At(Crossing),
     Miss,
 }
 
-#[derive(Drop)]
+#[derive(Clone, Copy)]
 pub enum RayCrossing {
     Found(Crossed),
     Refused { error: NonSeqError, place: u32 },

@@ -1,5 +1,7 @@
 // Detectors (document 01, module 7), after detector.rs: a detector's record, its checks, where a ray
 // crosses its face, which pixel a point lies in, and the area of a pixel. The maps are in `memory`.
+#![tactic(auto)]
+
 mod checks;
 mod face;
 mod pixels;
@@ -11,13 +13,13 @@ use rays::Vec3;
 
 // A detector's number, its place in the list of detectors. Never a solid's.
 #[repr(C)]
-#[derive(Drop)]
+#[derive(Clone, Copy)]
 pub struct DetectorNo(pub u32);
 
 // A detector as it was given, with what it has caught so far: the sum of its hits' fluxes in list order
 // and their number. Its normal and up are as given; each call works the axes out.
 #[repr(C)]
-#[derive(Drop)]
+#[derive(Clone, Copy)]
 pub struct Detector2D {
     pub center: Vec3,
     pub normal: Vec3,
@@ -33,7 +35,7 @@ pub struct Detector2D {
 // Where on which detector light arrived, how much of which wavelength, after how many bounces,
 // reflections and total reflections.
 #[repr(C)]
-#[derive(Drop)]
+#[derive(Clone, Copy)]
 pub struct DetectorHit {
     pub local_x: f64,
     pub local_y: f64,

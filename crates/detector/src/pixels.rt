@@ -6,7 +6,7 @@ use crate::Detector2D;
 use error::{Check, NonSeqError};
 
 // A double that was asked for, or the refusal and its place.
-#[derive(Drop)]
+#[derive(Clone, Copy)]
 pub enum Reading {
     Value(f64),
     Refused { error: NonSeqError, place: u32 },

@@ -1,5 +1,7 @@
 // Up to 8 detectors, by value (document 01, module 7): which one is asked for, where its pixels stand
 // among those of all, and the irradiance of a pixel. The maps themselves are lent.
+#![tactic(auto)]
+
 mod reading;
 
 ghost use Rattle.std.specs.Prelude.{◌≡◌, ◌≤◌, ◌<◌};
@@ -14,27 +16,27 @@ pub use reading::irradiance_at;
 pub const MAX_DETECTORS: usize = 8;
 
 #[repr(C)]
-#[derive(Drop)]
+#[derive(Clone, Copy)]
 pub struct Detectors {
     pub list: [Detector2D; MAX_DETECTORS],
     pub count: u32,
 }
 
 // A detector of a list, and the place of its first pixel among the pixels of all.
-#[derive(Drop)]
+#[derive(Clone, Copy)]
 pub struct Placed {
     pub detector: Detector2D,
     pub first: usize,
 }
 
-#[derive(Drop)]
+#[derive(Clone, Copy)]
 pub enum Found {
     There(Placed),
     Refused { error: NonSeqError, place: u32 },
 }
 
 // Detector d of the list, if d is below 8.
-#[derive(Drop)]
+#[derive(Clone, Copy)]
 pub enum Spot {
     There(Placed),
     Nowhere,

@@ -13,6 +13,7 @@ alike false true f g = absurd (g tt)
 alike false false f g = refl
 
 or_l : (a b : Bool) → T a → T (a || b)
+or_l false b t = elim t [ ]
 or_l true b t = tt
 
 or_r : (a b : Bool) → T b → T (a || b)
@@ -20,12 +21,16 @@ or_r true b t = tt
 or_r false b t = t
 
 and_l : (a b : Bool) → T (a && b) → T a
+and_l false b t = elim t [ ]
 and_l true b t = tt
 
 and_r : (a b : Bool) → T (a && b) → T b
+and_r false b t = elim t [ ]
 and_r true b t = t
 
 and_t : (a b : Bool) → T a → T b → T (a && b)
+and_t false b s t = elim s [ ]
+and_t true false s t = elim t [ ]
 and_t true true s t = tt
 
 or_else : (a b : Bool) (P : Type 0) → T (a || b) → (T a → P) → (T b → P) → P

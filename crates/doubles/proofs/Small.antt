@@ -114,6 +114,8 @@ at_least (fin false m e) a = absurd (clash (sym (is_true (ltb 0 (1 * 1 * down e 
 
 zero_equals : (x : Float) (c : ℕ) → 0 < c → HasValue x false 0 c → eq x (fin false 0 (pos 0)) ≡ true
 unfolding eq
+zero_equals nan c p v = elim v [ ]
+zero_equals (inf _) c p v = elim v [ ]
 zero_equals (fin s m e) c p v = go s (m * up e * 1) (0 * down e) (none (m * up e) c (v.1 ∙ zero-mul (down e)) p) (zero-mul (down e))
   where
     none : (x c : ℕ) → x * c ≡ 0 → 0 < c → x * 1 ≡ 0

@@ -1,5 +1,7 @@
 // Doubles (document 01, module 1): what the Rust takes from its standard library for f64, written
 // out. Every function takes every bit pattern; there is one NaN.
+#![tactic(auto)]
+
 mod root;
 
 ghost use Rattle.std.specs.Prelude.{◌≡◌, false, from_bits, to_bits};

@@ -1,8 +1,10 @@
 // The refusals (document 01, "When it says no", and document 02), after error.rs: one case for each number.
+#![tactic(auto)]
+
 ghost use Rattle.std.specs.Prelude.{◌≡◌};
 ghost use Rattle.error.specs.Refusals.{number_of};
 
-#[derive(Drop)]
+#[derive(Clone, Copy)]
 pub enum NonSeqError {
     // 1: the threshold is below 0 or not finite
     InvalidThreshold,
@@ -72,7 +74,7 @@ impl NonSeqError {
 }
 
 // What checks before a run find: nothing wrong, or a refusal and its place in a list, from 0.
-#[derive(Drop)]
+#[derive(Clone, Copy)]
 pub enum Check {
     Passed,
     Refused { error: NonSeqError, place: u32 },

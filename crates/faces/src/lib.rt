@@ -1,5 +1,7 @@
 // The faces of all detectors, worked out once a call, and the nearest detector that a ray crosses
 // (document 01, "How a ray lives"), after trace.rs.
+#![tactic(auto)]
+
 ghost use Rattle.std.specs.Prelude.{◌≡◌, ◌≤◌};
 ghost use Rattle.nearest.specs.Nearest.{distance_of, nearer_of};
 ghost use Rattle.detector.specs.Faces.{face_intersect_ray_of};
@@ -11,20 +13,20 @@ use detector::{Crossed, Crossing, DetectorNo, Face};
 use detectors::{Detectors, MAX_DETECTORS};
 use rays::Ray;
 
-#[derive(Drop)]
+#[derive(Clone, Copy)]
 pub struct Faces {
     pub list: [Face; MAX_DETECTORS],
     pub count: u32,
 }
 
 // Where a ray crosses which detector.
-#[derive(Drop)]
+#[derive(Clone, Copy)]
 pub struct Sight {
     pub detector: DetectorNo,
     pub crossing: Crossing,
 }
 
-#[derive(Drop)]
+#[derive(Clone, Copy)]
 pub enum Sighting {
     Seen(Sight),
     Nothing,

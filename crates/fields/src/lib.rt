@@ -1,5 +1,7 @@
 // Parts of a text between separators, and the numbers written in them (document 01, `straymap`:
 // "Doubles are 1 to 16 lower-case hex digits of their bits", "Other numbers are decimal").
+#![tactic(auto)]
+
 mod number;
 mod split;
 

@@ -2,13 +2,13 @@
 ghost use Rattle.std.specs.Prelude.{◌≡◌, true, ◌≤◌};
 ghost use Rattle.fields.specs.Number.{digit_of, digit_at_of, is_hex_of, hex_pad_of, read_bits_of, as_bits, is_led_by_zero_of, read_whole_of, as_whole};
 
-#[derive(Drop)]
+#[derive(Clone, Copy)]
 pub enum ReadBits {
     Bits(u64),
     Malformed,
 }
 
-#[derive(Drop)]
+#[derive(Clone, Copy)]
 pub enum ReadWhole {
     Whole(u32),
     Malformed,

@@ -13,7 +13,7 @@ use error::{Check, NonSeqError};
 use memory::is_hit_list;
 
 // The refusal or none, and the total and the count of the hits under the filter; 0 and 0 where refused.
-#[derive(Drop)]
+#[derive(Clone, Copy)]
 pub struct Filtered {
     pub check: Check,
     pub total_flux_watts: f64,

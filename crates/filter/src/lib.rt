@@ -7,6 +7,8 @@
 //   2 GhostsOnly    hits with at least one reflection; light that was only totally reflected is left out
 //   3 TirOnly       hits with at least one total reflection, reflections or not
 //   4 StrayLight    hits with either
+#![tactic(auto)]
+
 mod calls;
 mod sifting;
 
@@ -16,7 +18,7 @@ ghost use Rattle.filter.specs.Filters.{as_filter, numbered_filter_of, is_all_of,
 pub use calls::{Filtered, filtered_pixel_flux, refilter};
 pub use sifting::{Tally, refill};
 
-#[derive(Drop)]
+#[derive(Clone, Copy)]
 pub enum RayPathFilter {
     All,
     SignalOnly,
@@ -26,7 +28,7 @@ pub enum RayPathFilter {
 }
 
 // The filter of a number, if it is one's.
-#[derive(Drop)]
+#[derive(Clone, Copy)]
 pub enum NumberedFilter {
     Filter(RayPathFilter),
     Nothing,

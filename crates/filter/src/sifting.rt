@@ -9,7 +9,7 @@ use detector::{Detector2D, DetectorHit, DetectorNo};
 use memory::hit_at;
 
 // The sum of the fluxes that were added to a map, in their order, and their number.
-#[derive(Drop)]
+#[derive(Clone, Copy)]
 pub struct Tally {
     pub total: f64,
     pub count: usize,

@@ -10,7 +10,7 @@ use crate::{LocalHit, LocalIntersection};
 use rays::{Ray, Vec3};
 
 // What a ray meets of it.
-#[derive(Drop)]
+#[derive(Clone, Copy)]
 pub enum Wall {
     Side,
     Lower,
@@ -18,7 +18,7 @@ pub enum Wall {
 }
 
 // A candidate that qualifies, if there is one: its distance, and the wall there.
-#[derive(Drop)]
+#[derive(Clone, Copy)]
 pub enum Offer {
     At { t: f64, wall: Wall },
     Nowhere,

@@ -9,13 +9,13 @@ ghost use Rattle.geometry.specs.Contacts.{as_contact, meet_along_of, meet_of};
 use crate::{LocalHit, LocalIntersection, LocalRay, PrimitiveGeometry, transform};
 use rays::{Mat4, Ray, Vec3};
 
-#[derive(Drop)]
+#[derive(Clone, Copy)]
 pub struct Contact {
     pub point: Vec3,
     pub hit: LocalHit,
 }
 
-#[derive(Drop)]
+#[derive(Clone, Copy)]
 pub enum LocalContact {
     At(Contact),
     Miss,

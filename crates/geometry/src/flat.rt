@@ -7,7 +7,7 @@ use crate::{LocalHit, LocalIntersection};
 use rays::{Ray, Vec3};
 
 // The distance of a candidate, if there is one.
-#[derive(Drop)]
+#[derive(Clone, Copy)]
 pub enum Distance {
     At(f64),
     Nowhere,

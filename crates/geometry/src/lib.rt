@@ -1,5 +1,7 @@
 // Shapes in their own coordinates and their place in the world (document 01, module 5), after
 // geometry.rs, and the closed cylinder (document 02, a). Any sizes, any ray.
+#![tactic(auto)]
+
 mod closed;
 mod contact;
 mod flat;
@@ -16,7 +18,7 @@ use rays::{Ray, Vec3};
 pub use transform::{LocalRay, Transform3D, UnitVector};
 
 // A shape, with its sizes in millimetres.
-#[derive(Drop)]
+#[derive(Clone, Copy)]
 pub enum PrimitiveGeometry {
     // a rectangle on z = 0
     Plane {
@@ -51,20 +53,20 @@ pub enum PrimitiveGeometry {
 }
 
 // What a number means.
-#[derive(Drop)]
+#[derive(Clone, Copy)]
 pub enum NumberedGeometry {
     Shape(PrimitiveGeometry),
     Nothing,
 }
 
 // Where a ray meets a shape: the distance and the outward normal.
-#[derive(Drop)]
+#[derive(Clone, Copy)]
 pub struct LocalHit {
     pub t: f64,
     pub normal: Vec3,
 }
 
-#[derive(Drop)]
+#[derive(Clone, Copy)]
 pub enum LocalIntersection {
     Hit(LocalHit),
     Miss,

@@ -9,7 +9,7 @@ use crate::{LocalHit, LocalIntersection};
 use rays::{Ray, Vec3};
 
 // The roots of a quadratic equation, in the order in which they are tried.
-#[derive(Drop)]
+#[derive(Clone, Copy)]
 pub enum Roots {
     Two { first: f64, second: f64 },
     Nothing,

@@ -9,7 +9,7 @@ use crate::{LocalHit, LocalIntersection};
 use rays::{Ray, Vec3};
 
 // A side of a box, or none yet.
-#[derive(Drop)]
+#[derive(Clone, Copy)]
 pub enum Side {
     MinusX,
     PlusX,
@@ -21,14 +21,14 @@ pub enum Side {
 }
 
 // The distances at which a ray enters between an axis's planes and leaves them.
-#[derive(Drop)]
+#[derive(Clone, Copy)]
 pub struct Span {
     pub near: f64,
     pub far: f64,
 }
 
 // An end of what the axes leave of a ray: after the first, after two of them, after all.
-#[derive(Drop)]
+#[derive(Clone, Copy)]
 pub struct Ends {
     pub one: f64,
     pub two: f64,

@@ -6,19 +6,19 @@ ghost use Rattle.geometry.specs.Contacts.{ray_from_of};
 
 use rays::{Mat4, Ray, Vec3};
 
-#[derive(Drop)]
+#[derive(Clone, Copy)]
 pub struct Transform3D {
     pub matrix: Mat4,
     pub inverse: Mat4,
 }
 
-#[derive(Drop)]
+#[derive(Clone, Copy)]
 pub enum LocalRay {
     Made(Ray),
     Nothing,
 }
 
-#[derive(Drop)]
+#[derive(Clone, Copy)]
 pub enum UnitVector {
     Made(Vec3),
     Nothing,

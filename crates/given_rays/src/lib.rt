@@ -1,6 +1,8 @@
 // The given rays of a tracing, as two lent lists of numbers, as they stand in the scene text (document 01,
 // "Maps and lists"). Of each ray 8 doubles: origin, direction, wavelength, power. Of each ray 10 whole
 // numbers: bounce, number of media, 8 media.
+#![tactic(auto)]
+
 ghost use Rattle.std.specs.Prelude.{◌≡◌, ◌+◌, ◌*◌, ◌≤◌, length};
 ghost use Rattle.error.specs.Refusals.{as_checked};
 ghost use Rattle.given_rays.specs.Given.{read_ray_of, read_media_of, no_ray_of, given_at_of, check_lists_of, all_solids_of, valid_media_of, check_ray_of, check_rays_of, launched_of, ray_doubles, ray_wholes};

@@ -15,7 +15,7 @@ use rays::{Ray, Vec3};
 
 // A detector that has caught nothing, all zeros where it is refused.
 #[repr(C)]
-#[derive(Drop)]
+#[derive(Clone, Copy)]
 pub struct HostDetector {
     pub refusal: u32,
     pub place: u32,
@@ -25,7 +25,7 @@ pub struct HostDetector {
 // `crosses` is 1 where the ray meets the face, at the distance `t` and the place (`local_x`, `local_y`); all zeros
 // where it does not or is refused.
 #[repr(C)]
-#[derive(Drop)]
+#[derive(Clone, Copy)]
 pub struct HostCrossing {
     pub refusal: u32,
     pub place: u32,

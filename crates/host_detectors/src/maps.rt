@@ -15,7 +15,7 @@ use host_numbers::HostReading;
 
 // The detectors' records and the number of hits used go into the next call.
 #[repr(C)]
-#[derive(Drop)]
+#[derive(Clone, Copy)]
 pub struct HostRecorded {
     pub refusal: u32,
     pub place: u32,
@@ -25,7 +25,7 @@ pub struct HostRecorded {
 
 // The sum of the fluxes that the filter lets through, and how many hits they are; zeros where refused.
 #[repr(C)]
-#[derive(Drop)]
+#[derive(Clone, Copy)]
 pub struct HostFiltered {
     pub refusal: u32,
     pub place: u32,
@@ -35,7 +35,7 @@ pub struct HostFiltered {
 
 // The pixels of a detector are `pixels` places from `first` on; zeros where refused.
 #[repr(C)]
-#[derive(Drop)]
+#[derive(Clone, Copy)]
 pub struct HostPart {
     pub refusal: u32,
     pub place: u32,

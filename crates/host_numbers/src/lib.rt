@@ -1,5 +1,7 @@
 // Refusals and readings in the numbers that hosts get. `refusal` is the documents' number, 0 for none, and `place` the
 // list place of what was refused.
+#![tactic(auto)]
+
 ghost use Rattle.std.specs.Prelude.{◌≡◌};
 ghost use Rattle.error.specs.Refusals.{as_checked};
 ghost use Rattle.detector.specs.Pixels.{as_reading};
@@ -9,7 +11,7 @@ use detector::Reading;
 use error::Check;
 
 #[repr(C)]
-#[derive(Drop)]
+#[derive(Clone, Copy)]
 pub struct HostChecked {
     pub refusal: u32,
     pub place: u32,
@@ -17,7 +19,7 @@ pub struct HostChecked {
 
 // A double, 0 where it is refused.
 #[repr(C)]
-#[derive(Drop)]
+#[derive(Clone, Copy)]
 pub struct HostReading {
     pub refusal: u32,
     pub place: u32,

@@ -1,4 +1,6 @@
 // Scene texts and answers for hosts, and the ratio of a ledger. hosts/c/nonseq.h declares the calls for C.
+#![tactic(auto)]
+
 ghost use Rattle.std.specs.Prelude.{◌≡◌, ◌≤◌, length};
 ghost use Rattle.error.specs.Refusals.{as_checked};
 ghost use Rattle.memory.specs.Memory.{text_pixels};
@@ -17,7 +19,7 @@ use report::{Ledger, NonSeqTraceReport};
 
 // How many lines of values the blocks have.
 #[repr(C)]
-#[derive(Drop)]
+#[derive(Clone, Copy)]
 pub struct HostScene {
     pub refusal: u32,
     pub place: u32,
@@ -28,7 +30,7 @@ pub struct HostScene {
 
 // The length of a text: as long as it is written, or as long as the buffer would have to be; 0 where refused.
 #[repr(C)]
-#[derive(Drop)]
+#[derive(Clone, Copy)]
 pub struct HostText {
     pub refusal: u32,
     pub place: u32,

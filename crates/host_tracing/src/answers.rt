@@ -10,7 +10,7 @@ use trace::Traced;
 
 // The rules of a tracing; the ambient medium by document 01's number, with its coefficients from a on.
 #[repr(C)]
-#[derive(Drop)]
+#[derive(Clone, Copy)]
 pub struct HostConfig {
     pub min_power_threshold: f64,
     pub max_bounces: u32,
@@ -25,7 +25,7 @@ pub struct HostConfig {
 
 // Refusal 0 means that none was given.
 #[repr(C)]
-#[derive(Drop)]
+#[derive(Clone, Copy)]
 pub struct HostTraced {
     pub refusal: u32,
     pub place: u32,

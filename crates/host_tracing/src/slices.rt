@@ -17,7 +17,7 @@ use scene::SolidNo;
 
 // A ray as a host gives it: `media_count` of the eight media count.
 #[repr(C)]
-#[derive(Drop)]
+#[derive(Clone, Copy)]
 pub struct GivenRay {
     pub origin: Vec3,
     pub direction: Vec3,

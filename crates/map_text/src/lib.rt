@@ -1,5 +1,7 @@
 // A scene's tables of numbers, as the scene text has them, traced into a memory with room for 4,096 pixels
 // and 1,024 hits, and the answer as text (document 01, `straymap`).
+#![tactic(auto)]
+
 mod answering;
 mod mapping;
 mod parts;

@@ -1,11 +1,13 @@
 // Media and finishes (document 01, module 4), after material.rs.
+#![tactic(auto)]
+
 ghost use Rattle.std.specs.Prelude.{◌≡◌};
 ghost use Rattle.material.specs.Media.{numbered_finish_of, as_finish, or_clear_of, numbered_medium_of, as_medium, or_air_of, square_um_of, sellmeier_term_of, sellmeier_of, schott_of, constant_of, root_of_square_of, index_at_of, refractive_index_of, as_index};
 
 use error::NonSeqError;
 
 // A medium's rule for its refractive index.
-#[derive(Drop)]
+#[derive(Clone, Copy)]
 pub enum OpticalMedium {
     Air,
     Constant {
@@ -30,7 +32,7 @@ pub enum OpticalMedium {
 }
 
 // What happens to light at a solid's surface.
-#[derive(Drop)]
+#[derive(Clone, Copy)]
 pub enum SurfaceFinish {
     Specular,
     Mirror { reflectance: f64 },
@@ -38,19 +40,19 @@ pub enum SurfaceFinish {
 }
 
 // What a number means.
-#[derive(Drop)]
+#[derive(Clone, Copy)]
 pub enum NumberedMedium {
     Medium(OpticalMedium),
     Nothing,
 }
 
-#[derive(Drop)]
+#[derive(Clone, Copy)]
 pub enum NumberedFinish {
     Finish(SurfaceFinish),
     Nothing,
 }
 
-#[derive(Drop)]
+#[derive(Clone, Copy)]
 pub enum RefractiveIndex {
     Index(f64),
     Refused(NonSeqError),

@@ -1,5 +1,7 @@
 // The media that a ray is inside of (document 01, "How a ray lives"), after trace.rs's medium_stack: the
 // numbers of solids, the newest last.
+#![tactic(auto)]
+
 ghost use Rattle.std.specs.Prelude.{◌≡◌, ◌-◌, ◌≤◌, ◌<◌};
 ghost use Rattle.media.specs.Media.{newest_of, entered_of, last_place_of, move_down_of, left_of, as_medium, as_place, max_media};
 
@@ -9,19 +11,19 @@ use scene::SolidNo;
 pub const MAX_MEDIA: usize = 24;
 
 // The first `depth` of the places are used.
-#[derive(Drop)]
+#[derive(Clone, Copy)]
 pub struct Media {
     pub list: [SolidNo; MAX_MEDIA],
     pub depth: u32,
 }
 
-#[derive(Drop)]
+#[derive(Clone, Copy)]
 pub enum Newest {
     In(SolidNo),
     Outside,
 }
 
-#[derive(Drop)]
+#[derive(Clone, Copy)]
 pub enum Place {
     At(usize),
     Nowhere,

@@ -1,6 +1,8 @@
 // The memory that maps are made of (document 01, "Maps and lists"), after detector.rs: the detectors'
 // records, the flux and the hits of all pixels, and the hit list, lent by the caller. Filters are in
 // `filter`.
+#![tactic(auto)]
+
 mod hits;
 mod recording;
 

@@ -11,7 +11,7 @@ use detectors::{Detectors, Found, MAX_DETECTORS, Placed, Spot};
 use error::{Check, NonSeqError};
 
 // The refusal or none, and what goes on: the detectors' records and the number of hits used.
-#[derive(Drop)]
+#[derive(Clone, Copy)]
 pub struct Recorded {
     pub check: Check,
     pub detectors: Detectors,

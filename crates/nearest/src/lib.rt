@@ -1,5 +1,7 @@
 // Which of several distances along a ray is the nearest: the rule that solids and detectors share
 // (document 01, "How a ray lives").
+#![tactic(auto)]
+
 ghost use Rattle.std.specs.Prelude.{◌≡◌};
 ghost use Rattle.nearest.specs.Nearest.{is_nearer_of};
 

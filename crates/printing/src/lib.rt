@@ -1,5 +1,7 @@
 // Numbers and bytes written into a lent buffer, one after another (document 01, `straymap`: doubles "printed
 // with trailing zeros dropped, at least one digit, NaN as `7ff8`", other numbers decimal).
+#![tactic(auto)]
+
 mod rows;
 
 ghost use Rattle.std.specs.Prelude.{◌≡◌, [], ◌∷◌, ◌<◌};

@@ -1,5 +1,7 @@
 // Vectors, rays and 4 by 4 matrices of doubles (document 01, module 3), by value. Sums go left to
 // right and never fuse a product.
+#![tactic(auto)]
+
 mod matrix;
 mod vector;
 
@@ -12,7 +14,7 @@ pub use vector::Vec3;
 
 // A ray: where it starts, where it goes, its wavelength in nanometres and its power in watts.
 #[repr(C)]
-#[derive(Drop)]
+#[derive(Clone, Copy)]
 pub struct Ray {
     pub origin: Vec3,
     pub direction: Vec3,
@@ -20,7 +22,7 @@ pub struct Ray {
     pub energy: f64,
 }
 
-#[derive(Drop)]
+#[derive(Clone, Copy)]
 pub enum NewRay {
     Made(Ray),
     Refused(NonSeqError),

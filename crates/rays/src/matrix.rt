@@ -5,7 +5,7 @@ ghost use Rattle.rays.specs.Matrices.{row_times_of, times_of, transpose_of, tran
 
 use crate::Vec3;
 
-#[derive(Drop)]
+#[derive(Clone, Copy)]
 pub struct Row {
     pub a: f64,
     pub b: f64,
@@ -13,7 +13,7 @@ pub struct Row {
     pub d: f64,
 }
 
-#[derive(Drop)]
+#[derive(Clone, Copy)]
 pub struct Mat4 {
     pub r0: Row,
     pub r1: Row,

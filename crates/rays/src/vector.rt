@@ -3,7 +3,7 @@ ghost use Rattle.std.specs.Prelude.{◌≡◌, ◌&&◌};
 ghost use Rattle.rays.specs.Vectors.{dot_of, cross_of, plus_of, minus_of, scale_of, divide_of, negate_of, norm_of, has_direction_of, normalize_of, is_finite_vec_of, is_finite_with_of};
 
 #[repr(C)]
-#[derive(Drop)]
+#[derive(Clone, Copy)]
 pub struct Vec3 {
     pub x: f64,
     pub y: f64,

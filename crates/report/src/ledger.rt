@@ -6,7 +6,7 @@ ghost use Rattle.report.specs.Report.{detect_of, absorb_of, escape_of, lose_of, 
 use step::{End, Meeting};
 
 #[repr(C)]
-#[derive(Drop)]
+#[derive(Clone, Copy)]
 pub struct Ledger {
     pub launched_flux_watts: f64,
     pub detected_flux_watts: f64,

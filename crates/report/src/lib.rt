@@ -1,4 +1,6 @@
 // The ledger and the tallies of a tracing (document 01, "How a ray lives"), after trace.rs's report.
+#![tactic(auto)]
+
 mod ledger;
 mod tallies;
 
@@ -13,7 +15,7 @@ use tallies::more_if;
 
 // What a tracing adds up to.
 #[repr(C)]
-#[derive(Drop)]
+#[derive(Clone, Copy)]
 pub struct NonSeqTraceReport {
     pub ledger: Ledger,
     pub total_rays_traced: u32,

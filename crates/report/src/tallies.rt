@@ -6,7 +6,7 @@ ghost use Rattle.report.specs.Report.{more_if_of, add_dim_of, add_spent_of, add_
 use step::{End, Meeting, more};
 
 #[repr(C)]
-#[derive(Drop)]
+#[derive(Clone, Copy)]
 pub struct Tallies {
     pub made: u32,
     pub dim: u32,

@@ -1,5 +1,7 @@
 // A run that can be taken up again (document 01, "How a ray lives"): steps until no ray is left, or as
 // many as are asked for, each hit recorded as it comes.
+#![tactic(auto)]
+
 mod settling;
 mod stack;
 
@@ -18,7 +20,7 @@ pub use stack::{Stack, Taken};
 use step::NonSeqTraceConfig;
 
 // Where a run stands: the work stack, how many given rays are left, what it has added up.
-#[derive(Drop)]
+#[derive(Clone, Copy)]
 pub struct Progress {
     pub stack: Stack,
     pub left: u32,
@@ -26,7 +28,7 @@ pub struct Progress {
 }
 
 // The refusal or none, and what goes on.
-#[derive(Drop)]
+#[derive(Clone, Copy)]
 pub struct Advanced {
     pub check: Check,
     pub progress: Progress,

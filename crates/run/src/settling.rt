@@ -10,7 +10,7 @@ use report::NonSeqTraceReport;
 use step::End;
 
 // The hit that a step brings, if any.
-#[derive(Drop)]
+#[derive(Clone, Copy)]
 pub enum Catch {
     Hit(DetectorHit),
     Nothing,

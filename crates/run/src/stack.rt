@@ -11,14 +11,14 @@ const MAX_STACK: usize = 17;
 
 const PAIR_ROOM: usize = MAX_STACK - 1;
 
-#[derive(Drop)]
+#[derive(Clone, Copy)]
 pub struct Stack {
     pub rays: [ActiveRay; MAX_STACK],
     pub len: usize,
 }
 
 // The newest ray, and how many given rays are left.
-#[derive(Drop)]
+#[derive(Clone, Copy)]
 pub struct Taken {
     pub ray: ActiveRay,
     pub left: u32,

@@ -13,20 +13,20 @@ use error::{Check, NonSeqError};
 use rays::Ray;
 
 // The nearest solid or none, or the refusal and its place.
-#[derive(Drop)]
+#[derive(Clone, Copy)]
 pub enum Closest {
     Found(Intersection),
     Refused { error: NonSeqError, place: u32 },
 }
 
 // An approach, and the place of the solid.
-#[derive(Drop)]
+#[derive(Clone, Copy)]
 pub struct Candidate {
     pub place: u32,
     pub approach: Approach,
 }
 
-#[derive(Drop)]
+#[derive(Clone, Copy)]
 pub enum Nearest {
     At(Candidate),
     Nothing,

@@ -1,5 +1,7 @@
 // Solids in the world (document 01, module 6), after scene.rs: where a ray meets one, and the nearest
 // of a list.
+#![tactic(auto)]
+
 mod closest;
 mod object;
 mod solids;
@@ -19,11 +21,11 @@ pub const MAX_SOLIDS: u32 = 32;
 
 // The number of a solid: its place in the list, from 0.
 #[repr(C)]
-#[derive(Drop)]
+#[derive(Clone, Copy)]
 pub struct SolidNo(pub u32);
 
 // What a ray can meet of a solid.
-#[derive(Drop)]
+#[derive(Clone, Copy)]
 pub struct NonSeqObject {
     pub id: SolidNo,
     pub geometry: PrimitiveGeometry,
@@ -32,7 +34,7 @@ pub struct NonSeqObject {
 }
 
 // Where a ray meets a solid, in the world.
-#[derive(Drop)]
+#[derive(Clone, Copy)]
 pub struct NonSeqHit {
     pub t: f64,
     pub point: Vec3,
@@ -45,7 +47,7 @@ pub struct NonSeqHit {
     pub entering: bool,
 }
 
-#[derive(Drop)]
+#[derive(Clone, Copy)]
 pub enum Intersection {
     Hit(NonSeqHit),
     Miss,

@@ -7,14 +7,14 @@ use geometry::{LocalContact, LocalHit, UnitVector};
 use rays::{Mat4, Ray, Vec3};
 
 // Where a ray meets a solid, with the hit in the solid's own coordinates.
-#[derive(Drop)]
+#[derive(Clone, Copy)]
 pub struct Approach {
     pub t: f64,
     pub point: Vec3,
     pub local: LocalHit,
 }
 
-#[derive(Drop)]
+#[derive(Clone, Copy)]
 pub enum Approached {
     At(Approach),
     Miss,

@@ -20,7 +20,7 @@ const MATRIX_AT: usize = 10;
 
 const INVERSE_AT: usize = 26;
 
-#[derive(Drop)]
+#[derive(Clone, Copy)]
 pub enum Listed {
     Object(NonSeqObject),
     Nothing,

@@ -9,7 +9,7 @@ use crate::rows::read_row;
 
 // Where the reading of a block stands: whether it goes on, whether all was well formed so far, where the next line starts and its number
 // (the first bad or missing one's where not ok), how many lines of values there were, and the places that come next.
-#[derive(Drop)]
+#[derive(Clone, Copy)]
 pub struct Found {
     pub more: bool,
     pub ok: bool,

@@ -12,7 +12,7 @@ use fields::{ReadBits, ReadWhole};
 pub const NO_FILTER: u32 = 5;
 
 // Whether a cell is well formed, and the places that come next.
-#[derive(Drop)]
+#[derive(Clone, Copy)]
 pub struct Cells {
     pub ok: bool,
     pub nd: usize,

@@ -1,4 +1,6 @@
 // The scene text of document 01, `straymap`: four blocks of lines, read into the caller's slices.
+#![tactic(auto)]
+
 mod blocks;
 mod cells;
 mod media;

@@ -69,7 +69,7 @@ fn number_or_zero(f: &[u8]) -> u32
 }
 
 // A medium, and where the next one starts.
-#[derive(Drop)]
+#[derive(Clone, Copy)]
 pub struct Medium {
     pub value: u32,
     pub at: usize,

@@ -6,7 +6,7 @@ ghost use Rattle.scene_text.specs.Steps.{table, put, line_from};
 use crate::cells::read_cell;
 
 // Whether a line is well formed so far, where its next cell starts, and the places that come next.
-#[derive(Drop)]
+#[derive(Clone, Copy)]
 pub struct Row {
     pub ok: bool,
     pub at: usize,

@@ -14,7 +14,7 @@ use error::{Check, NonSeqError};
 pub const MAX_TEXT: usize = 65536;
 
 // What reading a scene text answers: whether it was refused, and how many lines of values the blocks have.
-#[derive(Drop)]
+#[derive(Clone, Copy)]
 pub struct SceneText {
     pub check: Check,
     pub solids: u32,
@@ -23,7 +23,7 @@ pub struct SceneText {
 }
 
 // Whether a text is well formed, else its first bad or missing line, and how many lines of values the blocks have.
-#[derive(Drop)]
+#[derive(Clone, Copy)]
 pub struct Tallied {
     pub ok: bool,
     pub line: u32,

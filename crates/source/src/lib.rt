@@ -1,21 +1,23 @@
 // The random numbers of the sources (document 01, module 2), after source.rs: Vigna's xorshift64*,
 // with the state passed and handed back by value.
+#![tactic(auto)]
+
 ghost use Rattle.std.specs.Prelude.{◌≡◌, ◌*◌, ◌%◌, ◌^◌};
 ghost use Rattle.source.specs.Random.{new_of, next_u64_of, next_f64_of};
 
-#[derive(Drop)]
+#[derive(Clone, Copy)]
 pub struct Rng64 {
     pub state: u64,
 }
 
 // A drawn number, and the generator to draw the next one from.
-#[derive(Drop)]
+#[derive(Clone, Copy)]
 pub struct DrawnU64 {
     pub rng: Rng64,
     pub value: u64,
 }
 
-#[derive(Drop)]
+#[derive(Clone, Copy)]
 pub struct DrawnF64 {
     pub rng: Rng64,
     pub value: f64,

@@ -7,7 +7,7 @@ ghost use Rattle.step.specs.Steps.{nearer_of, first_ahead_of, as_ahead};
 use faces::{Sight, Sighting};
 use scene::{Intersection, NonSeqHit};
 
-#[derive(Drop)]
+#[derive(Clone, Copy)]
 pub enum Ahead {
     Detector(Sight),
     Solid(NonSeqHit),

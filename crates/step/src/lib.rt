@@ -1,5 +1,7 @@
 // One step of a ray's life (document 01, "How a ray lives"), after trace.rs: what becomes of the newest
 // ray, and which rays come of it. It sees no memory.
+#![tactic(auto)]
+
 mod ahead;
 mod clear;
 mod mirror;
@@ -18,7 +20,7 @@ use rays::Ray;
 use scene::NonSeqHit;
 
 // By which rules rays are traced.
-#[derive(Drop)]
+#[derive(Clone, Copy)]
 pub struct NonSeqTraceConfig {
     pub max_bounces: u32,
     pub min_power_threshold: f64,
@@ -26,7 +28,7 @@ pub struct NonSeqTraceConfig {
 }
 
 // A ray on its way, with the solids that it is inside of.
-#[derive(Drop)]
+#[derive(Clone, Copy)]
 pub struct ActiveRay {
     pub ray: Ray,
     pub bounce_count: u32,
@@ -36,7 +38,7 @@ pub struct ActiveRay {
 }
 
 // What a solid makes of a ray's power.
-#[derive(Drop)]
+#[derive(Clone, Copy)]
 pub enum Meeting {
     // an absorber stops this power
     Stopped(f64),
@@ -54,7 +56,7 @@ pub enum Meeting {
 }
 
 // What becomes of a ray.
-#[derive(Drop)]
+#[derive(Clone, Copy)]
 pub enum End {
     // its power is at most the threshold
     Dim,
@@ -70,7 +72,7 @@ pub enum End {
 
 // One step: what becomes of the ray, and the rays that come of it, each with a flag that says whether
 // it is made.
-#[derive(Drop)]
+#[derive(Clone, Copy)]
 pub struct Step {
     pub end: End,
     pub first: bool,

@@ -1,4 +1,5 @@
 // straymap: a scene text on standard input, its answer on standard output (document 01).
+#![tactic(auto)]
 
 // One byte more than a text may have: with it a text is known to be too long, and no more is read. Whoever goes on
 // writing then writes to a closed pipe.

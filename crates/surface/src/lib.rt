@@ -1,5 +1,7 @@
 // What a surface makes of a ray (document 01, module 8), after trace.rs: reflection and refraction at a
 // clear one, reflection at a mirror.
+#![tactic(auto)]
+
 ghost use Rattle.std.specs.Prelude.{◌≡◌};
 ghost use Rattle.rays.specs.Rays.{as_ray};
 ghost use Rattle.surface.specs.Fresnel.{leaving_of, cosine_of, radicand_of, reflected_direction_of, refracted_direction_of, amplitude_of, reflectance_of, total_of, both_of, refract_of, compute_snell_fresnel_interaction_of, as_interaction, mirrored_power_of, mirrored_of};
@@ -8,7 +10,7 @@ use error::NonSeqError;
 use rays::{NewRay, Ray, Vec3};
 use scene::NonSeqHit;
 
-#[derive(Drop)]
+#[derive(Clone, Copy)]
 pub enum FresnelInteraction {
     // total reflection: no second ray
     Total(Ray),

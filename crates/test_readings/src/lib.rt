@@ -1,4 +1,6 @@
 // Lines of scripts that change nothing but their answer: calls on detectors, and what stands where.
+#![tactic(auto)]
+
 use detector::Detector2D;
 use host_detectors::{HostCrossing, HostPart};
 use host_numbers::{HostChecked, HostReading};

@@ -1,6 +1,8 @@
 // Runs the scripts of data/ (data/README.md): lists of calls on one memory, each with what it is to answer. Prints
 // every line that differs or can't be run, with its file, and at the end how many scripts and lines there were. Before
 // that it runs data/damaged, of which every kind of damage must be told.
+#![tactic(auto)]
+
 mod judge;
 mod script;
 

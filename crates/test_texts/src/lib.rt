@@ -1,4 +1,6 @@
 // Lines of scripts on texts: scene texts read, answers written, and the ratio of a ledger.
+#![tactic(auto)]
+
 use given_rays::{RAY_DOUBLES, RAY_ROOM_DOUBLES, RAY_ROOM_WHOLES, RAY_WHOLES};
 use host_texts::{HostScene, HostText};
 use report::{Ledger, NonSeqTraceReport, Tallies};

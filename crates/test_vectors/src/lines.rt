@@ -16,7 +16,7 @@ use rays::{Ray, Vec3};
 use source::Rng64;
 
 // What a file's lines say.
-#[derive(Drop)]
+#[derive(Clone, Copy)]
 pub enum Kind {
     // x = the root of x
     Root,

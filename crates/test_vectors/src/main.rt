@@ -1,5 +1,7 @@
 // Runs the vectors in data/ and prints how many lines of each file agree. The answers in the files are the Rust's
 // (oracle/), but for vigna.txt, whose are oracle/vigna.c's, and for shape 5, which the Rust does not have.
+#![tactic(auto)]
+
 mod detector_lines;
 mod lines;
 mod parts;

@@ -5,7 +5,7 @@ use crate::{files, lists, world};
 use fields::{ReadBits, ReadWhole};
 
 // How a line went.
-#[derive(Drop)]
+#[derive(Clone, Copy)]
 pub enum Ran {
     Unknown,
     Malformed,

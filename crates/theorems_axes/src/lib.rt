@@ -1,1 +1,2 @@
 // Theorems about a detector's axes.
+#![tactic(auto)]

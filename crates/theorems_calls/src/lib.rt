@@ -1,1 +1,2 @@
 // Theorems about split batches and lists of calls.
+#![tactic(auto)]

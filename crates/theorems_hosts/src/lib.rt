@@ -1,1 +1,2 @@
 // Theorems about lists of the calls that hosts make.
+#![tactic(auto)]

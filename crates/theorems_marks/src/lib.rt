@@ -1,1 +1,2 @@
 // Theorems about tracing.
+#![tactic(auto)]

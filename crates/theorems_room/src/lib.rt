@@ -1,1 +1,2 @@
 // Theorems about the length of an answer.
+#![tactic(auto)]

@@ -1,4 +1,6 @@
 // Tracing a batch of rays (document 01, module 8), after trace.rs: all checks, then the run.
+#![tactic(auto)]
+
 mod checks;
 
 ghost use Rattle.std.specs.Prelude.{◌≡◌};
@@ -19,7 +21,7 @@ const ALL_STEPS: u32 = 4294967295;
 
 // The refusal or none, the ledger and tallies, and what goes on: the detectors' records and the number
 // of hits used.
-#[derive(Drop)]
+#[derive(Clone, Copy)]
 pub struct Traced {
     pub check: Check,
     pub report: NonSeqTraceReport,

@@ -1,0 +1,14 @@
+use borrow.Author.Rules.{rules}
+use mathlib.Core.Path.{◌≡◌, refl}
+use Prim.Native.Nat.{◌+◌, ◌-◌}
+use lib.ListN.{length, drop}
+use Rattle.fields.specs.Split.{before}
+use Rattle.fields.proofs.Parts.{end_here, end_again, end_end}
+use Rattle.fields.specs.Split.{end_at_of}
+use Rattle.fields.proofs.split.end_at.Given as goal
+
+abbrev pub invariant-loop-i : goal.invariant-loop-i
+invariant-loop-i l = l.i + length (before l.b (drop l.i l.s)) ≡ l.at + length (before l.b (drop l.at l.s))
+
+abbrev pub decreases-loop-i : goal.decreases-loop-i
+decreases-loop-i l = length l.s - l.i

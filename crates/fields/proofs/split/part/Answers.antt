@@ -1,0 +1,15 @@
+use borrow.Author.Rules.{rules}
+use mathlib.Core.Path.{◌≡◌, ◌∙◌}
+use mathlib.Core.List.{[]}
+use Prim.Native.Nat.{◌-◌, ◌≤◌}
+use lib.ListN.{get_or}
+use Rattle.fields.specs.Split.{parts_at}
+use Rattle.fields.proofs.Parts.{part_start, part_again, part_end}
+use Rattle.fields.specs.Split.{split}
+use Rattle.fields.proofs.split.part.Goals as goal
+
+pub loop-j-init : goal.loop-j-init
+loop-j-init c = (search rules, part_start _ _ _ [])
+
+pub loop-j-preserved : goal.loop-j-preserved
+loop-j-preserved c = (search rules, part_again _ _ _ _ _ _ _ c.loop-j-test.true c.after-at.ensures c.loop-j.invariant.1)

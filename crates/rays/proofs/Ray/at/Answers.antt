@@ -1,0 +1,7 @@
+use Rattle.rays.specs.Rays.{at_of}
+use borrow.Author.Rules.{rules}
+use Rattle.rays.proofs.Ray.at.Goals as goal
+
+pub returns : goal.returns
+unfolding at_of
+returns c = simp (← c.scale.ensures, ← c.plus.ensures)

@@ -1,0 +1,7 @@
+use Rattle.rays.specs.Matrices.{transform_point_of}
+use borrow.Author.Rules.{rules}
+use Rattle.rays.proofs.matrix.Mat4.transform_point.Goals as goal
+
+pub returns : goal.returns
+unfolding transform_point_of
+returns c = simp (← c.times.ensures)
