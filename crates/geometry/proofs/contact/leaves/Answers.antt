@@ -1,0 +1,7 @@
+use Rattle.geometry.specs.Behind.{leaves_of}
+use borrow.Author.Rules.{rules}
+use Rattle.geometry.proofs.contact.leaves.Goals as goal
+
+pub returns : goal.returns
+unfolding leaves_of
+returns c = simp (← c.recedes.ensures, ← c.exceeds.ensures)

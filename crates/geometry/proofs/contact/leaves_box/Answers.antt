@@ -1,0 +1,7 @@
+use Rattle.geometry.specs.Behind.{is_behind_of}
+use borrow.Author.Rules.{rules}
+use Rattle.geometry.proofs.contact.leaves_box.Goals as goal
+
+pub returns : goal.returns
+unfolding is_behind_of
+returns c = simp (← c.leaves-x.ensures, ← c.leaves-y.ensures, ← c.leaves-z.ensures)

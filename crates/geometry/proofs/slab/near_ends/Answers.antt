@@ -1,0 +1,7 @@
+use Rattle.geometry.specs.Spans.{near_ends_of}
+use borrow.Author.Rules.{rules}
+use Rattle.geometry.proofs.slab.near_ends.Goals as goal
+
+pub returns : goal.returns
+unfolding near_ends_of
+returns c = simp (← c.infinity.ensures, ← c.later-one.ensures, ← c.later-two.ensures, ← c.later-all.ensures)

@@ -1,0 +1,7 @@
+use Rattle.geometry.specs.Transforms.{world_normal_of}
+use borrow.Author.Rules.{rules}
+use Rattle.geometry.proofs.transform.Transform3D.transform_normal.Goals as goal
+
+pub returns : goal.returns
+unfolding world_normal_of
+returns c = simp (← c.transform_normal.ensures, ← c.unit.ensures)

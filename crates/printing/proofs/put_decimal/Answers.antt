@@ -1,0 +1,10 @@
+use mathlib.Core.Path.{◌≡◌, ◌∙◌}
+use lib.ListN.{take}
+use borrow.Author.Rules.{rules}
+use Rattle.printing.specs.Printing.{decimal_text}
+use Rattle.printing.proofs.Back.{digits_are, few_digits}
+use Rattle.printing.proofs.put_decimal.Goals as goal
+
+pub returns : goal.returns
+returns c = let e : take c.decimal-k.result c.decimal-k.new.1.0 ≡ decimal_text 20 n = c.decimal-k.ensures.1.1 ∙ digits_are 20 _ c.args.n (few_digits _ c.args.n c.ranges.n.fits c.decimal-k.ensures.1.0) c.decimal-k.ensures.1.0 in
+    rw e at c.put_all.ensures

@@ -1,0 +1,18 @@
+use Prim.Native.Nat.{◌≤◌, ◌-◌}
+use mathlib.Core.Path.{◌≡◌}
+use borrow.Author.Rules.{rules}
+use Rattle.nearest.specs.Nearest.{nearest_from, nearest_among}
+use Rattle.nearest.proofs.Loops.{nearest_start, nearest_again, nearest_end}
+use Rattle.scene.specs.declared.closest.Candidate.{Candidate}
+use Rattle.scene.specs.Closest.{candidate_distance, candidates_in, as_candidate}
+use Rattle.scene.specs.Solids.{object_at_of}
+use Rattle.scene.proofs.closest.nearest_candidate.Goals as goal
+
+pub loop-i-init : goal.loop-i-init
+loop-i-init c = (search rules, nearest_start _ _ _ _)
+
+pub loop-i-preserved : goal.loop-i-preserved
+loop-i-preserved c = (search rules, nearest_again _ _ _ _ _ _ _ _ c.loop-i-test.true c.nearer_candidate-best.ensures c.loop-i.invariant.1)
+
+pub returns : goal.returns
+returns c = nearest_end _ _ _ _ c.loop-i.i _ _ c.loop-i-test.false c.loop-i.invariant.1

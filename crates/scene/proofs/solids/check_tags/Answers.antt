@@ -1,0 +1,16 @@
+use Prim.Native.Nat.{◌≤◌, ◌-◌}
+use native.Mathlib.Nat.{sub-zero}
+use mathlib.Core.Path.{◌≡◌}
+use borrow.Author.Rules.{rules}
+use Rattle.scene.proofs.Checks.{tags_again, tags_refused, tags_end}
+use Rattle.scene.specs.Solids.{check_tags_of}
+use Rattle.scene.proofs.solids.check_tags.Goals as goal
+
+pub loop-i-preserved : goal.loop-i-preserved
+loop-i-preserved c = (search rules, tags_again _ _ _ _ _ c.loop-i-test.true c.tags_fit.ensures c.if-tags_fit.true c.loop-i.invariant.1)
+
+pub returns-else-tags_fit : goal.returns-else-tags_fit
+returns-else-tags_fit c = tags_refused _ _ _ _ _ c.loop-i-test.true c.tags_fit.ensures c.if-tags_fit.false c.loop-i.invariant.1
+
+pub returns : goal.returns
+returns c = tags_end _ _ c.loop-i.i _ c.loop-i-test.false c.loop-i.invariant.1
