@@ -33,8 +33,7 @@ pub struct BenchHit {
 }
 
 // The sum of the roots: no root waits for another.
-#[unsafe(no_mangle)]
-pub extern "C" fn bench_root_sum(xs: &[f64]) -> f64
+pub fn bench_root_sum(xs: &[f64]) -> f64
     ensures { result ≡ bench_root_sum_of (of_bits binary64 0) xs.now }
 {
     let mut t = 0.0;
@@ -47,8 +46,7 @@ pub extern "C" fn bench_root_sum(xs: &[f64]) -> f64
 }
 
 // Each root waits for the one before.
-#[unsafe(no_mangle)]
-pub extern "C" fn bench_root_chain(xs: &[f64]) -> f64
+pub fn bench_root_chain(xs: &[f64]) -> f64
     ensures { result ≡ bench_root_chain_of (of_bits binary64 0) xs.now }
 {
     let mut t = 0.0;
@@ -123,8 +121,7 @@ fn bench_hit(h: Intersection) -> BenchHit
 }
 
 // The nearest solid along the ray from (ox, oy, oz) along (dx, dy, dz).
-#[unsafe(no_mangle)]
-pub extern "C" fn bench_closest(
+pub fn bench_closest(
     solid_values: &[f64],
     solid_tags: &[u32],
     count: u32,

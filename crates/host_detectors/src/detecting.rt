@@ -70,8 +70,7 @@ fn refused_crossing(refusal: u32, place: u32) -> HostCrossing
 }
 
 // 5 to 8 and 18.
-#[unsafe(no_mangle)]
-pub extern "C" fn nonseq_new_detector(
+pub fn nonseq_new_detector(
     center: Vec3,
     normal: Vec3,
     up: Vec3,
@@ -98,24 +97,21 @@ pub extern "C" fn nonseq_new_detector(
 }
 
 // 5 to 8 and 18 of one detector.
-#[unsafe(no_mangle)]
-pub extern "C" fn nonseq_check_detector(detector: Detector2D) -> HostChecked
+pub fn nonseq_check_detector(detector: Detector2D) -> HostChecked
     ensures { result ≡ checked_of (check_detector_of detector 0) }
 {
     host_numbers::checked(detector.check(0))
 }
 
 // 3, then 5 to 8 and 18 of each.
-#[unsafe(no_mangle)]
-pub extern "C" fn nonseq_check_detectors(detectors: Detectors) -> HostChecked
+pub fn nonseq_check_detectors(detectors: Detectors) -> HostChecked
     ensures { result ≡ checked_of (check_detectors_of detectors) }
 {
     host_numbers::checked(detectors.check())
 }
 
 // Where a ray crosses a detector: 5 to 8 and 18, then 10.
-#[unsafe(no_mangle)]
-pub extern "C" fn nonseq_intersect_ray(detector: Detector2D, ray: Ray) -> HostCrossing
+pub fn nonseq_intersect_ray(detector: Detector2D, ray: Ray) -> HostCrossing
     ensures { result ≡ crossing_from (intersect_ray_of detector ray) }
 {
     match detector.intersect_ray(ray) {
@@ -142,8 +138,7 @@ pub extern "C" fn nonseq_intersect_ray(detector: Detector2D, ray: Ray) -> HostCr
 }
 
 // The area of a pixel in square metres: 5 to 8 and 18.
-#[unsafe(no_mangle)]
-pub extern "C" fn nonseq_pixel_area_m2(detector: Detector2D) -> HostReading
+pub fn nonseq_pixel_area_m2(detector: Detector2D) -> HostReading
     ensures { result ≡ read_of (pixel_area_m2_of detector) }
 {
     host_numbers::read(detector.pixel_area_m2())

@@ -44,8 +44,7 @@ pub struct HostPart {
 }
 
 // 3, 5 to 8 and 18, 4 and 9 leave all as it is, and so do 12 and 13.
-#[unsafe(no_mangle)]
-pub extern "C" fn nonseq_record_hit_classified(
+pub fn nonseq_record_hit_classified(
     detectors: Detectors,
     flux: &mut [f64],
     hits: &mut [u32],
@@ -72,8 +71,7 @@ pub extern "C" fn nonseq_record_hit_classified(
 // The work map zeroed and refilled with the hits of the asked detector that the filter lets through; All (0) leaves
 // it: its map is the stored one's part (`nonseq_pixels_of`). A filter over 4 is refused by 17, then 3, 5 to 8 and 18,
 // 4, 9; a refusal leaves the work map.
-#[unsafe(no_mangle)]
-pub extern "C" fn nonseq_refilter(
+pub fn nonseq_refilter(
     detectors: Detectors,
     asked: u32,
     filter: u32,
@@ -120,8 +118,7 @@ pub extern "C" fn nonseq_refilter(
 }
 
 // Where the asked detector's pixels stand among those of all: 3, 5 to 8 and 18, 4.
-#[unsafe(no_mangle)]
-pub extern "C" fn nonseq_pixels_of(detectors: Detectors, asked: u32) -> HostPart
+pub fn nonseq_pixels_of(detectors: Detectors, asked: u32) -> HostPart
     ensures { result ≡ part_from (find_of detectors (record { 0 = asked })) }
 {
     match detectors.find(DetectorNo(asked)) {
@@ -144,8 +141,7 @@ pub extern "C" fn nonseq_pixels_of(detectors: Detectors, asked: u32) -> HostPart
 }
 
 // The irradiance of a pixel, in watts a square metre; 0 outside the resolution. 3, 5 to 8 and 18, 4, 9.
-#[unsafe(no_mangle)]
-pub extern "C" fn nonseq_irradiance_at(
+pub fn nonseq_irradiance_at(
     detectors: Detectors,
     asked: u32,
     flux: &[f64],

@@ -39,8 +39,7 @@ pub struct HostText {
 
 // A scene text into eight slices, each of the text's numbers in their order; what has no place is counted and read
 // past. 17 with the line's number leaves them as they were.
-#[unsafe(no_mangle)]
-pub extern "C" fn nonseq_read_scene(
+pub fn nonseq_read_scene(
     text: &[u8],
     run_values: &mut [f64],
     run_tags: &mut [u32],
@@ -204,8 +203,7 @@ fn put_checked(
 // The answer of a tracing as text, whole, or nothing where it does not fit: its length, at most 131,072, is told
 // either way. A filter over 4 (17), detectors (3, 5 to 8 and 18), slices that are not theirs or more than 4,096 pixels
 // (9) are refused, and the buffer is left.
-#[unsafe(no_mangle)]
-pub extern "C" fn nonseq_put_answer(
+pub fn nonseq_put_answer(
     buf: &mut [u8],
     report: NonSeqTraceReport,
     detectors: Detectors,
@@ -234,8 +232,7 @@ pub extern "C" fn nonseq_put_answer(
 }
 
 // A refusal as text, whole, or nothing where it does not fit. Answers its length.
-#[unsafe(no_mangle)]
-pub extern "C" fn nonseq_put_refusal(buf: &mut [u8], refusal: u32, place: u32) -> usize
+pub fn nonseq_put_refusal(buf: &mut [u8], refusal: u32, place: u32) -> usize
     ensures { out buf.new result ≡ put_whole_of buf.old (refusal_text refusal place) }
 {
     let mut t = [0u8; 64];
@@ -245,8 +242,7 @@ pub extern "C" fn nonseq_put_refusal(buf: &mut [u8], refusal: u32, place: u32) -
 
 // The answer to a scene text, as straymap prints it, whole, or nothing where it does not fit. Answers its length, at
 // most 131,072.
-#[unsafe(no_mangle)]
-pub extern "C" fn nonseq_stray_map(buf: &mut [u8], text: &[u8]) -> usize
+pub fn nonseq_stray_map(buf: &mut [u8], text: &[u8]) -> usize
     ensures { out buf.new result ≡ put_whole_of buf.old (stray_map_text text.now) }
 {
     let mut t = [0u8; map_text::MAX_ANSWER];
@@ -255,8 +251,7 @@ pub extern "C" fn nonseq_stray_map(buf: &mut [u8], text: &[u8]) -> usize
 }
 
 // Detected, absorbed and escaped power over launched, without lost; 1 where none was launched.
-#[unsafe(no_mangle)]
-pub extern "C" fn nonseq_energy_conservation_ratio(ledger: Ledger) -> f64
+pub fn nonseq_energy_conservation_ratio(ledger: Ledger) -> f64
     ensures { result ≡ energy_conservation_ratio_of ledger }
 {
     ledger.energy_conservation_ratio()

@@ -159,8 +159,7 @@ fn trace_flat(
 
 // As `nonseq_trace_rays` with the numbers of the rays, one ray behind the other. The two lists lie on the stack
 // (426,088 bytes), with room for one ray more than the limit, so that 3 comes in its order.
-#[unsafe(no_mangle)]
-pub extern "C" fn nonseq_trace_given_rays(
+pub fn nonseq_trace_given_rays(
     config: HostConfig,
     solid_values: &[f64],
     solid_tags: &[u32],

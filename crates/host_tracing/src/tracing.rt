@@ -9,8 +9,7 @@ use detectors::Detectors;
 use material::{NumberedMedium, OpticalMedium};
 
 // `trace::trace_rays`, if there is an ambient medium of the number given (else 17).
-#[unsafe(no_mangle)]
-pub extern "C" fn nonseq_trace_rays(
+pub fn nonseq_trace_rays(
     config: HostConfig,
     solid_values: &[f64],
     solid_tags: &[u32],

@@ -172,14 +172,14 @@ fn run_text(name: &[u8], table: &[u8], all: &[u8], said: u64, numbers: &mut [u64
     judge_file(name, all, said, numbers);
 }
 
-fn run_file(name: &[u8], table: &[u8], said: u64, numbers: &mut [u64]) {
+fn run_file(rt: &HostRuntime, name: &[u8], table: &[u8], said: u64, numbers: &mut [u64]) {
     let mut buf = [0u8; FILE_ROOM];
-    let n = files::read(name, &mut buf);
+    let n = files::read(rt, name, &mut buf);
     run_text(name, table, files::front(&buf, n), said, numbers);
 }
 
 // A line of the index: a file and how many scripts it has.
-fn run_indexed(line: &[u8], table: &[u8], numbers: &mut [u64]) {
+fn run_indexed(rt: &HostRuntime, line: &[u8], table: &[u8], numbers: &mut [u64]) {
     lists::raise(numbers, world::INDEXED, 1);
     lists::put_number(
         numbers,
@@ -188,6 +188,7 @@ fn run_indexed(line: &[u8], table: &[u8], numbers: &mut [u64]) {
     );
     if words::read(line, b"n", numbers) {
         return run_file(
+            rt,
             words::word(line, 0),
             table,
             world::given(numbers, 0) as u64,
@@ -201,11 +202,11 @@ fn run_indexed(line: &[u8], table: &[u8], numbers: &mut [u64]) {
     )
 }
 
-fn run_all(index: &[u8], table: &[u8], numbers: &mut [u64]) {
+fn run_all(rt: &HostRuntime, index: &[u8], table: &[u8], numbers: &mut [u64]) {
     let mut at: usize = 0;
     while at < index.len() {
         let end = fields::end_at(index, at, b'\n');
-        run_indexed(files::between(index, at, end), table, numbers);
+        run_indexed(rt, files::between(index, at, end), table, numbers);
         at = later(at, files::plus(end, 1));
     }
 }
@@ -231,20 +232,21 @@ fn judge_tables(index: &[u8], table: &[u8], numbers: &mut [u64]) {
 }
 
 // The damaged script, counted apart, then all that the index names.
-fn run(index: &[u8], table: &[u8], numbers: &mut [u64]) {
-    run_file(b"damaged", table, 9, numbers);
+fn run(rt: &HostRuntime, index: &[u8], table: &[u8], numbers: &mut [u64]) {
+    run_file(rt, b"damaged", table, 9, numbers);
     lists::clear_numbers(numbers, 0, world::NUMBERS);
-    run_all(index, table, numbers);
+    run_all(rt, index, table, numbers);
     judge_tables(index, table, numbers);
 }
 
-fn main() {
+fn main(rt: HostRuntime) {
     let mut index = [0u8; TABLE_ROOM];
     let mut table = [0u8; TABLE_ROOM];
     let mut numbers = [0u64; world::NUMBERS];
-    let n = files::read(b"index.txt", &mut index);
-    let k = files::read(b"verbs", &mut table);
+    let n = files::read(&rt, b"index.txt", &mut index);
+    let k = files::read(&rt, b"verbs", &mut table);
     run(
+        &rt,
         files::front(&index, n),
         files::front(&table, k),
         &mut numbers,

@@ -8,12 +8,14 @@ mod parts;
 mod solid_lines;
 mod tally;
 
-ghost use Rattle.std.specs.Prelude.{◌≡◌};
+ghost use Rattle.std.specs.Prelude.{◌≡◌, ◌≤◌, length};
 ghost use Rattle.fields.specs.Split.{text_lines};
 ghost use Rattle.test_vectors.specs.Count.{tally_lines_of, empty_of};
 ghost use Rattle.test_vectors.specs.Lines.{line_agrees_of};
 
 use lines::Kind;
+use std::fs::File;
+use std::io::Read;
 use tally::Tally;
 
 // Of the lines of a text.
@@ -45,38 +47,57 @@ fn report(name: &[u8], t: Tally) {
     io::write_all(1, b"\n");
 }
 
-// One file. One that is missing or does not fit is said to be so.
-fn run(kind: Kind, path: &[u8]) {
-    let fd = os::open_read(path);
-    if fd < 0 {
-        os::fail(path);
-        return;
+// What an open file has left, as far as buf has room: how many bytes were read. A failure ends it as the end does.
+fn read_open(file: &mut File, buf: &mut [u8]) -> usize
+    ensures { result ≤ length buf.new }
+{
+    let mut done: usize = 0;
+    while done < buf.len() {
+        let n = file.read(&mut buf[done..]).unwrap_or(0);
+        if n == 0 {
+            return done;
+        }
+        done += n;
     }
+    done
+}
+
+// The lines of an open file.
+fn run_open(kind: Kind, path: &str, file: &mut File) {
     let mut text = [0u8; 524288];
-    let n = io::read_full(fd, &mut text);
-    libc::close(fd);
+    let n = read_open(file, &mut text);
     if n == 524288 {
-        io::write_all(1, path);
+        io::write_all(1, path.as_bytes());
         io::write_all(1, b" does not fit the buffer\n");
         return;
     }
-    report(path, tally_lines(kind, &text[..n]));
+    report(path.as_bytes(), tally_lines(kind, &text[..n]));
 }
 
-fn main() {
-    run(Kind::Root, b"sqrt.txt");
-    run(Kind::Double, b"doubles.txt");
-    run(Kind::Draw, b"rng.txt");
-    run(Kind::State, b"vigna.txt");
-    run(Kind::Vector, b"vec3.txt");
-    run(Kind::Matrix, b"mat4.txt");
-    run(Kind::Index, b"index.txt");
-    run(Kind::Index, b"index_edges.txt");
-    run(Kind::Shape, b"shapes.txt");
-    run(Kind::Shape, b"shape_edges.txt");
-    run(Kind::Shape, b"closed.txt");
-    run(Kind::Solid, b"solids.txt");
-    run(Kind::Solid, b"closed_solids.txt");
-    run(Kind::Crossing, b"crossing.txt");
-    run(Kind::Recording, b"recording.txt");
+// One file. One that is missing or does not fit is said to be so.
+fn run(rt: &HostRuntime, kind: Kind, path: &str) {
+    match File::open(rt, path) {
+        Ok(mut file) => run_open(kind, path, &mut file),
+        Err(error) => {
+            let _ = eprintln!(rt; "{path}: {error}");
+        }
+    }
+}
+
+fn main(rt: HostRuntime) {
+    run(&rt, Kind::Root, "sqrt.txt");
+    run(&rt, Kind::Double, "doubles.txt");
+    run(&rt, Kind::Draw, "rng.txt");
+    run(&rt, Kind::State, "vigna.txt");
+    run(&rt, Kind::Vector, "vec3.txt");
+    run(&rt, Kind::Matrix, "mat4.txt");
+    run(&rt, Kind::Index, "index.txt");
+    run(&rt, Kind::Index, "index_edges.txt");
+    run(&rt, Kind::Shape, "shapes.txt");
+    run(&rt, Kind::Shape, "shape_edges.txt");
+    run(&rt, Kind::Shape, "closed.txt");
+    run(&rt, Kind::Solid, "solids.txt");
+    run(&rt, Kind::Solid, "closed_solids.txt");
+    run(&rt, Kind::Crossing, "crossing.txt");
+    run(&rt, Kind::Recording, "recording.txt");
 }

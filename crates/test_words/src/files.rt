@@ -1,4 +1,6 @@
 // Files of data/ read whole, parts of texts, and texts compared.
+use std::fs::File;
+use std::io::Read;
 
 // The bytes from one place up to another; none if they are not there.
 pub fn between(t: &[u8], from: usize, to: usize) -> &[u8] {
@@ -42,14 +44,30 @@ pub fn is(a: &[u8], b: &[u8]) -> bool {
     ok
 }
 
-// The file of that name, as far as buf has room: how many bytes were read.
-pub fn read(name: &[u8], buf: &mut [u8]) -> usize {
-    let fd = os::open_read(name);
-    if fd < 0 {
-        os::fail(name);
-        return 0;
+// What an open file has left, as far as buf has room: how many bytes were read. A failure ends it as the end does.
+fn read_open(file: &mut File, buf: &mut [u8]) -> usize {
+    let mut done: usize = 0;
+    while done < buf.len() {
+        let n = file.read(&mut buf[done..]).unwrap_or(0);
+        if n == 0 {
+            return done;
+        }
+        done += n;
     }
-    let n = io::read_full(fd, buf);
-    libc::close(fd);
-    n
+    done
+}
+
+// The file of that name, as far as buf has room: how many bytes were read.
+pub fn read(rt: &HostRuntime, name: &[u8], buf: &mut [u8]) -> usize {
+    let Ok(path) = std::str::from_utf8(name) else {
+        let _ = eprintln!(rt; "a file's name is not text");
+        return 0;
+    };
+    match File::open(rt, path) {
+        Ok(mut file) => read_open(&mut file, buf),
+        Err(error) => {
+            let _ = eprintln!(rt; "{path}: {error}");
+            0
+        }
+    }
 }

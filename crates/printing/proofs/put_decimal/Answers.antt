@@ -6,5 +6,7 @@ use Rattle.printing.proofs.Back.{digits_are, few_digits}
 use Rattle.printing.proofs.put_decimal.Goals as goal
 
 pub returns : goal.returns
-returns c = let e : take c.decimal-k.result c.decimal-k.new.1.0 ≡ decimal_text 20 n = c.decimal-k.ensures.1.1 ∙ digits_are 20 _ c.args.n (few_digits _ c.args.n c.ranges.n.fits c.decimal-k.ensures.1.0) c.decimal-k.ensures.1.0 in
+returns c =
+    let e : take c.decimal-k.result c.decimal-k.new.out ≡ decimal_text 20 c.args.n =
+    c.decimal-k.ensures.digits ∙ digits_are 20 _ c.args.n (few_digits _ c.args.n c.ranges.n.fits c.decimal-k.ensures.len) c.decimal-k.ensures.len in
     rw e at c.put_all.ensures

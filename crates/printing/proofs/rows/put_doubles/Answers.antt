@@ -17,7 +17,7 @@ pub loop-i-preserved : goal.loop-i-preserved
 loop-i-preserved c = (
   search rules,
   c.loop-i.invariant.1,
-  c.put-p.auto.buf ∙ c.put_double-p.auto.s ∙ c.loop-i.invariant.2,
+  c.put-p.auto.buf ∙ c.put_double-p.auto.buf ∙ c.loop-i.invariant.2,
   spaced_again double_text nan _ c.loop-i.i _ _ c.behind.result _ _ _ _ _ _ _ c.loop-i-test.true c.loop-i.invariant.1 c.put_double-p.ensures
       c.behind.ensures c.put-p.ensures c.loop-i.invariant.3,
 )

@@ -1,0 +1,27 @@
+use borrow.Author.Tests.{eq-eqb, ne_eqb}
+use Rattle.filter.specs.Filters.{numbered_filter_of}
+use Rattle.filter.proofs.RayPathFilter.numbered.Goals as goal
+
+pub returns-then-number-eq0 : goal.returns-then-number-eq0
+unfolding numbered_filter_of
+returns-then-number-eq0 c = simp (eq-eqb _ _ c.if-number-eq0.true)
+
+pub returns-then-number-eq1 : goal.returns-then-number-eq1
+unfolding numbered_filter_of
+returns-then-number-eq1 c = simp (ne_eqb _ _ c.if-number-eq0.false, eq-eqb _ _ c.if-number-eq1.true)
+
+pub returns-then-number-eq2 : goal.returns-then-number-eq2
+unfolding numbered_filter_of
+returns-then-number-eq2 c = simp (ne_eqb _ _ c.if-number-eq0.false, ne_eqb _ _ c.if-number-eq1.false, eq-eqb _ _ c.if-number-eq2.true)
+
+pub returns-then-number-eq3 : goal.returns-then-number-eq3
+unfolding numbered_filter_of
+returns-then-number-eq3 c = simp (ne_eqb _ _ c.if-number-eq0.false, ne_eqb _ _ c.if-number-eq1.false, ne_eqb _ _ c.if-number-eq2.false, eq-eqb _ _ c.if-number-eq3.true)
+
+pub returns-then-number-eq4 : goal.returns-then-number-eq4
+unfolding numbered_filter_of
+returns-then-number-eq4 c = simp (ne_eqb _ _ c.if-number-eq0.false, ne_eqb _ _ c.if-number-eq1.false, ne_eqb _ _ c.if-number-eq2.false, ne_eqb _ _ c.if-number-eq3.false, eq-eqb _ _ c.if-number-eq4.true)
+
+pub returns : goal.returns
+unfolding numbered_filter_of
+returns c = simp (ne_eqb _ _ c.if-number-eq0.false, ne_eqb _ _ c.if-number-eq1.false, ne_eqb _ _ c.if-number-eq2.false, ne_eqb _ _ c.if-number-eq3.false, ne_eqb _ _ c.if-number-eq4.false)

@@ -1,0 +1,19 @@
+use Prim.Native.Nat.{ℕ, ◌≤◌, ◌<◌, ◌-◌, ◌+◌, ◌*◌}
+use mathlib.Core.Path.{◌≡◌}
+use native.Mathlib.Omega.{arith}
+use borrow.Author.Rules.{rules}
+use Rattle.given_rays.proofs.Loops.{solids_start, solids-again, solids-not, solids-end}
+use Rattle.given_rays.specs.Given.{all_solids_of}
+use Rattle.given_rays.proofs.all_solids.Goals as goal
+
+pub loop-i-preserved : goal.loop-i-preserved
+loop-i-preserved c = (
+  search rules,
+  solids-again _ _ _ _ _ c.loop-i-test.true c.if-s-solids.true c.loop-i.invariant.1,
+)
+
+pub returns-else-s-solids : goal.returns-else-s-solids
+returns-else-s-solids c = solids-not _ _ _ _ _ c.loop-i-test.true c.if-s-solids.false c.loop-i.invariant.1
+
+pub returns : goal.returns
+returns c = solids-end _ _ _ _ _ c.loop-i-test.false c.loop-i.invariant.1

@@ -1,0 +1,13 @@
+use Prim.Native.Nat.{ℕ, ◌≤◌, ◌<◌, ◌-◌, ◌+◌, ◌*◌}
+use mathlib.Core.Path.{◌≡◌}
+use native.Mathlib.Omega.{arith}
+use borrow.Author.Rules.{rules}
+use Rattle.given_rays.proofs.Loops.{solids_start, solids-again, solids-not, solids-end}
+use Rattle.given_rays.specs.Given.{all_solids_of}
+use Rattle.given_rays.proofs.all_solids.Given as goal
+
+abbrev pub invariant-loop-i : goal.invariant-loop-i
+invariant-loop-i l = (l.n ≤ 24) × (all_solids_of l.list l.solids (l.n - l.i) l.i ≡ all_solids_of l.list l.solids l.n 0)
+
+abbrev pub decreases-loop-i : goal.decreases-loop-i
+decreases-loop-i l = l.n - l.i

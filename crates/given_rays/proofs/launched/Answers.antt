@@ -1,0 +1,16 @@
+use Prim.Native.Nat.{ℕ, ◌≤◌, ◌<◌, ◌-◌, ◌+◌, ◌*◌}
+use mathlib.Core.Path.{◌≡◌}
+use borrow.Author.Rules.{rules}
+use Rattle.given_rays.specs.Given.{given_at_of, launched_from}
+use Rattle.given_rays.proofs.Loops.{launch_start, launch-again, launch-end}
+use Rattle.given_rays.specs.Given.{given_at_of, launched_from, launched_of}
+use Rattle.given_rays.proofs.launched.Goals as goal
+
+pub loop-i-init : goal.loop-i-init
+loop-i-init c = launch_start _ _
+
+pub loop-i-preserved : goal.loop-i-preserved
+loop-i-preserved c = launch-again _ _ _ _ _ _ c.loop-i-test.true c.given_at-a.ensures c.loop-i.invariant
+
+pub returns : goal.returns
+returns c = launch-end _ _ c.loop-i.i _ _ c.loop-i-test.false c.loop-i.invariant

@@ -1,0 +1,13 @@
+use Prim.Native.Nat.{ℕ, ◌≤◌, ◌<◌, ◌-◌, ◌+◌, ◌*◌}
+use mathlib.Core.Path.{◌≡◌}
+use borrow.Author.Rules.{rules}
+use Rattle.given_rays.specs.Given.{given_at_of, launched_from}
+use Rattle.given_rays.proofs.Loops.{launch_start, launch-again, launch-end}
+use Rattle.given_rays.specs.Given.{given_at_of, launched_from, launched_of}
+use Rattle.given_rays.proofs.launched.Given as goal
+
+abbrev pub invariant-loop-i : goal.invariant-loop-i
+invariant-loop-i l = launched_from (given_at_of l.ray_values l.ray_tags) (l.rays - l.i) l.i l.sum ≡ launched_of (given_at_of l.ray_values l.ray_tags) l.rays
+
+abbrev pub decreases-loop-i : goal.decreases-loop-i
+decreases-loop-i l = l.rays - l.i

@@ -1,0 +1,7 @@
+use Rattle.memory.specs.Memory.{cell_of}
+use borrow.Author.Rules.{rules}
+use Rattle.memory.proofs.recording.cell.Goals as goal
+
+pub returns : goal.returns
+unfolding cell_of
+returns c = simp (← c.pixel_at.ensures.0)

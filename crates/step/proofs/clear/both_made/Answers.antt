@@ -1,0 +1,7 @@
+use Rattle.step.specs.Steps.{parted_by}
+use borrow.Author.Rules.{rules}
+use Rattle.step.proofs.clear.both_made.Goals as goal
+
+pub returns : goal.returns
+unfolding parted_by
+returns c = simp (← c.reflected.ensures, ← c.transmitted.ensures)
