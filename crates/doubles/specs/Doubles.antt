@@ -56,7 +56,7 @@ clamp_of x lo hi = cond (lt x lo) lo (cond (lt hi x) hi x)
 unfoldable pub max_zero_of : Float → Float
 max_zero_of x = cond (lt (from_bits binary64 0) x) x (from_bits binary64 0)
 
--- IEEE 754 `is_finite`: neither NaN nor infinite
+-- IEEE 754 `isFinite`: neither NaN nor infinite
 unfoldable pub is_finite_of : Float → Bool
 is_finite_of nan = false
 is_finite_of (inf s) = false

@@ -1,0 +1,12 @@
+use mathlib.Core.Path.{sym}
+use native.Mathlib.Omega.{arith}
+use lib.Seq.{length-take-le}
+use Rattle.answer_text.proofs.Shown.{total-shown, count-shown}
+use borrow.Author.Rules.{rules}
+use Rattle.answer_text.proofs.maps.shown.Goals as goal
+
+pub returns : goal.returns
+returns c = (
+  total-shown _ _ _ _ c.grid_at-g.ensures.0 c.refilter.result _ c.refilter.ensures,
+  count-shown _ _ _ _ c.grid_at-g.ensures.0 c.refilter.result _ c.refilter.ensures,
+)

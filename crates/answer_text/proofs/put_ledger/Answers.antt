@@ -1,0 +1,10 @@
+use Rattle.answer_text.specs.Answer.{ledger_text}
+use borrow.Author.Rules.{rules}
+use Rattle.printing.proofs.Writing.{put_join}
+use Rattle.fields.specs.Split.{bytes}
+use Rattle.answer_text.proofs.put_ledger.Goals as goal
+
+pub returns : goal.returns
+unfolding bytes ledger_text
+returns c = put_join _ _ _ _ _ _ _ c.put_all-p.ensures
+    (rw (c.wide.ensures, c.wide-2.ensures) at c.put_row.ensures)

@@ -1,0 +1,7 @@
+use Rattle.bench.specs.Hits.{met_of}
+use borrow.Author.Rules.{rules}
+use Rattle.bench.proofs.met.Goals as goal
+
+pub returns : goal.returns
+unfolding met_of
+returns c = simp (← c.flag.ensures)
