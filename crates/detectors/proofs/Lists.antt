@@ -20,7 +20,6 @@ use Rattle.detector.proofs.Grid.{pixels_most}
 use Rattle.detectors.specs.declared.Detectors.{Detectors}
 use Rattle.detectors.specs.declared.Placed.{Placed}
 use Rattle.detectors.specs.declared.Spot.{Spot}
-use Rattle.detectors.specs.declared.Spot.TheVariants as Spot
 use Rattle.detectors.specs.Detectors.{detector_at, first_pixel_of, placed_of, at_of, as_spot, check_count_of, check_list_of, check_each_of, check_detectors_of}
 
 -- ---- the check; r is what the check of detector i answered

@@ -12,7 +12,6 @@ use Rattle.detector.specs.Pixels.{pixels_of}
 use Rattle.detectors.specs.declared.Detectors.{Detectors}
 use Rattle.detectors.specs.declared.Placed.{Placed}
 use Rattle.detectors.specs.declared.Found.{Found}
-use Rattle.detectors.specs.declared.Found.TheVariants as Found
 use Rattle.detectors.specs.declared.Spot.{Spot}
 use Rattle.detectors.specs.declared.Spot.TheVariants.{There, Nowhere}
 

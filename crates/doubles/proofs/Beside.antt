@@ -1,7 +1,7 @@
 -- The root of a double beside 1 is half as far from 1, rounded away from the greater side. Assumes nothing.
 use Rattle.std.proofs.Common.{◌≡◌, ℕ, zero, suc, ◌+◌, ◌-◌, ◌*◌, ◌/◌, ◌%◌, ◌^◌, ◌<◌, ◌≤◌, Bool, true, false, not, T, ltb, sym, refl, ap, ◌∙◌, subst, mul-le-mul_left, mul-add, arith, ltb→lt, nltb→le}
-use lib.Ieee.{Float, binary64, of_bits}
-use Rattle.doubles.specs.Root.{sqrt_of, nearest_root_of}
+use lib.Ieee.{binary64, of_bits}
+use Rattle.doubles.specs.Root.{sqrt_of}
 use Rattle.doubles.proofs.Squares.{NearRoot, product_lt, square_of}
 use Rattle.doubles.proofs.Whole.{nearest_of}
 use Rattle.doubles.proofs.Roots.{normal_root}

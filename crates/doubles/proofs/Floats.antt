@@ -1,5 +1,5 @@
 -- Which floats and which bit patterns are NaN, and `0.0 / 0.0`. Assumes nothing.
-use Rattle.std.proofs.Common.{◌≡◌, ℕ, ◌*◌, ◌%◌, ◌<◌, ◌≤◌, Bool, true, false, not, ◌&&◌, T, ltb, sym, refl, ap, ◌∙◌, subst, le_trans, lt-ltb}
+use Rattle.std.proofs.Common.{◌≡◌, ℕ, ◌*◌, ◌%◌, ◌<◌, ◌≤◌, Bool, true, false, not, ◌&&◌, T, sym, refl, ◌∙◌, subst, le_trans, lt-ltb}
 use native.Mathlib.Nat.{mod-le}
 use lib.Arith.{le→nltb}
 use lib.Ieee.{Float, nan, inf, fin, binary64, ones, hid, top, ne, is_nan, nan_bits, of_bits, div}

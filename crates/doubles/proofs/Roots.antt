@@ -1,13 +1,11 @@
 -- The root of a float by its bit pattern: the patterns that `root_by`, `root_subnormal` and `sqrt` hand back stand for `sqrt_of`. Assumes nothing.
-use Rattle.std.proofs.Common.{◌≡◌, ℕ, zero, suc, ◌+◌, ◌-◌, ◌*◌, ◌/◌, ◌%◌, ◌^◌, ◌<◌, ◌≤◌, Bool, true, false, cond, not, T, eqb, leb, ◌⊎◌, sym, refl, ap, ◌∙◌, subst, inl, inr, le_trans, le_of_eq, lt_of_lt_of_le, le_of_suc-le-suc, lt_of_le_of_lt, mul-le-mul_right, mul_assoc, add_comm, suc-add, eq-or-lt_of_le, mul-lt-mul_of_pos_right, mul-pos, lt_of_not-le, mul-one, not-le_of_lt, arith, le→leb, eqb→eq, leb→le, pow_pos, pow_mono, pow-add, shl_lt, shl_exact}
+use Rattle.std.proofs.Common.{◌≡◌, ℕ, zero, suc, ◌+◌, ◌-◌, ◌*◌, ◌/◌, ◌%◌, ◌^◌, ◌<◌, ◌≤◌, Bool, true, false, cond, not, T, eqb, leb, ◌⊎◌, sym, refl, ap, ◌∙◌, subst, inl, inr, le_of_suc-le-suc, lt_of_le_of_lt, mul-le-mul_right, mul_assoc, add_comm, suc-add, eq-or-lt_of_le, mul-lt-mul_of_pos_right, mul-pos, lt_of_not-le, not-le_of_lt, arith, le→leb, eqb→eq, leb→le, pow_pos, pow_mono, pow-add, shl_lt, shl_exact}
 use lib.Dec.{not_T, nleb→lt}
 use lib.Count.{count_leading_zeros, leading_top}
-use lib.Ieee.{Float, nan, inf, fin, binary64, odd, of_fields, of_bits, to_bits, fits}
+use lib.Ieee.{Float, nan, inf, binary64, odd, of_fields, of_bits, to_bits, fits}
 use lib.Ieee.Bits.{is_true, cond_no, of_bits-to_bits}
-use lib.Ieee.Fits.{eq→eqb}
 use lib.Ieee.Exact.{HasValue, odd_sign}
 use Rattle.doubles.specs.Root.{root_round, sqrt_in, sqrt_of, nearest_root_of}
-use Rattle.doubles.proofs.Squares.{Root53}
 use Rattle.doubles.proofs.Whole.{rounded, root53}
 use Rattle.doubles.proofs.Patterns.{of_bits_is, under_ones, at_zero, plus, normal, subnormal, pattern_is, positive_root, negative_root}
 

@@ -1,5 +1,5 @@
 -- A size compared with h, by the number itself and by -h. Assumes nothing.
-use Rattle.std.proofs.Common.{◌≡◌, ℕ, zero, suc, ◌+◌, ◌*◌, ◌<◌, ◌≤◌, Bool, true, false, not, ◌&&◌, ◌||◌, T, eqb, ltb, ℤ, sym, refl, ap, ◌∙◌, subst, arith, eqb→eq, ltb→lt, lt→ltb, nltb→le}
+use Rattle.std.proofs.Common.{◌≡◌, ℕ, zero, suc, ◌+◌, ◌*◌, ◌<◌, ◌≤◌, Bool, true, false, not, ◌&&◌, ◌||◌, T, eqb, ltb, sym, refl, ap, ◌∙◌, subst, arith, eqb→eq, ltb→lt, lt→ltb, nltb→le}
 use lib.Dec.{eqb_refl}
 use lib.Ieee.{Float, nan, inf, fin, up, down, below, level, neg, lt, le, eq}
 use Rattle.doubles.specs.Doubles.{abs_of}

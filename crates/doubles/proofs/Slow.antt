@@ -1,5 +1,5 @@
 -- The root of m * 2 ^ 52 a binary digit at a time: what the loop of `nearest_root` keeps. Assumes nothing.
-use Rattle.std.proofs.Common.{◌≡◌, ℕ, zero, suc, ◌+◌, ◌-◌, ◌*◌, ◌/◌, ◌%◌, ◌^◌, ◌<◌, ◌≤◌, sym, refl, ap, ◌∙◌, subst, pow-suc, add-one, arith, pow_mono}
+use Rattle.std.proofs.Common.{◌≡◌, ℕ, zero, suc, ◌+◌, ◌-◌, ◌*◌, ◌/◌, ◌%◌, ◌^◌, ◌<◌, ◌≤◌, ap, ◌∙◌, pow-suc, add-one, arith, pow_mono}
 use Rattle.doubles.specs.Root.{nearest_root_of}
 use Rattle.doubles.proofs.Squares.{NearRoot}
 use Rattle.doubles.proofs.Whole.{nearest_of}

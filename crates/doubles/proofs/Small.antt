@@ -1,5 +1,5 @@
 -- What the small functions lean on: the sign's bit, the finite test and `as usize`. Assumes nothing.
-use Rattle.std.proofs.Common.{◌≡◌, ℕ, zero, suc, ◌+◌, ◌-◌, ◌*◌, ◌/◌, ◌%◌, ◌^◌, ◌<◌, ◌≤◌, min, Bool, true, false, cond, not, ◌&&◌, T, eqb, ltb, leb, ℤ, pos, negsuc, sym, refl, ap, ◌∙◌, subst, le_refl, lt_irrefl, mul-pos, le-div_iff_mul-le, zero-mul, mul-one, arith, le→leb, lt→ltb, leb→le, nltb→le, pow_pos, le-ltb}
+use Rattle.std.proofs.Common.{◌≡◌, ℕ, zero, suc, ◌+◌, ◌-◌, ◌*◌, ◌/◌, ◌%◌, ◌^◌, ◌<◌, ◌≤◌, min, Bool, true, false, cond, not, ◌&&◌, T, eqb, ltb, leb, pos, sym, refl, ap, ◌∙◌, subst, le_refl, lt_irrefl, mul-pos, le-div_iff_mul-le, zero-mul, mul-one, arith, le→leb, lt→ltb, leb→le, nltb→le, pow_pos, le-ltb}
 use native.Mathlib.Nat.{sub_self}
 use lib.Ieee.{Float, nan, inf, fin, binary64, up, down, odd, of_fields, of_bits, to_bits, fits, is_nan, nan_bits, lt, eq, level, add, sub, neg, sum, round, to_unsigned, in_float}
 use lib.Ieee.Bits.{is_true, of_bits-to_bits, nan_bits_is, nan_bits_above}

@@ -1,5 +1,5 @@
 -- Facts of whole numbers and their squares, and what the tests of `is_nearest_root` show. Assumes nothing.
-use Rattle.std.proofs.Common.{◌≡◌, ℕ, zero, suc, ◌+◌, ◌-◌, ◌*◌, ◌/◌, ◌%◌, ◌^◌, ◌<◌, ◌≤◌, Bool, true, false, not, ◌&&◌, T, ltb, leb, sym, refl, ap, ◌∙◌, subst, lt_of_le_of_lt, le_of_lt, add_assoc, mul_assoc, mul_comm, add-mul, add_comm, mul-le-mul_left, mul-lt-mul_of_pos_right, div-add-mod', mul-add, mul_left_comm, arith, le→leb, ltb→lt, lt→ltb, leb→le, pow_pos, pow-add}
+use Rattle.std.proofs.Common.{◌≡◌, ℕ, ◌+◌, ◌-◌, ◌*◌, ◌/◌, ◌%◌, ◌^◌, ◌<◌, ◌≤◌, true, false, T, ltb, leb, sym, refl, ap, ◌∙◌, subst, lt_of_le_of_lt, le_of_lt, add_assoc, mul_assoc, mul_comm, add-mul, add_comm, mul-le-mul_left, mul-lt-mul_of_pos_right, div-add-mod', mul-add, mul_left_comm, arith, le→leb, ltb→lt, lt→ltb, leb→le, pow_pos, pow-add}
 use native.Mathlib.Nat.{add_left_comm}
 use lib.Dec.{not_T}
 use lib.Ieee.Bits.{is_true, is_false}

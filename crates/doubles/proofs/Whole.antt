@@ -1,11 +1,11 @@
 -- `whole_root n` is the largest r with r * r ≤ n. A q that is near the root of w (`NearRoot`) is `nearest_root_of w`, and what `root_round` rounds w * 4 ^ k to. Assumes nothing.
-use Rattle.std.proofs.Common.{◌≡◌, ℕ, zero, suc, ◌+◌, ◌-◌, ◌*◌, ◌/◌, ◌%◌, ◌^◌, ◌<◌, ◌≤◌, Bool, true, false, cond, not, T, eqb, leb, sym, refl, ap, ◌∙◌, subst, le_trans, le_of_eq, le_refl, lt_of_lt_of_le, le_of_suc-le-suc, lt_of_le_of_lt, le_of_lt, mul-le-mul_right, mul_assoc, lt-suc_self, div-lt_iff_lt-mul, mul-le-mul, le_antisymm, lt_of_mul-lt-mul_right, mul-le-mul_left, mul-lt-mul_of_pos_right, mul-pos, pow-suc, lt_of_not-le, not-le_of_lt, div-mul-le_self, le_of_mul-le-mul_right, arith, eqb→eq, leb→le, pow_pos, pow_mono, pow-add}
+use Rattle.std.proofs.Common.{◌≡◌, ℕ, zero, suc, ◌+◌, ◌-◌, ◌*◌, ◌/◌, ◌^◌, ◌<◌, ◌≤◌, Bool, true, false, cond, not, T, eqb, leb, sym, refl, ap, ◌∙◌, subst, le_trans, le_of_eq, le_refl, lt_of_lt_of_le, le_of_suc-le-suc, lt_of_le_of_lt, mul-le-mul_right, mul_assoc, lt-suc_self, div-lt_iff_lt-mul, mul-le-mul, le_antisymm, lt_of_mul-lt-mul_right, mul-le-mul_left, mul-pos, pow-suc, lt_of_not-le, not-le_of_lt, div-mul-le_self, le_of_mul-le-mul_right, arith, eqb→eq, leb→le, pow_pos, pow_mono, pow-add}
 use Prim.Native.Nat.{compare, Ordering}
-use native.Mathlib.Nat.{le-suc, mul-mul-mul_comm, eq_of_mul-eq-mul_right, pow-succ'}
+use native.Mathlib.Nat.{mul-mul-mul_comm, eq_of_mul-eq-mul_right}
 use lib.Dec.{is_le, compare_is_eq, nleb→lt, eqb_refl}
 use lib.Arith.{lt_of_le-ne}
-use lib.Ieee.{Float, Format, prec, size, nearest, units}
-use lib.Ieee.Digits.{size-lt, size-le, size_reaches}
+use lib.Ieee.{Format, prec, size, nearest, units}
+use lib.Ieee.Digits.{size-lt, size-le}
 use lib.Ieee.Fits.{two}
 use Rattle.doubles.specs.Root.{root_in, whole_root, root_round, nearest_root_of}
 use Rattle.doubles.proofs.Squares.{NearRoot, Root53}

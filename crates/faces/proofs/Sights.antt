@@ -1,8 +1,8 @@
 -- One face in the search: the three ways through `nearer`. Assumes nothing.
 use Prim.Native.Nat.{ℕ}
-use mathlib.Core.Path.{◌≡◌, refl, sym, ap, ◌∙◌}
+use mathlib.Core.Path.{◌≡◌, sym, ap, ◌∙◌}
 use mathlib.Core.Bool.{Bool, true, false}
-use mathlib.Core.Option.{Option, none, some}
+use mathlib.Core.Option.{Option, some}
 use lib.Ieee.{Float}
 use Rattle.detector.specs.declared.face.Crossing.{Crossing}
 use Rattle.detector.specs.declared.face.Crossed.{Crossed}

@@ -6,11 +6,11 @@ use Prim.Native.Nat.{ℕ, zero, suc, ◌+◌, ◌-◌, ◌*◌, ◌^◌, ◌≤�
 use native.Mathlib.Nat.{pow-suc, pow-le-pow_right, lt_of_lt_of_le}
 use native.Mathlib.Numerals.{add-one}
 use native.Mathlib.Omega.{arith}
-use lib.Dec.{T, eqb, ltb}
+use lib.Dec.{T, ltb}
 use lib.ListN.{length, drop, get_or, drop_of_length-le}
 use lib.Seq.{drop-cons}
 use borrow.Author.Tests.{lt-ltb, le-ltb, eq-eqb, ne_eqb, ltb-true, ltb-false}
-use Rattle.fields.specs.Number.{Read, number, malformed, digit_of, is_hex_of, hex_pad_of, digit_at_of, read_bits_of, is_decimal, decimal_from, is_led_by_zero_of, read_whole_of}
+use Rattle.fields.specs.Number.{number, malformed, digit_of, is_hex_of, hex_pad_of, digit_at_of, is_decimal, decimal_from, is_led_by_zero_of, read_whole_of}
 
 clash : false ≡ true → ⊥
 clash e = subst T (sym e) tt

@@ -7,7 +7,7 @@ use mathlib.Core.Logic.{◌⊎◌, inl, inr}
 use mathlib.Core.Option.{none, some}
 use lib.Dec.{T}
 use lib.IntN.{ℤ, negsuc}
-use lib.Ieee.{Float, nan, inf, fin, binary64, down, sub, mul, div, neg, lt, le, of_bits, fits, is_nan}
+use lib.Ieee.{Float, nan, inf, fin, binary64, sub, mul, div, neg, lt, le, of_bits, fits, is_nan}
 use lib.Ieee.Fits.{div-fits}
 use lib.Ieee.Positive.{positive}
 use Rattle.doubles.proofs.Floats.{clash, and_left, and_right}

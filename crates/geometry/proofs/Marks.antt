@@ -1,7 +1,7 @@
 -- Document 01's marked facts M3 to M5, of the definitions.
 use mathlib.Core.Path.{◌≡◌, refl}
 use mathlib.Core.Option.{none}
-use lib.Ieee.{Float, binary64, add, sub, mul, div, neg, lt, le, of_bits, to_bits}
+use lib.Ieee.{Float, add, sub, mul, div, neg, lt, le, of_bits, to_bits}
 use Rattle.doubles.specs.Doubles.{abs_of, #4, #5, #0, #1}
 use Rattle.doubles.specs.Root.{sqrt_of}
 use Rattle.rays.specs.declared.Ray.{Ray}

@@ -10,7 +10,7 @@ use lib.Dec.{T, ltb, leb, eqb, ltb→lt, leb→le, nltb→le, eqb→eq}
 use lib.IntN.{ℤ, pos, negsuc}
 use lib.Pow.{pow_pos}
 use borrow.Author.Tests.{le-ltb}
-use lib.Ieee.{Float, nan, inf, fin, binary64, up, down, round, sum, add, sub, mul, div, neg, lt, le, of_bits, to_bits, fits}
+use lib.Ieee.{Float, nan, inf, fin, binary64, up, down, round, sum, add, sub, mul, div, neg, lt, of_bits, to_bits, fits}
 use lib.Ieee.Exact.{HasValue, odd_sign}
 use lib.Ieee.Bits.{of_bits-to_bits}
 use lib.Ieee.Fits.{up_pos, down_pos, mul-fits}
@@ -31,7 +31,7 @@ use Rattle.geometry.specs.Hits.{first_there}
 use Rattle.geometry.specs.Round.{solve_of, sphere_at_of, sphere_among_of, intersect_sphere_of}
 use Rattle.geometry.specs.Away.{is_away_of}
 use Rattle.geometry.proofs.Signs.{Signed, under, round_signed, signed_under, suc_not_zero, cond_no, near_is}
-use Rattle.geometry.proofs.Squares.{L, M, squared, squared_most, RootMost, root-of}
+use Rattle.geometry.proofs.Squares.{L, squared, squared_most, RootMost, root-of}
 use Rattle.doubles.proofs.Floats.{and_left, and_right}
 
 -- ---- not negative, or no number at all

@@ -7,10 +7,10 @@ use mathlib.Core.Bool.{Bool, true, false, not, cond, ◌&&◌, ◌||◌, beq}
 use lib.Dec.{T, leb, ltb, eqb, ltb→lt, lt→ltb}
 use borrow.Author.Tests.{ne_eqb, le-ltb}
 use lib.Pow.{pow_pos}
-use lib.IntN.{ℤ, pos, negsuc}
+use lib.IntN.{ℤ, negsuc}
 use lib.Ieee.{Float, nan, inf, fin, binary64, up, down, odd, units, round, sum, add, sub, mul, div, neg, lt, le, eq, of_bits, fits, is_nan}
 use lib.Ieee.Bits.{is_true}
-use lib.Ieee.Fits.{up_pos, down_pos, round_is, and_l, and_r}
+use lib.Ieee.Fits.{up_pos, down_pos, round_is, and_r}
 use lib.Ieee.Order.{round_mono}
 use lib.Ieee.Positive.{positive, between}
 use Rattle.doubles.proofs.Floats.{clash}

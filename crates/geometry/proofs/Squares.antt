@@ -7,7 +7,7 @@ use mathlib.Core.Logic.{◌⊎◌, inl, inr}
 use mathlib.Core.Bool.{Bool, true, false, not, ◌&&◌, ◌||◌, true≢false}
 use lib.Dec.{T, ltb, eqb, is_le, compare_is_eq, ltb→lt, nleb→lt, eqb→eq, lit<, lit≤}
 use lib.Pow.{pow-add, pow_pos, pow_mono}
-use lib.Ieee.{Float, nan, inf, fin, binary64, up, down, size, nearest, units, round, lt, le, eq}
+use lib.Ieee.{Float, nan, inf, fin, binary64, up, down, size, nearest, round, lt, le, eq}
 use lib.Ieee.Digits.{size-le}
 use lib.Ieee.Exact.{HasValue, units_val, round_exact}
 use lib.Ieee.Fits.{kept-lt, nearest-le, up_pos, down_pos}

@@ -1,7 +1,7 @@
 -- Worked examples of the closed cylinder of radius 1 and half length 2.
 use mathlib.Core.Path.{◌≡◌, refl}
 use mathlib.Core.Option.{none}
-use lib.Ieee.{Float, binary64, add, sub, mul, div, neg, lt, le, of_bits, to_bits}
+use lib.Ieee.{add, sub, mul, div, neg, lt, le, of_bits, to_bits}
 use Rattle.doubles.specs.Doubles.{abs_of, #0, #1, #2, #3, #5}
 use Rattle.doubles.specs.Root.{sqrt_of}
 use Rattle.rays.specs.declared.Ray.{Ray}

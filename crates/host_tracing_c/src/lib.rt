@@ -29,7 +29,19 @@ pub extern "C" fn nonseq_trace_given_rays(
         ≡ host_trace_rays_of config solid_values.now solid_tags.now count (flat_values rays.now) (flat_tags rays.now) (length rays.now)
         (lent_memory detectors flux.old hits.old hit_values.old hit_tags.old used) }
 {
-    host_tracing::nonseq_trace_given_rays(config, solid_values, solid_tags, count, rays, detectors, flux, hits, hit_values, hit_tags, used)
+    host_tracing::nonseq_trace_given_rays(
+        config,
+        solid_values,
+        solid_tags,
+        count,
+        rays,
+        detectors,
+        flux,
+        hits,
+        hit_values,
+        hit_tags,
+        used,
+    )
 }
 
 // `trace::trace_rays`, if there is an ambient medium of the number given (else 17).
@@ -53,5 +65,19 @@ pub extern "C" fn nonseq_trace_rays(
         ≡ host_trace_rays_of config solid_values.now solid_tags.now count ray_values.now ray_tags.now given
         (lent_memory detectors flux.old hits.old hit_values.old hit_tags.old used) }
 {
-    host_tracing::nonseq_trace_rays(config, solid_values, solid_tags, count, ray_values, ray_tags, given, detectors, flux, hits, hit_values, hit_tags, used)
+    host_tracing::nonseq_trace_rays(
+        config,
+        solid_values,
+        solid_tags,
+        count,
+        ray_values,
+        ray_tags,
+        given,
+        detectors,
+        flux,
+        hits,
+        hit_values,
+        hit_tags,
+        used,
+    )
 }

@@ -18,7 +18,6 @@ use Rattle.detectors.specs.declared.Placed.{Placed}
 use Rattle.detectors.specs.declared.Found.{Found}
 use Rattle.detectors.specs.declared.Found.TheVariants.{There, Refused}
 use Rattle.detectors.specs.declared.Spot.{Spot}
-use Rattle.detectors.specs.declared.Spot.TheVariants as Spot
 use Rattle.detectors.specs.declared.Spot.TheVariants.{Nowhere}
 use Rattle.detectors.specs.Detectors.{placed_of, at_of, as_spot, find_of, as_found}
 use Rattle.detectors.proofs.Lists.{there, nowhere}

@@ -1,9 +1,8 @@
 -- One step of the loop of `advance`, and its end. Assumes nothing.
 use Prim.Native.Nat.{ℕ, zero, suc, ◌<◌, ◌-◌}
-use mathlib.Core.Path.{◌≡◌, refl, sym, ap, ◌∙◌}
-use mathlib.Core.Bool.{Bool, true, false, cond, ◌&&◌, ◌||◌}
-use mathlib.Core.List.{List}
-use mathlib.Core.Option.{Option, none, some}
+use mathlib.Core.Path.{◌≡◌, sym, ap, ◌∙◌}
+use mathlib.Core.Bool.{Bool, true, false, ◌||◌}
+use mathlib.Core.Option.{none, some}
 use native.Mathlib.Omega.{arith}
 use lib.Ieee.{Float}
 use lib.Dec.{ltb}
@@ -13,8 +12,7 @@ use Rattle.error.specs.declared.Check.{Check}
 use Rattle.error.specs.declared.Check.TheVariants.{Passed, Refused}
 use Rattle.error.specs.Refusals.{as_checked}
 use Rattle.detector.specs.declared.DetectorHit.{DetectorHit}
-use Rattle.memory.specs.declared.recording.Recorded.{Recorded}
-use Rattle.memory.specs.Memory.{Memory, lent_memory, Outcome, done, refused, unless, as_outcome, as_recorded, record_of}
+use Rattle.memory.specs.Memory.{Memory, as_outcome, record_of}
 use Rattle.memory.proofs.Records.{both}
 use Rattle.step.specs.declared.ActiveRay.{ActiveRay}
 use Rattle.step.specs.declared.Step as code

@@ -1,5 +1,5 @@
 -- The work stack, the newest ray last.
-use Rattle.std.specs.Prelude.{ℕ, ◌+◌, ◌-◌, Bool, cond, ◌&&◌, List, [], leb, ltb, get_or, set, replicate}
+use Rattle.std.specs.Prelude.{ℕ, ◌+◌, ◌-◌, Bool, cond, ◌&&◌, [], leb, ltb, get_or, set, replicate}
 use Rattle.std.specs.Float.{nan}
 use Rattle.rays.specs.Vectors.{vec3}
 use Rattle.step.specs.declared.ActiveRay.{ActiveRay}

@@ -2,7 +2,7 @@
 use Prim.Native.Nat.{ℕ, ◌<◌}
 use mathlib.Core.Path.{◌≡◌, refl, sym, ap, ◌∙◌, subst}
 use mathlib.Core.Bool.{Bool, true, false, cond}
-use mathlib.Core.Option.{Option, none, some, some-injective, none-ne-some, some-ne-none}
+use mathlib.Core.Option.{Option, none, some, some-injective, none-ne-some}
 use lib.Ieee.{Float, lt, le}
 use Rattle.doubles.proofs.Floats.{clash}
 use Rattle.rays.specs.declared.Ray.{Ray}

@@ -9,14 +9,13 @@ use lib.Ieee.{Float}
 use lib.ListN.{get_or}
 use Rattle.rays.specs.declared.matrix.Mat4.{Mat4}
 use Rattle.rays.specs.declared.Ray.{Ray}
-use Rattle.rays.specs.Matrices.{transform_point_of, transform_direction_of}
 use Rattle.geometry.specs.declared.LocalHit.{LocalHit}
 use Rattle.geometry.specs.declared.PrimitiveGeometry.{PrimitiveGeometry}
 use Rattle.geometry.specs.declared.contact.Contact.{Contact}
 use Rattle.geometry.specs.declared.contact.LocalContact as met
 use Rattle.geometry.specs.Shapes.{intersect_local_of}
 use Rattle.geometry.specs.Transforms.{inverse_transform_ray_of}
-use Rattle.geometry.specs.Contacts.{as_contact, ray_from_of, meet_by, meet_along_of, meet_of}
+use Rattle.geometry.specs.Contacts.{as_contact, meet_by, meet_along_of, meet_of}
 use Rattle.geometry.proofs.Local.{from_is}
 use Rattle.scene.specs.declared.NonSeqObject.{NonSeqObject}
 use Rattle.scene.specs.declared.object.Approach.{Approach}

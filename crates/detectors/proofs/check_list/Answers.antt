@@ -1,10 +1,6 @@
-use Prim.Native.Nat.{◌≤◌, ◌-◌}
-use native.Mathlib.Nat.{sub-zero}
-use mathlib.Core.Path.{◌≡◌}
 use borrow.Author.Rules.{rules}
 use Rattle.detectors.proofs.Lists.{check_again, check_refused, check_end}
 use borrow.Author.Rules.{rules}
-use Rattle.detectors.specs.Detectors.{check_list_of}
 use Rattle.detectors.proofs.check_list.Goals as goal
 
 pub loop-i-preserved : goal.loop-i-preserved

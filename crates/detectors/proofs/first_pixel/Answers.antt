@@ -1,9 +1,8 @@
-use Prim.Native.Nat.{◌≤◌, ◌-◌}
-use mathlib.Core.Path.{◌≡◌, refl}
+use mathlib.Core.Path.{refl}
 use native.Mathlib.Omega.{arith}
 use borrow.Author.Rules.{rules}
 use Rattle.detectors.specs.Detectors.{first_pixel_of}
-use Rattle.detectors.proofs.Lists.{first_again, first_most, turn_most, first_end}
+use Rattle.detectors.proofs.Lists.{first_again, first_most, turn_most}
 use borrow.Author.Rules.{rules}
 use Rattle.detectors.proofs.first_pixel.Goals as goal
 

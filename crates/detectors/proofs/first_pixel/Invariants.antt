@@ -1,10 +1,6 @@
 use Prim.Native.Nat.{◌≤◌, ◌-◌}
-use mathlib.Core.Path.{◌≡◌, refl}
-use native.Mathlib.Omega.{arith}
-use borrow.Author.Rules.{rules}
+use mathlib.Core.Path.{◌≡◌}
 use Rattle.detectors.specs.Detectors.{first_pixel_of}
-use Rattle.detectors.proofs.Lists.{first_again, first_most, turn_most, first_end}
-use borrow.Author.Rules.{rules}
 use Rattle.detectors.proofs.first_pixel.Given as goal
 
 abbrev pub invariant-loop-i : goal.invariant-loop-i

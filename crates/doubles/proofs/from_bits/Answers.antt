@@ -1,4 +1,4 @@
-use Rattle.std.proofs.Common.{sym, ◌∙◌, rules}
+use Rattle.std.proofs.Common.{sym, ◌∙◌}
 use Rattle.doubles.proofs.Floats.{nan_pattern, no_nan_pattern, zero_by_zero}
 use Rattle.doubles.proofs.from_bits.Goals as goal
 

@@ -1,4 +1,3 @@
-use lib.Ieee.{of_bits}
 use Rattle.doubles.specs.Doubles.{max_zero_of}
 use Rattle.doubles.proofs.max_zero.Goals as goal
 

@@ -1,4 +1,4 @@
-use Rattle.std.proofs.Common.{◌≡◌, ℕ, sym, refl, subst, rules}
+use Rattle.std.proofs.Common.{◌≡◌, sym, refl, subst}
 use lib.Ieee.{Float, nan, binary64, to_bits}
 use Rattle.doubles.proofs.Floats.{same_no_nan, differs_is_nan}
 use Rattle.doubles.proofs.to_bits.Goals as goal

@@ -1,4 +1,4 @@
-use Rattle.std.proofs.Common.{T, sym, subst, rules}
+use Rattle.std.proofs.Common.{T, sym, subst}
 use lib.Ieee.{of_bits, neg}
 use Rattle.doubles.proofs.Small.{at_most, at_least}
 use Rattle.doubles.proofs.to_usize.Goals as goal

@@ -1,5 +1,4 @@
 use Rattle.faces.proofs.Sights.{missed, nearer-seen, farther}
-use borrow.Author.Rules.{rules}
 use Rattle.faces.proofs.nearer.Goals as goal
 
 pub returns-then-is_nearer : goal.returns-then-is_nearer

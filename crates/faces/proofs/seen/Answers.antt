@@ -1,6 +1,5 @@
 use borrow.Author.Tests.{lt-ltb, le-ltb}
 use Rattle.faces.specs.Faces.{seen_of, sight_from}
-use borrow.Author.Rules.{rules}
 use Rattle.faces.proofs.seen.Goals as goal
 
 pub returns-then-i-n : goal.returns-then-i-n

@@ -1,9 +1,5 @@
-use Prim.Native.Nat.{ℕ, ◌≤◌, ◌<◌, ◌-◌, ◌+◌, ◌*◌}
-use mathlib.Core.Path.{◌≡◌}
-use native.Mathlib.Omega.{arith}
 use borrow.Author.Rules.{rules}
-use Rattle.given_rays.proofs.Loops.{solids_start, solids-again, solids-not, solids-end}
-use Rattle.given_rays.specs.Given.{all_solids_of}
+use Rattle.given_rays.proofs.Loops.{solids-again, solids-not, solids-end}
 use Rattle.given_rays.proofs.all_solids.Goals as goal
 
 pub loop-i-preserved : goal.loop-i-preserved

@@ -1,8 +1,5 @@
-use Prim.Native.Nat.{ℕ, ◌≤◌, ◌<◌, ◌-◌, ◌+◌, ◌*◌}
+use Prim.Native.Nat.{◌≤◌, ◌-◌}
 use mathlib.Core.Path.{◌≡◌}
-use native.Mathlib.Omega.{arith}
-use borrow.Author.Rules.{rules}
-use Rattle.given_rays.proofs.Loops.{solids_start, solids-again, solids-not, solids-end}
 use Rattle.given_rays.specs.Given.{all_solids_of}
 use Rattle.given_rays.proofs.all_solids.Given as goal
 

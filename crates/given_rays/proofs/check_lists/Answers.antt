@@ -1,6 +1,5 @@
 use borrow.Author.Tests.{eq-eqb, ne_eqb}
 use Rattle.given_rays.specs.Given.{check_lists_of}
-use borrow.Author.Rules.{rules}
 use Rattle.given_rays.proofs.check_lists.Goals as goal
 
 pub returns-then-ray_tags-rays : goal.returns-then-ray_tags-rays

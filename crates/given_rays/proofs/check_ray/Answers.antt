@@ -1,5 +1,4 @@
 use Rattle.given_rays.specs.Given.{check_ray_of}
-use borrow.Author.Rules.{rules}
 use Rattle.given_rays.proofs.check_ray.Goals as goal
 
 pub returns-then-valid_media : goal.returns-then-valid_media

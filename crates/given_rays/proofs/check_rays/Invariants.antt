@@ -1,7 +1,5 @@
-use Prim.Native.Nat.{ℕ, ◌≤◌, ◌<◌, ◌-◌, ◌+◌, ◌*◌}
+use Prim.Native.Nat.{◌-◌}
 use mathlib.Core.Path.{◌≡◌}
-use borrow.Author.Rules.{rules}
-use Rattle.given_rays.proofs.Loops.{rays-start, rays-again, rays-refused, rays-end}
 use Rattle.given_rays.specs.Given.{check_rays_of, given_at_of}
 use Rattle.given_rays.proofs.check_rays.Given as goal
 

@@ -1,6 +1,5 @@
 use borrow.Author.Tests.{le-leb, lt-leb}
 use Rattle.given_rays.specs.Given.{given_at_of}
-use borrow.Author.Rules.{rules}
 use Rattle.given_rays.proofs.given_at.Goals as goal
 
 pub returns-then-i-ray_tags : goal.returns-then-i-ray_tags

@@ -1,9 +1,4 @@
-use Prim.Native.Nat.{ℕ, ◌≤◌, ◌<◌, ◌-◌, ◌+◌, ◌*◌}
-use mathlib.Core.Path.{◌≡◌}
-use borrow.Author.Rules.{rules}
-use Rattle.given_rays.specs.Given.{given_at_of, launched_from}
 use Rattle.given_rays.proofs.Loops.{launch_start, launch-again, launch-end}
-use Rattle.given_rays.specs.Given.{given_at_of, launched_from, launched_of}
 use Rattle.given_rays.proofs.launched.Goals as goal
 
 pub loop-i-init : goal.loop-i-init

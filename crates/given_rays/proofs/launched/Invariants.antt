@@ -1,8 +1,6 @@
-use Prim.Native.Nat.{ℕ, ◌≤◌, ◌<◌, ◌-◌, ◌+◌, ◌*◌}
+use Prim.Native.Nat.{◌-◌}
 use mathlib.Core.Path.{◌≡◌}
-use borrow.Author.Rules.{rules}
 use Rattle.given_rays.specs.Given.{given_at_of, launched_from}
-use Rattle.given_rays.proofs.Loops.{launch_start, launch-again, launch-end}
 use Rattle.given_rays.specs.Given.{given_at_of, launched_from, launched_of}
 use Rattle.given_rays.proofs.launched.Given as goal
 

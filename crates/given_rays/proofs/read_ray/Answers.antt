@@ -1,6 +1,5 @@
 use mathlib.Core.Path.{refl}
 use Rattle.given_rays.specs.Given.{read_ray_of}
-use borrow.Author.Rules.{rules}
 use Rattle.given_rays.proofs.read_ray.Goals as goal
 
 pub returns : goal.returns

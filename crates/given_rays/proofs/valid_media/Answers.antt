@@ -1,6 +1,5 @@
 use borrow.Author.Tests.{le-leb, lt-leb}
 use Rattle.given_rays.specs.Given.{valid_media_of}
-use borrow.Author.Rules.{rules}
 use Rattle.given_rays.proofs.valid_media.Goals as goal
 
 pub returns-then-media-le-MAX_GIVEN_MEDIA : goal.returns-then-media-le-MAX_GIVEN_MEDIA

@@ -1,5 +1,4 @@
 use Rattle.material.specs.Media.{constant_of}
-use borrow.Author.Rules.{rules}
 use Rattle.material.proofs.constant.Goals as goal
 
 pub returns-then-n : goal.returns-then-n

@@ -1,5 +1,4 @@
 use Rattle.material.specs.Media.{root_of_square_of}
-use borrow.Author.Rules.{rules}
 use Rattle.material.proofs.root_of_square.Goals as goal
 
 pub returns-then-n2 : goal.returns-then-n2

@@ -1,5 +1,4 @@
 use Rattle.material.specs.Media.{sellmeier_of}
-use borrow.Author.Rules.{rules}
 use Rattle.material.proofs.sellmeier.Goals as goal
 
 pub returns : goal.returns

@@ -1,9 +1,6 @@
-use Prim.Native.Nat.{ℕ, ◌≤◌, ◌<◌, ◌-◌, ◌+◌, ◌*◌}
-use mathlib.Core.Path.{◌≡◌, refl, ◌∙◌}
-use native.Mathlib.Omega.{arith}
+use mathlib.Core.Path.{◌∙◌}
 use borrow.Author.Rules.{rules}
 use Rattle.media.proofs.Places.{last_here, last_before, last_none}
-use Rattle.media.specs.Media.{last_place_of}
 use Rattle.media.proofs.last_place.Goals as goal
 
 pub returns-then-s-solid : goal.returns-then-s-solid

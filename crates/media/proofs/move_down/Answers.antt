@@ -1,10 +1,5 @@
-use Prim.Native.Nat.{ℕ, ◌≤◌, ◌<◌, ◌-◌, ◌+◌, ◌*◌}
-use mathlib.Core.Path.{◌≡◌, refl}
-use lib.ListN.{length}
-use native.Mathlib.Omega.{arith}
 use borrow.Author.Rules.{rules}
 use Rattle.media.proofs.Places.{down_again, down_end}
-use Rattle.media.specs.Media.{move_down_of}
 use Rattle.media.proofs.move_down.Goals as goal
 
 pub loop-i-preserved : goal.loop-i-preserved

@@ -1,5 +1,4 @@
 use Rattle.report.specs.Report.{is_interaction_of}
-use borrow.Author.Rules.{rules}
 use Rattle.report.proofs.is_interaction.Goals as goal
 
 pub returns-in-Dim : goal.returns-in-Dim

@@ -1,14 +1,9 @@
-use Prim.Native.Nat.{ℕ, ◌≤◌, ◌<◌, ◌-◌}
-use mathlib.Core.Path.{◌≡◌, refl, ◌∙◌}
-use native.Mathlib.Omega.{arith}
+use mathlib.Core.Path.{◌≡◌}
 use lib.ListN.{length}
-use borrow.Author.Rules.{rules}
 use Rattle.memory.specs.Memory.{lent_memory, as_outcome, record_of}
-use Rattle.step.specs.Rays.{listed_scene, as_step}
+use Rattle.step.specs.Rays.{listed_scene}
 use Rattle.given_rays.specs.Given.{given_at_of}
 use Rattle.run.specs.Run.{and_then, drive}
-use Rattle.run.proofs.Places.{taken_is, after_quiet, after_hit}
-use Rattle.run.proofs.Steps.{goes_pos, stops, step-hit, step-no-hit}
 use Rattle.run.proofs.advance.Given as goal
 
 abbrev pub invariant-loop-check : goal.invariant-loop-check

@@ -1,5 +1,4 @@
-use Rattle.std.proofs.Common.{ℕ, ◌/◌, ◌%◌, ◌^◌, ◌<◌, ◌∙◌, arith, rules}
-use Rattle.doubles.proofs.Squares.{product_lt}
+use Rattle.std.proofs.Common.{◌∙◌}
 use Rattle.source.proofs.Products.{low_product}
 use Rattle.source.proofs.wrapping_mul.Goals as goal
 

@@ -1,5 +1,4 @@
 use Rattle.step.specs.Steps.{interact_of, meets_with}
-use borrow.Author.Rules.{rules}
 use Rattle.step.proofs.interact.Goals as goal
 
 pub returns-in-Detector : goal.returns-in-Detector

@@ -1,6 +1,5 @@
 use borrow.Author.Tests.{lt-ltb, le-ltb}
 use Rattle.step.specs.Rays.{more_of}
-use borrow.Author.Rules.{rules}
 use Rattle.step.proofs.more.Goals as goal
 
 pub returns-then-n-lt-MAX_COUNT : goal.returns-then-n-lt-MAX_COUNT

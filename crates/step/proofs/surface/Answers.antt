@@ -1,5 +1,4 @@
 use Rattle.step.specs.Steps.{surface_by, surface_of}
-use borrow.Author.Rules.{rules}
 use Rattle.step.proofs.surface.Goals as goal
 
 pub returns-in-Specular : goal.returns-in-Specular

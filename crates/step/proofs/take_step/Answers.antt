@@ -1,6 +1,5 @@
 use borrow.Author.Tests.{le-leb, lt-leb}
 use Rattle.step.specs.Steps.{take_step_of}
-use borrow.Author.Rules.{rules}
 use Rattle.step.proofs.take_step.Goals as goal
 
 pub returns-then-a-config : goal.returns-then-a-config

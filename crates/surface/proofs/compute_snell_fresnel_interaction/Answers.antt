@@ -1,5 +1,4 @@
 use Rattle.surface.specs.Fresnel.{compute_snell_fresnel_interaction_of}
-use borrow.Author.Rules.{rules}
 use Rattle.surface.proofs.compute_snell_fresnel_interaction.Goals as goal
 
 pub returns-then-radicand : goal.returns-then-radicand

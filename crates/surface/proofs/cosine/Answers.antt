@@ -1,5 +1,4 @@
 use Rattle.surface.specs.Fresnel.{cosine_of}
-use borrow.Author.Rules.{rules}
 use Rattle.surface.proofs.cosine.Goals as goal
 
 pub returns : goal.returns

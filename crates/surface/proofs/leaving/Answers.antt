@@ -1,5 +1,4 @@
 use Rattle.surface.specs.Fresnel.{leaving_of}
-use borrow.Author.Rules.{rules}
 use Rattle.surface.proofs.leaving.Goals as goal
 
 pub returns : goal.returns

@@ -1,5 +1,4 @@
 use Rattle.surface.specs.Fresnel.{mirrored_of}
-use borrow.Author.Rules.{rules}
 use Rattle.surface.proofs.mirrored.Goals as goal
 
 pub returns : goal.returns

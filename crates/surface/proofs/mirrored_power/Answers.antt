@@ -1,5 +1,4 @@
 use Rattle.surface.specs.Fresnel.{mirrored_power_of}
-use borrow.Author.Rules.{rules}
 use Rattle.surface.proofs.mirrored_power.Goals as goal
 
 pub returns : goal.returns

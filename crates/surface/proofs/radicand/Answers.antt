@@ -1,5 +1,4 @@
 use Rattle.surface.specs.Fresnel.{radicand_of}
-use borrow.Author.Rules.{rules}
 use Rattle.surface.proofs.radicand.Goals as goal
 
 pub returns : goal.returns

@@ -1,5 +1,4 @@
 use Rattle.surface.specs.Fresnel.{reflectance_of}
-use borrow.Author.Rules.{rules}
 use Rattle.surface.proofs.reflectance.Goals as goal
 
 pub returns : goal.returns

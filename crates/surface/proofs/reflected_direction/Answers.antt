@@ -1,5 +1,4 @@
 use Rattle.surface.specs.Fresnel.{reflected_direction_of}
-use borrow.Author.Rules.{rules}
 use Rattle.surface.proofs.reflected_direction.Goals as goal
 
 pub returns : goal.returns

@@ -1,5 +1,4 @@
 use Rattle.surface.specs.Fresnel.{refract_of}
-use borrow.Author.Rules.{rules}
 use Rattle.surface.proofs.refract.Goals as goal
 
 pub returns : goal.returns

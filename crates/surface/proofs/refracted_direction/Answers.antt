@@ -1,5 +1,4 @@
 use Rattle.surface.specs.Fresnel.{refracted_direction_of}
-use borrow.Author.Rules.{rules}
 use Rattle.surface.proofs.refracted_direction.Goals as goal
 
 pub returns : goal.returns

@@ -1,6 +1,5 @@
 use mathlib.Core.Path.{refl}
 use Rattle.detector.specs.Pixels.{area_of}
-use borrow.Author.Rules.{rules}
 use Rattle.detector.proofs.Detector2D.area.Goals as goal
 
 pub returns : goal.returns

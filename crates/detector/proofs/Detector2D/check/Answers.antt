@@ -1,5 +1,4 @@
 use Rattle.detector.specs.Checks.{check_detector_of}
-use borrow.Author.Rules.{rules}
 use Rattle.detector.proofs.Detector2D.check.Goals as goal
 
 pub returns-then-is_size-2 : goal.returns-then-is_size-2

@@ -1,6 +1,5 @@
 use borrow.Author.Tests.{le-leb, lt-leb, eq-eqb, ne_eqb}
 use Rattle.detector.specs.Checks.{check_grid_of}
-use borrow.Author.Rules.{rules}
 use Rattle.detector.proofs.Detector2D.check_grid.Goals as goal
 
 pub returns-then-self-eq0 : goal.returns-then-self-eq0

@@ -1,5 +1,4 @@
 use Rattle.detector.specs.Checks.{check_pose_of}
-use borrow.Author.Rules.{rules}
 use Rattle.detector.proofs.Detector2D.check_pose.Goals as goal
 
 pub returns-then-is_parallel : goal.returns-then-is_parallel

@@ -1,5 +1,4 @@
 use Rattle.detector.specs.Faces.{face_of}
-use borrow.Author.Rules.{rules}
 use Rattle.detector.proofs.Detector2D.face.Goals as goal
 
 pub returns : goal.returns

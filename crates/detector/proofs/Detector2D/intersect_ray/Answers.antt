@@ -1,5 +1,4 @@
 use Rattle.detector.specs.Faces.{intersect_ray_of}
-use borrow.Author.Rules.{rules}
 use Rattle.detector.proofs.Detector2D.intersect_ray.Goals as goal
 
 pub returns-then-is_valid : goal.returns-then-is_valid

@@ -1,5 +1,4 @@
 use Rattle.detector.specs.Pixels.{irradiance_of}
-use borrow.Author.Rules.{rules}
 use Rattle.detector.proofs.Detector2D.irradiance.Goals as goal
 
 pub returns-then-area : goal.returns-then-area

@@ -1,5 +1,4 @@
 use Rattle.detector.specs.Checks.{new_detector_of}
-use borrow.Author.Rules.{rules}
 use Rattle.detector.proofs.Detector2D.new.Goals as goal
 
 pub returns-in-Refused : goal.returns-in-Refused

@@ -1,5 +1,4 @@
 use Rattle.detector.specs.Pixels.{pixel_area_m2_of}
-use borrow.Author.Rules.{rules}
 use Rattle.detector.proofs.Detector2D.pixel_area_m2.Goals as goal
 
 pub returns-in-Refused : goal.returns-in-Refused

@@ -1,7 +1,6 @@
 use Rattle.detector.specs.Pixels.{pixel_at_of}
 use native.Mathlib.Omega.{arith}
 use Rattle.detector.proofs.Grid.{row_fits, place_fits, place_most}
-use borrow.Author.Rules.{rules}
 use Rattle.detector.proofs.Detector2D.pixel_at.Goals as goal
 
 pub overflow_mul-result : goal.overflow_mul-result

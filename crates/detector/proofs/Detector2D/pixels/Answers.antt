@@ -1,8 +1,5 @@
 use borrow.Author.Tests.{le-leb, lt-leb}
 use Rattle.detector.specs.Pixels.{pixels_of}
-use native.Mathlib.Omega.{arith}
-use Rattle.detector.proofs.Grid.{grid_most}
-use borrow.Author.Rules.{rules}
 use Rattle.detector.proofs.Detector2D.pixels.Goals as goal
 
 pub returns-then-self-le-MAX_RES-2 : goal.returns-then-self-le-MAX_RES-2

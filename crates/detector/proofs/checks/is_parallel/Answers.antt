@@ -1,5 +1,4 @@
 use Rattle.detector.specs.Checks.{is_parallel_of}
-use borrow.Author.Rules.{rules}
 use Rattle.detector.proofs.checks.is_parallel.Goals as goal
 
 pub returns : goal.returns

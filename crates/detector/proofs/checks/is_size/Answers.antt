@@ -1,5 +1,4 @@
 use Rattle.detector.specs.Checks.{is_size_of}
-use borrow.Author.Rules.{rules}
 use Rattle.detector.proofs.checks.is_size.Goals as goal
 
 pub returns-then-x : goal.returns-then-x

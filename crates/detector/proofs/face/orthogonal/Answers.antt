@@ -1,5 +1,4 @@
 use Rattle.detector.specs.Faces.{orthogonal_of}
-use borrow.Author.Rules.{rules}
 use Rattle.detector.proofs.face.orthogonal.Goals as goal
 
 pub returns : goal.returns

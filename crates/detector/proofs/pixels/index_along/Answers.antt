@@ -1,5 +1,4 @@
 use Rattle.detector.specs.Pixels.{index_along_of}
-use borrow.Author.Rules.{rules}
 use Rattle.detector.proofs.pixels.index_along.Goals as goal
 
 pub returns : goal.returns

@@ -1,6 +1,5 @@
 use borrow.Author.Tests.{le-leb, lt-leb}
 use Rattle.detectors.specs.Detectors.{all_pixels_of}
-use borrow.Author.Rules.{rules}
 use Rattle.detectors.proofs.Detectors.all_pixels.Goals as goal
 
 pub returns-then-self-le-MAX : goal.returns-then-self-le-MAX

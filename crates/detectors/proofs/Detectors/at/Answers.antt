@@ -1,6 +1,5 @@
 use borrow.Author.Tests.{lt-ltb, le-ltb}
 use Rattle.detectors.specs.Detectors.{at_of}
-use borrow.Author.Rules.{rules}
 use Rattle.detectors.proofs.Detectors.at.Goals as goal
 
 pub returns-then-d-lt-MAX : goal.returns-then-d-lt-MAX

@@ -1,5 +1,4 @@
 use Rattle.detectors.specs.Detectors.{check_detectors_of}
-use borrow.Author.Rules.{rules}
 use Rattle.detectors.proofs.Detectors.check.Goals as goal
 
 pub returns-in-Passed : goal.returns-in-Passed

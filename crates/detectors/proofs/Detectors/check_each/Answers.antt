@@ -1,6 +1,5 @@
 use borrow.Author.Tests.{le-leb, lt-leb}
 use Rattle.detectors.specs.Detectors.{check_each_of}
-use borrow.Author.Rules.{rules}
 use Rattle.detectors.proofs.Detectors.check_each.Goals as goal
 
 pub returns-then-self-le-MAX : goal.returns-then-self-le-MAX

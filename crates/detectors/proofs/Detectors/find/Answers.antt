@@ -2,7 +2,6 @@ use borrow.Author.Tests.{lt-ltb, le-ltb}
 use Rattle.detectors.specs.Detectors.{check_asked, find_of}
 use native.Mathlib.Omega.{arith}
 use Rattle.detectors.proofs.Passed.{count_most}
-use borrow.Author.Rules.{rules}
 use Rattle.detectors.proofs.Detectors.find.Goals as goal
 
 pub placed-requires : goal.placed-requires

@@ -1,5 +1,4 @@
 use Rattle.detectors.specs.Detectors.{placed_of}
-use borrow.Author.Rules.{rules}
 use Rattle.detectors.proofs.Detectors.placed.Goals as goal
 
 pub returns : goal.returns

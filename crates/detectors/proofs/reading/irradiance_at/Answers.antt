@@ -3,7 +3,6 @@ use Rattle.detectors.specs.Readings.{irradiance_at_of, irradiance_from}
 use mathlib.Core.Path.{ap}
 use Rattle.detectors.specs.Detectors.{as_found}
 use Rattle.detectors.proofs.Passed.{grid_in}
-use borrow.Author.Rules.{rules}
 use Rattle.detectors.proofs.reading.irradiance_at.Goals as goal
 
 pub irradiance_in-requires : goal.irradiance_in-requires

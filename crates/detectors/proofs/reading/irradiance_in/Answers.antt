@@ -1,8 +1,5 @@
 use borrow.Author.Tests.{lt-ltb, le-ltb}
 use Rattle.detectors.specs.Readings.{irradiance_in_of}
-use native.Mathlib.Omega.{arith}
-use Rattle.detectors.proofs.Passed.{pixel_at}
-use borrow.Author.Rules.{rules}
 use Rattle.detectors.proofs.reading.irradiance_in.Goals as goal
 
 pub returns-then-py-d : goal.returns-then-py-d

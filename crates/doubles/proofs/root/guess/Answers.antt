@@ -1,4 +1,4 @@
-use Rattle.std.proofs.Common.{refl, arith, rules}
+use Rattle.std.proofs.Common.{refl, arith}
 use Rattle.doubles.proofs.Floats.{positive_no_nan}
 use Rattle.doubles.specs.Guess.{guess_of, scaled_bits}
 use Rattle.doubles.proofs.root.guess.Goals as goal

@@ -1,4 +1,4 @@
-use Rattle.std.proofs.Common.{◌/◌, ◌%◌, ◌^◌, arith, rules}
+use Rattle.std.proofs.Common.{◌/◌, ◌%◌, ◌^◌, arith}
 use Rattle.doubles.proofs.Squares.{Halves, halves, pinned, fails_1, fails_2, fails_3, fails-4, fails-5, fails-6}
 use Rattle.doubles.proofs.root.is_nearest_root.Goals as goal
 

@@ -1,5 +1,5 @@
-use Rattle.std.proofs.Common.{◌-◌, ◌<◌, ◌≤◌, arith}
-use Rattle.doubles.proofs.Slow.{Kept, root_small, up, down, end_up, end_down, small}
+use Rattle.std.proofs.Common.{arith}
+use Rattle.doubles.proofs.Slow.{up, down, end_up, end_down, small}
 use Rattle.doubles.proofs.root.nearest_root.Goals as goal
 
 pub overflow_mul-r : goal.overflow_mul-r

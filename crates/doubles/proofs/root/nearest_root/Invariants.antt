@@ -1,5 +1,5 @@
-use Rattle.std.proofs.Common.{◌-◌, ◌<◌, ◌≤◌, arith}
-use Rattle.doubles.proofs.Slow.{Kept, root_small, up, down, end_up, end_down, small}
+use Rattle.std.proofs.Common.{◌-◌}
+use Rattle.doubles.proofs.Slow.{Kept}
 use Rattle.doubles.proofs.root.nearest_root.Given as goal
 
 abbrev pub invariant-loop-j : goal.invariant-loop-j

@@ -1,4 +1,4 @@
-use Rattle.std.proofs.Common.{arith, rules}
+use Rattle.std.proofs.Common.{arith}
 use Rattle.doubles.proofs.Floats.{positive_no_nan}
 use Rattle.doubles.proofs.Beside.{root_beside}
 use Rattle.doubles.proofs.root.root_beside_one.Goals as goal

@@ -1,4 +1,4 @@
-use Rattle.std.proofs.Common.{◌+◌, ◌/◌, ◌%◌, ◌^◌, sym, ◌∙◌, arith, rules}
+use Rattle.std.proofs.Common.{◌+◌, ◌/◌, ◌%◌, ◌^◌, sym, ◌∙◌, arith}
 use Rattle.doubles.proofs.Floats.{positive_no_nan}
 use Rattle.doubles.proofs.Squares.{near_of_true}
 use Rattle.doubles.proofs.Whole.{nearest_of}

@@ -1,4 +1,4 @@
-use Rattle.std.proofs.Common.{◌≡◌, ◌*◌, ◌^◌, ◌<◌, T, sym, ap, ◌∙◌, subst, rules}
+use Rattle.std.proofs.Common.{T, sym, ◌∙◌, subst}
 use lib.Ieee.{binary64, fits, to_bits}
 use lib.Ieee.Bits.{to_bits-lt}
 use Rattle.doubles.proofs.Floats.{same_no_nan, differs_is_nan, zero_by_zero}

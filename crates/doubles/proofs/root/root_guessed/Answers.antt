@@ -1,5 +1,4 @@
 use Rattle.doubles.proofs.Floats.{same_no_nan}
-use Rattle.std.proofs.Common.{rules}
 use Rattle.doubles.proofs.root.root_guessed.Goals as goal
 
 pub float_to_bits-g : goal.float_to_bits-g

@@ -1,7 +1,6 @@
-use Rattle.std.proofs.Common.{◌+◌, ◌/◌, ◌%◌, ◌^◌, ◌<◌, arith, rules}
+use Rattle.std.proofs.Common.{◌+◌, ◌/◌, ◌%◌, ◌^◌, ◌<◌, arith}
 use Rattle.doubles.proofs.Floats.{positive_no_nan}
 use Rattle.doubles.proofs.Roots.{digits_least, digits_most, even_most, evened_in, root_most, normal_root}
-use Rattle.doubles.specs.Root.{sqrt_of}
 use Rattle.doubles.proofs.root.root_slowly.Goals as goal
 
 most : (c : goal.After-nearest_root-r) → c.nearest_root-r.result < 2 ^ 53

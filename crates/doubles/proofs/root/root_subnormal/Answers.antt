@@ -1,5 +1,5 @@
-use Rattle.std.proofs.Common.{◌≡◌, ℕ, ◌+◌, ◌-◌, ◌*◌, ◌/◌, ◌%◌, ◌^◌, ◌<◌, ◌≤◌, sym, ap, subst, arith, rules}
-use lib.Count.{count_leading_zeros, leading_le}
+use Rattle.std.proofs.Common.{◌≡◌, ℕ, ◌+◌, ◌-◌, ◌*◌, ◌%◌, ◌^◌, ◌<◌, ◌≤◌, sym, subst, arith}
+use lib.Count.{count_leading_zeros}
 use Rattle.doubles.specs.Root.{nearest_root_of}
 use Rattle.doubles.proofs.Floats.{positive_no_nan}
 use Rattle.doubles.proofs.Roots.{Aligned, aligned, sub_even, evened_in, root_most, subnormal_root}

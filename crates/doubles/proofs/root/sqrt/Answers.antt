@@ -1,4 +1,4 @@
-use Rattle.std.proofs.Common.{T, sym, subst, rules}
+use Rattle.std.proofs.Common.{T, sym, subst}
 use lib.Ieee.{binary64, fits}
 use Rattle.doubles.proofs.Floats.{same_no_nan, differs_is_nan}
 use Rattle.doubles.proofs.Roots.{own_nan, by_bits}

@@ -1,6 +1,5 @@
 use Rattle.faces.specs.Faces.{sights, nearest_detector_of}
 use Rattle.faces.proofs.Written.{written_out}
-use borrow.Author.Rules.{rules}
 use Rattle.faces.proofs.Faces.nearest_detector.Goals as goal
 
 pub returns : goal.returns

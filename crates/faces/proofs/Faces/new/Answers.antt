@@ -1,5 +1,4 @@
 use Rattle.faces.specs.Faces.{new_faces_of}
-use borrow.Author.Rules.{rules}
 use Rattle.faces.proofs.Faces.new.Goals as goal
 
 pub returns : goal.returns

@@ -1,6 +1,5 @@
 use borrow.Author.Tests.{lt-ltb, le-ltb}
 use Rattle.fields.specs.Number.{digit_of}
-use borrow.Author.Rules.{rules}
 use Rattle.fields.proofs.number.digit.Goals as goal
 
 pub returns-then-b-lt48 : goal.returns-then-b-lt48

@@ -1,6 +1,5 @@
 use borrow.Author.Tests.{lt-ltb, le-ltb}
 use Rattle.fields.specs.Number.{digit_at_of}
-use borrow.Author.Rules.{rules}
 use Rattle.fields.proofs.number.digit_at.Goals as goal
 
 pub returns-then-i-t : goal.returns-then-i-t

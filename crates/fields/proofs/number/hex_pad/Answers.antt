@@ -1,10 +1,7 @@
 use borrow.Author.Rules.{rules}
-use mathlib.Core.Path.{◌≡◌, refl}
-use Prim.Native.Nat.{◌+◌, ◌-◌, ◌*◌, ◌^◌, ◌≤◌, ◌<◌}
+use Prim.Native.Nat.{◌+◌, ◌*◌, ◌^◌, ◌<◌}
 use native.Mathlib.Omega.{arith}
-use lib.ListN.{drop}
 use Rattle.fields.proofs.Digits.{pow_again, pow_fits, pad_step, pad_done, digit_at_lt}
-use Rattle.fields.specs.Number.{hex_pad_of}
 use Rattle.fields.proofs.number.hex_pad.Goals as goal
 
 small : (c : goal.After-digit_at) → c.digit_at.result < 16
@@ -19,10 +16,10 @@ overflow_add-v c = record { fits = pow_fits _ _ _ c.loop-i.invariant.1 (omega ar
 
 pub loop-i-preserved : goal.loop-i-preserved
 loop-i-preserved c = (
-      search rules,
-      pow_again _ _ _ c.loop-i.invariant.1 (small c),
-      rw c.digit_at.ensures (pad_step _ _ _ _ (omega arith) c.loop-i.invariant.2),
-    )
+  search rules,
+  pow_again _ _ _ c.loop-i.invariant.1 (small c),
+  rw c.digit_at.ensures (pad_step _ _ _ _ (omega arith) c.loop-i.invariant.2),
+)
 
 pub returns : goal.returns
 returns c = pad_done _ _ _ _ (omega arith) c.loop-i.invariant.2

@@ -1,9 +1,6 @@
-use borrow.Author.Rules.{rules}
-use mathlib.Core.Path.{◌≡◌, refl}
-use Prim.Native.Nat.{◌+◌, ◌-◌, ◌*◌, ◌^◌, ◌≤◌, ◌<◌}
-use native.Mathlib.Omega.{arith}
+use mathlib.Core.Path.{◌≡◌}
+use Prim.Native.Nat.{◌-◌, ◌^◌, ◌≤◌, ◌<◌}
 use lib.ListN.{drop}
-use Rattle.fields.proofs.Digits.{pow_again, pow_fits, pad_step, pad_done, digit_at_lt}
 use Rattle.fields.specs.Number.{hex_pad_of}
 use Rattle.fields.proofs.number.hex_pad.Given as goal
 

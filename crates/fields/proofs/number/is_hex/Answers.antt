@@ -1,9 +1,4 @@
-use borrow.Author.Rules.{rules}
-use mathlib.Core.Path.{◌≡◌, refl}
-use Prim.Native.Nat.{◌-◌}
-use lib.ListN.{length, drop}
 use Rattle.fields.proofs.Digits.{hex_again, hex_stop, hex_end}
-use Rattle.fields.specs.Number.{is_hex_of}
 use Rattle.fields.proofs.number.is_hex.Goals as goal
 
 pub returns-then-digit-ge16 : goal.returns-then-digit-ge16

@@ -1,6 +1,5 @@
 use borrow.Author.Tests.{lt-ltb, le-ltb}
 use Rattle.fields.specs.Number.{is_led_by_zero_of}
-use borrow.Author.Rules.{rules}
 use Rattle.fields.proofs.number.is_led_by_zero.Goals as goal
 
 pub returns-then-t-lt2 : goal.returns-then-t-lt2

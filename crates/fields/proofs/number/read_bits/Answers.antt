@@ -1,7 +1,5 @@
 use borrow.Author.Tests.{lt-ltb, le-ltb, eq-eqb, ne_eqb}
 use Rattle.fields.specs.Number.{read_bits_of}
-use mathlib.Core.Path.{sym, ◌∙◌}
-use borrow.Author.Rules.{rules}
 use Rattle.fields.proofs.number.read_bits.Goals as goal
 
 pub returns-then-n-eq0 : goal.returns-then-n-eq0

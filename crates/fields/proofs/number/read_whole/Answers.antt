@@ -1,10 +1,8 @@
-use Prim.Native.Nat.{ℕ, ◌≤◌, ◌<◌, ◌-◌, ◌+◌, ◌*◌, ◌^◌}
-use mathlib.Core.Path.{◌≡◌, refl, sym, ◌∙◌}
-use mathlib.Core.Bool.{true}
+use Prim.Native.Nat.{◌+◌, ◌*◌}
+use mathlib.Core.Path.{sym, ◌∙◌}
 use native.Mathlib.Omega.{arith}
 use borrow.Author.Rules.{rules}
-use lib.ListN.{length, drop, get_or}
-use Rattle.fields.specs.Number.{digit_of, is_decimal, decimal_from}
+use lib.ListN.{drop}
 use Rattle.fields.proofs.Digits.{dec_again, dec_stop, from_again, from_grows, whole_none, whole-led, whole-bad, whole-big, whole_is, dec_end, from_end}
 use Rattle.fields.proofs.number.read_whole.Goals as goal
 

@@ -2,7 +2,6 @@ use native.Mathlib.Omega.{arith}
 use Rattle.fields.proofs.Parts.{end_in}
 use borrow.Author.Tests.{lt-ltb, le-ltb}
 use Rattle.fields.specs.Split.{after_of}
-use borrow.Author.Rules.{rules}
 use Rattle.fields.proofs.split.after.Goals as goal
 
 pub returns-then-s-at : goal.returns-then-s-at

@@ -1,11 +1,7 @@
-use borrow.Author.Rules.{rules}
-use mathlib.Core.Path.{◌≡◌, refl}
+use mathlib.Core.Path.{◌≡◌}
 use Prim.Native.Nat.{suc, ◌+◌, ◌-◌, ◌≤◌}
-use native.Mathlib.Omega.{arith}
 use lib.ListN.{length, drop}
 use Rattle.fields.specs.Split.{later}
-use Rattle.fields.proofs.Parts.{count_here, count_again, count_end}
-use Rattle.fields.specs.Split.{split}
 use Rattle.fields.proofs.split.count_parts.Given as goal
 
 abbrev pub invariant-loop-i : goal.invariant-loop-i

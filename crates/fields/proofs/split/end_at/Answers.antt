@@ -1,8 +1,3 @@
-use borrow.Author.Rules.{rules}
-use mathlib.Core.Path.{◌≡◌, refl}
-use Prim.Native.Nat.{◌+◌, ◌-◌}
-use lib.ListN.{length, drop}
-use Rattle.fields.specs.Split.{before}
 use Rattle.fields.proofs.Parts.{end_here, end_again, end_end}
 use Rattle.fields.specs.Split.{end_at_of}
 use Rattle.fields.proofs.split.end_at.Goals as goal

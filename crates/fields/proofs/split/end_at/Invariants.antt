@@ -1,10 +1,7 @@
-use borrow.Author.Rules.{rules}
-use mathlib.Core.Path.{◌≡◌, refl}
+use mathlib.Core.Path.{◌≡◌}
 use Prim.Native.Nat.{◌+◌, ◌-◌}
 use lib.ListN.{length, drop}
 use Rattle.fields.specs.Split.{before}
-use Rattle.fields.proofs.Parts.{end_here, end_again, end_end}
-use Rattle.fields.specs.Split.{end_at_of}
 use Rattle.fields.proofs.split.end_at.Given as goal
 
 abbrev pub invariant-loop-i : goal.invariant-loop-i

@@ -1,6 +1,5 @@
 use borrow.Author.Tests.{eq-eqb, ne_eqb}
 use Rattle.fields.specs.Split.{is_byte_of}
-use borrow.Author.Rules.{rules}
 use Rattle.fields.proofs.split.is_byte.Goals as goal
 
 pub returns-then-s-eq1 : goal.returns-then-s-eq1

@@ -1,10 +1,8 @@
-use borrow.Author.Rules.{rules}
-use mathlib.Core.Path.{◌≡◌, ◌∙◌}
+use mathlib.Core.Path.{◌≡◌}
 use mathlib.Core.List.{[]}
 use Prim.Native.Nat.{◌-◌, ◌≤◌}
 use lib.ListN.{get_or}
 use Rattle.fields.specs.Split.{parts_at}
-use Rattle.fields.proofs.Parts.{part_start, part_again, part_end}
 use Rattle.fields.specs.Split.{split}
 use Rattle.fields.proofs.split.part.Given as goal
 

@@ -1,6 +1,5 @@
 use borrow.Author.Tests.{eq-eqb, ne_eqb}
 use Rattle.filter.specs.Handed.{check_filter_of, check_placed}
-use borrow.Author.Rules.{rules}
 use Rattle.filter.proofs.calls.check_filter.Goals as goal
 
 pub returns-then-is_hit_list : goal.returns-then-is_hit_list

@@ -1,5 +1,4 @@
 use Rattle.filter.proofs.Hands.{part_fits, part-refused, part-all, part-work, lies_refused, lies-all, lies-work}
-use borrow.Author.Rules.{rules}
 use Rattle.filter.proofs.calls.filtered_pixel_flux.Goals as goal
 
 pub stored_part-requires : goal.stored_part-requires

@@ -1,5 +1,4 @@
 use Rattle.filter.proofs.Hands.{refilter-refused, refilter-all, refilter-sifted}
-use borrow.Author.Rules.{rules}
 use Rattle.filter.proofs.calls.refilter.Goals as goal
 
 pub returns-then-is_all : goal.returns-then-is_all

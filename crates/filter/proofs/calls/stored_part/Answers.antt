@@ -1,6 +1,4 @@
-use mathlib.Core.Path.{refl}
 use Rattle.filter.proofs.Hands.{part_ends}
-use borrow.Author.Rules.{rules}
 use Rattle.filter.proofs.calls.stored_part.Goals as goal
 
 pub returns-clause-result_value : goal.returns-clause-result_value

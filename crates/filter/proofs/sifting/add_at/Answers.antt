@@ -1,7 +1,6 @@
 use mathlib.Core.Path.{refl}
 use Rattle.filter.proofs.Sift.{added_beyond}
 use Rattle.filter.specs.Filters.{add_at_of}
-use borrow.Author.Rules.{rules}
 use Rattle.filter.proofs.sifting.add_at.Goals as goal
 
 pub returns-then-p-work : goal.returns-then-p-work

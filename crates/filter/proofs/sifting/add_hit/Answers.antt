@@ -1,5 +1,4 @@
 use Rattle.filter.proofs.Sift.{plus_is}
-use borrow.Author.Rules.{rules}
 use Rattle.filter.proofs.sifting.add_hit.Goals as goal
 
 pub returns : goal.returns

@@ -1,10 +1,6 @@
-use borrow.Author.Rules.{rules}
-use Prim.Native.Nat.{◌≤◌, ◌-◌}
-use mathlib.Core.Path.{◌≡◌, refl, ap, ◌∙◌}
-use mathlib.Core.List.{◌++◌, append-nil}
+use mathlib.Core.Path.{ap, ◌∙◌}
 use native.Mathlib.Omega.{arith}
-use lib.ListN.{length, replicate, drop, length-set, set}
-use lib.Seq.{drop-length}
+use lib.ListN.{length-set, set}
 use Rattle.filter.proofs.Sift.{fill_more}
 use Rattle.doubles.specs.Doubles.{#0}
 use Rattle.filter.proofs.sifting.clear.Goals as goal

@@ -1,6 +1,5 @@
 use borrow.Author.Tests.{eq-eqb, ne_eqb}
 use Rattle.filter.specs.Filters.{passes_of}
-use borrow.Author.Rules.{rules}
 use Rattle.filter.proofs.sifting.passes.Goals as goal
 
 pub returns-then-h-asked : goal.returns-then-h-asked

@@ -1,10 +1,6 @@
-use borrow.Author.Rules.{rules}
-use Prim.Native.Nat.{◌≤◌, ◌-◌}
-use mathlib.Core.Path.{◌≡◌, refl, ap, ◌∙◌}
+use mathlib.Core.Path.{refl, ◌∙◌}
 use native.Mathlib.Omega.{arith}
-use lib.ListN.{length, length-replicate}
-use Rattle.memory.specs.Memory.{hits_from}
-use Rattle.filter.specs.Filters.{as_map, plus_each, passes_of, passing, refill_of}
+use lib.ListN.{length}
 use Rattle.filter.proofs.Sift.{sift_start, sift_again, sift_end, turn_count, same_room}
 use Rattle.filter.proofs.sifting.refill.Goals as goal
 

@@ -1,11 +1,8 @@
-use borrow.Author.Rules.{rules}
 use Prim.Native.Nat.{◌≤◌, ◌-◌}
-use mathlib.Core.Path.{◌≡◌, refl, ap, ◌∙◌}
-use native.Mathlib.Omega.{arith}
-use lib.ListN.{length, length-replicate}
+use mathlib.Core.Path.{◌≡◌}
+use lib.ListN.{length}
 use Rattle.memory.specs.Memory.{hits_from}
 use Rattle.filter.specs.Filters.{as_map, plus_each, passes_of, passing, refill_of}
-use Rattle.filter.proofs.Sift.{sift_start, sift_again, sift_end, turn_count, same_room}
 use Rattle.filter.proofs.sifting.refill.Given as goal
 
 abbrev pub invariant-loop-i : goal.invariant-loop-i

@@ -1,5 +1,4 @@
 use Rattle.filter.specs.Filters.{sift_hit_of}
-use borrow.Author.Rules.{rules}
 use Rattle.filter.proofs.sifting.sift_hit.Goals as goal
 
 pub returns-then-passes : goal.returns-then-passes

@@ -1,5 +1,4 @@
 use Rattle.geometry.specs.Shapes.{intersect_local_of}
-use borrow.Author.Rules.{rules}
 use Rattle.geometry.proofs.PrimitiveGeometry.intersect_local.Goals as goal
 
 pub returns-in-Plane : goal.returns-in-Plane

@@ -1,5 +1,4 @@
 use Rattle.geometry.specs.Behind.{is_behind_of}
-use borrow.Author.Rules.{rules}
 use Rattle.geometry.proofs.PrimitiveGeometry.is_behind.Goals as goal
 
 pub returns-in-Plane : goal.returns-in-Plane

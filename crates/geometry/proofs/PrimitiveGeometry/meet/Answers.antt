@@ -1,6 +1,5 @@
 use Rattle.geometry.specs.Contacts.{meet_of}
 use Rattle.geometry.proofs.Behind.{miss_is}
-use borrow.Author.Rules.{rules}
 use Rattle.geometry.proofs.PrimitiveGeometry.meet.Goals as goal
 
 pub returns-then-is_behind : goal.returns-then-is_behind

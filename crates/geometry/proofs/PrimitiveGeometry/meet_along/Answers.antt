@@ -1,5 +1,4 @@
 use Rattle.geometry.specs.Contacts.{meet_along_of, meet_by}
-use borrow.Author.Rules.{rules}
 use Rattle.geometry.proofs.PrimitiveGeometry.meet_along.Goals as goal
 
 pub returns-in-Hit : goal.returns-in-Hit

@@ -1,5 +1,4 @@
 use Rattle.geometry.specs.Closed.{closest_wall_of}
-use borrow.Author.Rules.{rules}
 use Rattle.geometry.proofs.closed.closest_wall.Goals as goal
 
 pub returns : goal.returns

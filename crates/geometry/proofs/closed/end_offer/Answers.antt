@@ -1,5 +1,4 @@
 use Rattle.geometry.specs.Closed.{end_offer_of}
-use borrow.Author.Rules.{rules}
 use Rattle.geometry.proofs.closed.end_offer.Goals as goal
 
 pub returns-then-is_on_end : goal.returns-then-is_on_end

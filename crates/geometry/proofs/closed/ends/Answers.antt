@@ -1,5 +1,4 @@
 use Rattle.geometry.specs.Closed.{ends_of}
-use borrow.Author.Rules.{rules}
 use Rattle.geometry.proofs.closed.ends.Goals as goal
 
 pub returns : goal.returns

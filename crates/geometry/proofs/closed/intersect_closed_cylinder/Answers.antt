@@ -1,5 +1,4 @@
 use Rattle.geometry.specs.Closed.{intersect_closed_cylinder_of, wall_hit}
-use borrow.Author.Rules.{rules}
 use Rattle.geometry.proofs.closed.intersect_closed_cylinder.Goals as goal
 
 pub returns-in-At : goal.returns-in-At

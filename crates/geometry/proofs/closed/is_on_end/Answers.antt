@@ -1,5 +1,4 @@
 use Rattle.geometry.specs.Closed.{is_on_end_of}
-use borrow.Author.Rules.{rules}
 use Rattle.geometry.proofs.closed.is_on_end.Goals as goal
 
 pub returns-then-t : goal.returns-then-t

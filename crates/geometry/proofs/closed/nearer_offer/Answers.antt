@@ -1,5 +1,4 @@
 use Rattle.geometry.specs.Closed.{nearer_offer_of}
-use borrow.Author.Rules.{rules}
 use Rattle.geometry.proofs.closed.nearer_offer.Goals as goal
 
 pub returns-then-t-near : goal.returns-then-t-near

@@ -1,5 +1,4 @@
 use Rattle.geometry.specs.Closed.{side_offer_of}
-use borrow.Author.Rules.{rules}
 use Rattle.geometry.proofs.closed.side_offer.Goals as goal
 
 pub returns-then-is_on_side : goal.returns-then-is_on_side

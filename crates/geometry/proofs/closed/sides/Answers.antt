@@ -1,5 +1,4 @@
 use Rattle.geometry.specs.Closed.{sides_of}
-use borrow.Author.Rules.{rules}
 use Rattle.geometry.proofs.closed.sides.Goals as goal
 
 pub returns-in-Two : goal.returns-in-Two

@@ -1,5 +1,4 @@
 use Rattle.geometry.specs.Closed.{wall_normal_of}
-use borrow.Author.Rules.{rules}
 use Rattle.geometry.proofs.closed.wall_normal.Goals as goal
 
 pub returns-in-Side : goal.returns-in-Side

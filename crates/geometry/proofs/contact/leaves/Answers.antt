@@ -1,5 +1,4 @@
 use Rattle.geometry.specs.Behind.{leaves_of}
-use borrow.Author.Rules.{rules}
 use Rattle.geometry.proofs.contact.leaves.Goals as goal
 
 pub returns : goal.returns

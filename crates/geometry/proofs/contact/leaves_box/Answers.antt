@@ -1,5 +1,4 @@
 use Rattle.geometry.specs.Behind.{is_behind_of}
-use borrow.Author.Rules.{rules}
 use Rattle.geometry.proofs.contact.leaves_box.Goals as goal
 
 pub returns : goal.returns

@@ -1,5 +1,4 @@
 use Rattle.geometry.specs.Flat.{disk_at_of}
-use borrow.Author.Rules.{rules}
 use Rattle.geometry.proofs.flat.disk_at.Goals as goal
 
 pub returns-then-r2-inner_radius : goal.returns-then-r2-inner_radius

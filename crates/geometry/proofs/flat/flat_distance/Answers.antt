@@ -1,5 +1,4 @@
 use Rattle.geometry.specs.Flat.{flat_distance_of}
-use borrow.Author.Rules.{rules}
 use Rattle.geometry.proofs.flat.flat_distance.Goals as goal
 
 pub returns-then-is_under : goal.returns-then-is_under

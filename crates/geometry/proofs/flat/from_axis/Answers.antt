@@ -1,5 +1,4 @@
 use Rattle.geometry.specs.Flat.{from_axis_of}
-use borrow.Author.Rules.{rules}
 use Rattle.geometry.proofs.flat.from_axis.Goals as goal
 
 pub returns : goal.returns

@@ -1,5 +1,4 @@
 use Rattle.geometry.specs.Flat.{disk_from, intersect_disk_of}
-use borrow.Author.Rules.{rules}
 use Rattle.geometry.proofs.flat.intersect_disk.Goals as goal
 
 pub returns-in-At : goal.returns-in-At

@@ -1,5 +1,4 @@
 use Rattle.geometry.specs.Flat.{plane_from, intersect_plane_of}
-use borrow.Author.Rules.{rules}
 use Rattle.geometry.proofs.flat.intersect_plane.Goals as goal
 
 pub returns-in-At : goal.returns-in-At

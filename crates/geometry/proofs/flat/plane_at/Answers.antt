@@ -1,5 +1,4 @@
 use Rattle.geometry.specs.Flat.{plane_at_of}
-use borrow.Author.Rules.{rules}
 use Rattle.geometry.proofs.flat.plane_at.Goals as goal
 
 pub returns-then-x-y : goal.returns-then-x-y

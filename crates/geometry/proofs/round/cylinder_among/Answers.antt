@@ -1,6 +1,5 @@
 use Rattle.geometry.specs.Round.{cylinder_among_of}
 use Rattle.geometry.specs.Hits.{first_there}
-use borrow.Author.Rules.{rules}
 use Rattle.geometry.proofs.round.cylinder_among.Goals as goal
 
 pub returns-in-Hit : goal.returns-in-Hit

@@ -1,5 +1,4 @@
 use Rattle.geometry.specs.Round.{cylinder_at_of}
-use borrow.Author.Rules.{rules}
 use Rattle.geometry.proofs.round.cylinder_at.Goals as goal
 
 pub returns-then-is_on_side : goal.returns-then-is_on_side

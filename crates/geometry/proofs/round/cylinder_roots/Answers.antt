@@ -1,5 +1,4 @@
 use Rattle.geometry.specs.Round.{cylinder_roots_of}
-use borrow.Author.Rules.{rules}
 use Rattle.geometry.proofs.round.cylinder_roots.Goals as goal
 
 pub returns-then-a : goal.returns-then-a

@@ -1,5 +1,4 @@
 use Rattle.geometry.specs.Round.{intersect_cylinder_of}
-use borrow.Author.Rules.{rules}
 use Rattle.geometry.proofs.round.intersect_cylinder.Goals as goal
 
 pub returns : goal.returns

@@ -1,5 +1,4 @@
 use Rattle.geometry.proofs.Receding.{sphere_passed, sphere_rooted}
-use borrow.Author.Rules.{rules}
 use Rattle.geometry.proofs.round.intersect_sphere.Goals as goal
 
 pub returns-then-is_away : goal.returns-then-is_away

@@ -1,6 +1,5 @@
 use borrow.Author.Tests.{le-leb, lt-leb}
 use Rattle.geometry.specs.Away.{is_away_of}
-use borrow.Author.Rules.{rules}
 use Rattle.geometry.proofs.round.is_away.Goals as goal
 
 pub returns-then-bits-ge2305843009213693952 : goal.returns-then-bits-ge2305843009213693952

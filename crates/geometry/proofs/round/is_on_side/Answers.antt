@@ -1,5 +1,4 @@
 use Rattle.geometry.specs.Round.{is_on_side_of}
-use borrow.Author.Rules.{rules}
 use Rattle.geometry.proofs.round.is_on_side.Goals as goal
 
 pub returns-then-t : goal.returns-then-t

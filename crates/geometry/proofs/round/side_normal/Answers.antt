@@ -1,5 +1,4 @@
 use Rattle.geometry.specs.Round.{side_normal_of}
-use borrow.Author.Rules.{rules}
 use Rattle.geometry.proofs.round.side_normal.Goals as goal
 
 pub returns : goal.returns

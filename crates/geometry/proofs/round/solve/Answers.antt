@@ -1,5 +1,4 @@
 use Rattle.geometry.specs.Round.{solve_of}
-use borrow.Author.Rules.{rules}
 use Rattle.geometry.proofs.round.solve.Goals as goal
 
 pub returns-then-disc : goal.returns-then-disc

@@ -1,5 +1,4 @@
 use Rattle.geometry.specs.Round.{sphere_at_of}
-use borrow.Author.Rules.{rules}
 use Rattle.geometry.proofs.round.sphere_at.Goals as goal
 
 pub returns-then-t : goal.returns-then-t

@@ -1,5 +1,4 @@
 use Rattle.geometry.specs.Spans.{along_of}
-use borrow.Author.Rules.{rules}
 use Rattle.geometry.proofs.slab.along.Goals as goal
 
 pub returns-then-exceeds : goal.returns-then-exceeds

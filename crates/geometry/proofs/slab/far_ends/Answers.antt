@@ -1,5 +1,4 @@
 use Rattle.geometry.specs.Spans.{far_ends_of}
-use borrow.Author.Rules.{rules}
 use Rattle.geometry.proofs.slab.far_ends.Goals as goal
 
 pub returns : goal.returns

@@ -1,5 +1,4 @@
 use Rattle.geometry.specs.Spans.{far_side_of}
-use borrow.Author.Rules.{rules}
 use Rattle.geometry.proofs.slab.far_side.Goals as goal
 
 pub returns-then-z-ends : goal.returns-then-z-ends

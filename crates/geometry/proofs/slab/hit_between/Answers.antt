@@ -1,5 +1,4 @@
 use Rattle.geometry.specs.Spans.{hit_between_of}
-use borrow.Author.Rules.{rules}
 use Rattle.geometry.proofs.slab.hit_between.Goals as goal
 
 pub returns-then-near-far : goal.returns-then-near-far

@@ -1,5 +1,4 @@
 use Rattle.geometry.proofs.Spans.{inside_by}
-use borrow.Author.Rules.{rules}
 use Rattle.geometry.proofs.slab.inside.Goals as goal
 
 pub returns : goal.returns

@@ -1,5 +1,4 @@
 use Rattle.geometry.specs.Slabs.{intersect_box_of}
-use borrow.Author.Rules.{rules}
 use Rattle.geometry.proofs.slab.intersect_box.Goals as goal
 
 pub returns-then-outside : goal.returns-then-outside

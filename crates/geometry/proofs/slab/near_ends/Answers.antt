@@ -1,5 +1,4 @@
 use Rattle.geometry.specs.Spans.{near_ends_of}
-use borrow.Author.Rules.{rules}
 use Rattle.geometry.proofs.slab.near_ends.Goals as goal
 
 pub returns : goal.returns

@@ -1,5 +1,4 @@
 use Rattle.geometry.specs.Slabs.{outside_of}
-use borrow.Author.Rules.{rules}
 use Rattle.geometry.proofs.slab.outside.Goals as goal
 
 pub returns-then-exceeds : goal.returns-then-exceeds

@@ -1,5 +1,4 @@
 use Rattle.geometry.specs.Slabs.{side_hit_of}
-use borrow.Author.Rules.{rules}
 use Rattle.geometry.proofs.slab.side_hit.Goals as goal
 
 pub returns : goal.returns

@@ -1,7 +1,6 @@
 use Rattle.geometry.specs.Contacts.{ray_by, ray_from_of}
 use Rattle.geometry.specs.Transforms.{made_ray}
 use Rattle.geometry.proofs.Unit.{ray_made, no_ray_lem}
-use borrow.Author.Rules.{rules}
 use Rattle.geometry.proofs.transform.ray_from.Goals as goal
 
 pub returns-then-is_finite_with : goal.returns-then-is_finite_with

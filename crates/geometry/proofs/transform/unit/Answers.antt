@@ -1,5 +1,4 @@
 use Rattle.geometry.specs.Transforms.{unit_of}
-use borrow.Author.Rules.{rules}
 use Rattle.geometry.proofs.transform.unit.Goals as goal
 
 pub returns-then-length : goal.returns-then-length

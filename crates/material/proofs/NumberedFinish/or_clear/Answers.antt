@@ -1,5 +1,4 @@
 use Rattle.material.specs.Media.{or_clear_of}
-use borrow.Author.Rules.{rules}
 use Rattle.material.proofs.NumberedFinish.or_clear.Goals as goal
 
 pub returns-in-Finish : goal.returns-in-Finish

@@ -1,5 +1,4 @@
 use Rattle.material.specs.Media.{or_air_of}
-use borrow.Author.Rules.{rules}
 use Rattle.material.proofs.NumberedMedium.or_air.Goals as goal
 
 pub returns-in-Medium : goal.returns-in-Medium

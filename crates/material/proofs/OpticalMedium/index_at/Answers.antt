@@ -1,5 +1,4 @@
 use Rattle.material.specs.Media.{index_at_of}
-use borrow.Author.Rules.{rules}
 use Rattle.material.proofs.OpticalMedium.index_at.Goals as goal
 
 pub returns-in-Air : goal.returns-in-Air

@@ -1,5 +1,4 @@
 use Rattle.material.specs.Media.{refractive_index_of}
-use borrow.Author.Rules.{rules}
 use Rattle.material.proofs.OpticalMedium.refractive_index.Goals as goal
 
 pub returns-then-wavelength : goal.returns-then-wavelength

@@ -1,6 +1,5 @@
 use borrow.Author.Tests.{lt-ltb, le-ltb}
 use Rattle.media.specs.Media.{entered_of}
-use borrow.Author.Rules.{rules}
 use Rattle.media.proofs.Media.entered.Goals as goal
 
 pub returns-then-self-lt-MAX : goal.returns-then-self-lt-MAX

@@ -2,7 +2,6 @@ use native.Mathlib.Omega.{arith}
 use Rattle.media.proofs.Places.{found_below}
 use borrow.Author.Tests.{le-leb, lt-leb}
 use Rattle.media.specs.Media.{left_of, without_place}
-use borrow.Author.Rules.{rules}
 use Rattle.media.proofs.Media.left.Goals as goal
 
 pub overflow_sub-depth : goal.overflow_sub-depth

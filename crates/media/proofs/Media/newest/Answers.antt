@@ -1,6 +1,5 @@
 use borrow.Author.Tests.{lt-ltb, le-ltb, le-leb, lt-leb}
 use Rattle.media.specs.Media.{newest_of}
-use borrow.Author.Rules.{rules}
 use Rattle.media.proofs.Media.newest.Goals as goal
 
 pub returns-then-self-le-MAX : goal.returns-then-self-le-MAX

@@ -1,6 +1,5 @@
 use borrow.Author.Tests.{lt-ltb, le-ltb}
 use Rattle.memory.specs.Memory.{hit_at_of}
-use borrow.Author.Rules.{rules}
 use Rattle.memory.proofs.hits.hit_at.Goals as goal
 
 pub returns-then-i-hit_tags : goal.returns-then-i-hit_tags

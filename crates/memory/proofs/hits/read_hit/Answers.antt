@@ -3,7 +3,6 @@ use native.Mathlib.Nat.{add-zero}
 use native.Mathlib.Omega.{arith}
 use Rattle.memory.specs.Memory.{hit_from, read_hit_of}
 use Rattle.memory.proofs.Rows.{row_at_lem}
-use borrow.Author.Rules.{rules}
 use Rattle.memory.proofs.hits.read_hit.Goals as goal
 
 pub returns : goal.returns

@@ -1,6 +1,5 @@
 use borrow.Author.Tests.{eq-eqb, ne_eqb}
 use Rattle.memory.specs.Memory.{are_lengths_of}
-use borrow.Author.Rules.{rules}
 use Rattle.memory.proofs.recording.are_lengths.Goals as goal
 
 pub returns-then-hits-pixels : goal.returns-then-hits-pixels

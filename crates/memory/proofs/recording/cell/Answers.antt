@@ -1,5 +1,4 @@
 use Rattle.memory.specs.Memory.{cell_of}
-use borrow.Author.Rules.{rules}
 use Rattle.memory.proofs.recording.cell.Goals as goal
 
 pub returns : goal.returns

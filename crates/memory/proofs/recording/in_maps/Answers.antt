@@ -1,6 +1,5 @@
 use borrow.Author.Tests.{lt-ltb, le-ltb}
 use Rattle.memory.specs.Memory.{in_maps_of}
-use borrow.Author.Rules.{rules}
 use Rattle.memory.proofs.recording.in_maps.Goals as goal
 
 pub returns-then-p-hits : goal.returns-then-p-hits

@@ -1,5 +1,4 @@
 use Rattle.memory.specs.Memory.{is_hit_list_of}
-use borrow.Author.Rules.{rules}
 use Rattle.memory.proofs.recording.is_hit_list.Goals as goal
 
 pub returns-then-are_hits : goal.returns-then-are_hits

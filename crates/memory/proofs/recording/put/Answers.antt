@@ -1,7 +1,5 @@
-use native.Mathlib.Omega.{arith}
 use Rattle.memory.proofs.Lengths.{hit_inside}
 use Rattle.memory.proofs.Records.{put_full, put-pixel, put_count, put_done}
-use borrow.Author.Rules.{rules}
 use Rattle.memory.proofs.recording.put.Goals as goal
 
 pub returns-then-hit_values-used : goal.returns-then-hit_values-used

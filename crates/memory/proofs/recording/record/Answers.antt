@@ -1,6 +1,5 @@
 use Rattle.detectors.proofs.Lists.{there_first, there_below}
 use Rattle.memory.proofs.Records.{told_lengths, record-put, record-outside, record-nowhere}
-use borrow.Author.Rules.{rules}
 use Rattle.memory.proofs.recording.record.Goals as goal
 
 pub cell-p-requires : goal.cell-p-requires

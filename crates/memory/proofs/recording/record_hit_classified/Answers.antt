@@ -1,5 +1,4 @@
 use Rattle.memory.proofs.Records.{recorded, asked-refused, lengths-refused}
-use borrow.Author.Rules.{rules}
 use Rattle.memory.proofs.recording.record_hit_classified.Goals as goal
 
 pub returns-then-are_lengths : goal.returns-then-are_lengths

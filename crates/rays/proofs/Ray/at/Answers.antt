@@ -1,5 +1,4 @@
 use Rattle.rays.specs.Rays.{at_of}
-use borrow.Author.Rules.{rules}
 use Rattle.rays.proofs.Ray.at.Goals as goal
 
 pub returns : goal.returns

@@ -1,5 +1,4 @@
 use Rattle.rays.specs.Rays.{is_valid_ray_of}
-use borrow.Author.Rules.{rules}
 use Rattle.rays.proofs.Ray.is_valid.Goals as goal
 
 pub returns-then-self : goal.returns-then-self

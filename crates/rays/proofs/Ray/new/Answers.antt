@@ -1,5 +1,4 @@
 use Rattle.rays.specs.Rays.{new_ray_of}
-use borrow.Author.Rules.{rules}
 use Rattle.rays.proofs.Ray.new.Goals as goal
 
 pub returns-then-is_finite : goal.returns-then-is_finite

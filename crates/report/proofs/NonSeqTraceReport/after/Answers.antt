@@ -1,5 +1,4 @@
 use Rattle.report.specs.Report.{report_after_of}
-use borrow.Author.Rules.{rules}
 use Rattle.report.proofs.NonSeqTraceReport.after.Goals as goal
 
 pub returns : goal.returns

@@ -1,5 +1,4 @@
 use Rattle.report.specs.Report.{counted_of}
-use borrow.Author.Rules.{rules}
 use Rattle.report.proofs.NonSeqTraceReport.counted.Goals as goal
 
 pub returns : goal.returns

@@ -1,5 +1,4 @@
 use Rattle.report.specs.Report.{faint_of}
-use borrow.Author.Rules.{rules}
 use Rattle.report.proofs.tallies.faint.Goals as goal
 
 pub returns-then-total : goal.returns-then-total

@@ -1,5 +1,4 @@
 use Rattle.report.specs.Report.{more_if_of}
-use borrow.Author.Rules.{rules}
 use Rattle.report.proofs.tallies.more_if.Goals as goal
 
 pub returns-then-b : goal.returns-then-b

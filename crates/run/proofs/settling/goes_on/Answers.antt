@@ -1,6 +1,5 @@
 use borrow.Author.Tests.{lt-ltb, le-ltb}
 use Rattle.run.specs.Run.{goes_on_of}
-use borrow.Author.Rules.{rules}
 use Rattle.run.proofs.settling.goes_on.Goals as goal
 
 pub returns-then-len-gt0 : goal.returns-then-len-gt0

@@ -1,5 +1,4 @@
 use Rattle.run.specs.Run.{refusal_in_of}
-use borrow.Author.Rules.{rules}
 use Rattle.run.proofs.settling.refusal_in.Goals as goal
 
 pub returns-in-Dim : goal.returns-in-Dim

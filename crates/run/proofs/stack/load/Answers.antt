@@ -1,5 +1,4 @@
 use Rattle.run.specs.Stack.{load_of}
-use borrow.Author.Rules.{rules}
 use Rattle.run.proofs.stack.load.Goals as goal
 
 pub returns : goal.returns

@@ -1,6 +1,5 @@
 use borrow.Author.Tests.{lt-ltb, le-ltb, le-leb, lt-leb}
 use Rattle.run.specs.Stack.{take_of}
-use borrow.Author.Rules.{rules}
 use Rattle.run.proofs.stack.take.Goals as goal
 
 pub returns-then-len-le-MAX_STACK : goal.returns-then-len-le-MAX_STACK

@@ -1,7 +1,6 @@
 use native.Mathlib.Omega.{arith}
 use borrow.Author.Tests.{lt-ltb, le-ltb, le-leb, lt-leb}
 use Rattle.run.specs.Stack.{top_at_of}
-use borrow.Author.Rules.{rules}
 use Rattle.run.proofs.stack.top_at.Goals as goal
 
 pub returns-then-len-le-MAX_STACK : goal.returns-then-len-le-MAX_STACK

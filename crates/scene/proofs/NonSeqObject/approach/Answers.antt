@@ -1,6 +1,5 @@
 use mathlib.Core.Path.{refl}
 use Rattle.scene.proofs.Parts.{approach_met, approach_missed, approach_inactive}
-use borrow.Author.Rules.{rules}
 use Rattle.scene.proofs.NonSeqObject.approach.Goals as goal
 
 pub returns-in-At : goal.returns-in-At

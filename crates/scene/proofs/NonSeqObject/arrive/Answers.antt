@@ -1,5 +1,4 @@
 use Rattle.scene.specs.Objects.{arrive_of, arrive_with}
-use borrow.Author.Rules.{rules}
 use Rattle.scene.proofs.NonSeqObject.arrive.Goals as goal
 
 pub returns-in-Made : goal.returns-in-Made

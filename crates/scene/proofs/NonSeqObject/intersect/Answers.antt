@@ -1,5 +1,4 @@
 use Rattle.scene.specs.Objects.{arrive_from, intersect_of}
-use borrow.Author.Rules.{rules}
 use Rattle.scene.proofs.NonSeqObject.intersect.Goals as goal
 
 pub returns-in-At : goal.returns-in-At

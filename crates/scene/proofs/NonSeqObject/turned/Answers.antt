@@ -1,5 +1,4 @@
 use Rattle.scene.specs.Objects.{turned_of}
-use borrow.Author.Rules.{rules}
 use Rattle.scene.proofs.NonSeqObject.turned.Goals as goal
 
 pub returns : goal.returns

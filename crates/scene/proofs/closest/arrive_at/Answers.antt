@@ -1,6 +1,5 @@
 use Rattle.scene.specs.Closest.{arrive_at_of}
 use Rattle.scene.specs.Solids.{holds, object_at_of}
-use borrow.Author.Rules.{rules}
 use Rattle.scene.proofs.closest.arrive_at.Goals as goal
 
 pub returns-in-Object : goal.returns-in-Object

@@ -1,5 +1,4 @@
 use Rattle.scene.proofs.Candidates.{closest_found, closest_nothing}
-use borrow.Author.Rules.{rules}
 use Rattle.scene.proofs.closest.closest_object.Goals as goal
 
 pub returns-in-Hit : goal.returns-in-Hit

@@ -1,5 +1,4 @@
 use Rattle.scene.proofs.Candidates.{closest_strictly, closest_nothing}
-use borrow.Author.Rules.{rules}
 use Rattle.scene.proofs.closest.closest_strictly.Goals as goal
 
 pub returns-in-At : goal.returns-in-At

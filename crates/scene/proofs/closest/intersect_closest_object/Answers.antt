@@ -1,6 +1,5 @@
 use borrow.Author.Tests.{le-leb, lt-leb}
 use Rattle.scene.specs.Closest.{intersect_closest_object_of}
-use borrow.Author.Rules.{rules}
 use Rattle.scene.proofs.closest.intersect_closest_object.Goals as goal
 
 pub returns-then-is_valid : goal.returns-then-is_valid

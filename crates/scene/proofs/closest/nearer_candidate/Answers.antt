@@ -1,5 +1,4 @@
 use Rattle.scene.proofs.Candidates.{candidate_taken, candidate_dropped, candidate_far, candidate_missed}
-use borrow.Author.Rules.{rules}
 use Rattle.scene.proofs.closest.nearer_candidate.Goals as goal
 
 pub returns-then-is_kept : goal.returns-then-is_kept

@@ -1,8 +1,6 @@
 use Prim.Native.Nat.{◌≤◌, ◌-◌}
 use mathlib.Core.Path.{◌≡◌}
-use borrow.Author.Rules.{rules}
 use Rattle.nearest.specs.Nearest.{nearest_from, nearest_among}
-use Rattle.nearest.proofs.Loops.{nearest_start, nearest_again, nearest_end}
 use Rattle.scene.specs.declared.closest.Candidate.{Candidate}
 use Rattle.scene.specs.Closest.{candidate_distance, candidates_in, as_candidate}
 use Rattle.scene.specs.Solids.{object_at_of}

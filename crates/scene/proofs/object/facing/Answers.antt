@@ -1,5 +1,4 @@
 use Rattle.scene.specs.Objects.{facing_of}
-use borrow.Author.Rules.{rules}
 use Rattle.scene.proofs.object.facing.Goals as goal
 
 pub returns-then-entering : goal.returns-then-entering

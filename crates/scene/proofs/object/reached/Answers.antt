@@ -1,5 +1,4 @@
 use Rattle.scene.specs.Objects.{reached_of}
-use borrow.Author.Rules.{rules}
 use Rattle.scene.proofs.object.reached.Goals as goal
 
 pub returns-then-t : goal.returns-then-t

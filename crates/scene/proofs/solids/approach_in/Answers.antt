@@ -3,7 +3,6 @@ use Rattle.scene.specs.Closest.{approach_at_of}
 use Rattle.scene.specs.Solids.{object_with, read_object_of, solid_with}
 use Rattle.scene.proofs.Parts.{approach_met, approach_missed, none_inactive}
 use mathlib.Core.Path.{refl}
-use borrow.Author.Rules.{rules}
 use Rattle.scene.proofs.solids.approach_in.Goals as goal
 
 pub returns-in-At : goal.returns-in-At

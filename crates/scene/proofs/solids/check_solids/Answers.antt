@@ -1,6 +1,5 @@
 use borrow.Author.Tests.{eq-eqb, ne_eqb}
 use Rattle.scene.specs.Solids.{check_solids_of}
-use borrow.Author.Rules.{rules}
 use Rattle.scene.proofs.solids.check_solids.Goals as goal
 
 pub returns-then-solid_tags-count : goal.returns-then-solid_tags-count

@@ -1,9 +1,5 @@
-use Prim.Native.Nat.{◌≤◌, ◌-◌}
-use native.Mathlib.Nat.{sub-zero}
-use mathlib.Core.Path.{◌≡◌}
 use borrow.Author.Rules.{rules}
 use Rattle.scene.proofs.Checks.{tags_again, tags_refused, tags_end}
-use Rattle.scene.specs.Solids.{check_tags_of}
 use Rattle.scene.proofs.solids.check_tags.Goals as goal
 
 pub loop-i-preserved : goal.loop-i-preserved

@@ -1,7 +1,6 @@
 use borrow.Author.Tests.{le-leb, lt-leb}
 use Rattle.material.specs.Media.{or_clear_of}
 use Rattle.scene.specs.Solids.{finish_at_of, holds}
-use borrow.Author.Rules.{rules}
 use Rattle.scene.proofs.solids.finish_at.Goals as goal
 
 pub returns-then-b-solid_tags : goal.returns-then-b-solid_tags

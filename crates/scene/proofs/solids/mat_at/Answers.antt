@@ -1,5 +1,4 @@
 use Rattle.scene.specs.Solids.{mat_at_of}
-use borrow.Author.Rules.{rules}
 use Rattle.scene.proofs.solids.mat_at.Goals as goal
 
 pub returns : goal.returns

@@ -1,7 +1,6 @@
 use borrow.Author.Tests.{le-leb, lt-leb}
 use Rattle.material.specs.Media.{or_air_of}
 use Rattle.scene.specs.Solids.{holds, medium_at_of}
-use borrow.Author.Rules.{rules}
 use Rattle.scene.proofs.solids.medium_at.Goals as goal
 
 pub returns-then-b-solid_tags : goal.returns-then-b-solid_tags

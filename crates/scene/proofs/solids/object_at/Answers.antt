@@ -1,6 +1,5 @@
 use borrow.Author.Tests.{le-leb, lt-leb}
 use Rattle.scene.specs.Solids.{holds, object_at_of}
-use borrow.Author.Rules.{rules}
 use Rattle.scene.proofs.solids.object_at.Goals as goal
 
 pub returns-then-i-solid_tags : goal.returns-then-i-solid_tags

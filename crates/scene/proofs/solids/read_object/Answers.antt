@@ -1,5 +1,4 @@
 use Rattle.scene.specs.Solids.{object_with, read_object_of, solid_with}
-use borrow.Author.Rules.{rules}
 use Rattle.scene.proofs.solids.read_object.Goals as goal
 
 pub returns-in-Shape : goal.returns-in-Shape

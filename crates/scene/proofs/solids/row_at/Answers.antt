@@ -1,6 +1,5 @@
 use mathlib.Core.Path.{refl}
 use Rattle.scene.specs.Solids.{row_at_of}
-use borrow.Author.Rules.{rules}
 use Rattle.scene.proofs.solids.row_at.Goals as goal
 
 pub returns : goal.returns

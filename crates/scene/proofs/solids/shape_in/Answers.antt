@@ -1,5 +1,4 @@
 use Rattle.scene.specs.Solids.{shape_in_of}
-use borrow.Author.Rules.{rules}
 use Rattle.scene.proofs.solids.shape_in.Goals as goal
 
 pub returns : goal.returns

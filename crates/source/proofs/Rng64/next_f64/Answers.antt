@@ -1,7 +1,4 @@
 use Rattle.source.specs.Random.{next_f64_of, unit_interval}
-use Rattle.std.proofs.Common.{arith, rules}
-use Rattle.source.proofs.Products.{drawn_fits}
-use Rattle.doubles.proofs.Small.{in_float_lem}
 use Rattle.source.proofs.Rng64.next_f64.Goals as goal
 
 pub returns : goal.returns

@@ -1,5 +1,4 @@
 use Rattle.source.specs.Random.{next_u64_of, next_state, scrambled}
-use Rattle.std.proofs.Common.{rules}
 use Rattle.source.proofs.Rng64.next_u64.Goals as goal
 
 pub returns : goal.returns

@@ -1,5 +1,4 @@
 use Rattle.step.specs.Rays.{reflected_of}
-use borrow.Author.Rules.{rules}
 use Rattle.step.proofs.ActiveRay.reflected.Goals as goal
 
 pub returns-then-tir : goal.returns-then-tir

@@ -1,5 +1,4 @@
 use Rattle.step.specs.Rays.{transmitted_of}
-use borrow.Author.Rules.{rules}
 use Rattle.step.proofs.ActiveRay.transmitted.Goals as goal
 
 pub returns : goal.returns

@@ -1,5 +1,4 @@
 use Rattle.step.specs.Steps.{first_ahead_of}
-use borrow.Author.Rules.{rules}
 use Rattle.step.proofs.ahead.first_ahead.Goals as goal
 
 pub returns-in-Hit : goal.returns-in-Hit

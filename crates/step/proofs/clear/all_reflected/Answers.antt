@@ -1,5 +1,4 @@
 use Rattle.step.specs.Steps.{parted_by}
-use borrow.Author.Rules.{rules}
 use Rattle.step.proofs.clear.all_reflected.Goals as goal
 
 pub returns : goal.returns

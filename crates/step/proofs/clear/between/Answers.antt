@@ -1,5 +1,4 @@
 use Rattle.step.specs.Steps.{between_of}
-use borrow.Author.Rules.{rules}
 use Rattle.step.proofs.clear.between.Goals as goal
 
 pub returns-in-Index-there : goal.returns-in-Index-there

@@ -1,5 +1,4 @@
 use Rattle.step.specs.Steps.{beyond_of}
-use borrow.Author.Rules.{rules}
 use Rattle.step.proofs.clear.beyond.Goals as goal
 
 pub returns-then-hit : goal.returns-then-hit

@@ -1,5 +1,4 @@
 use Rattle.step.specs.Steps.{parted_by}
-use borrow.Author.Rules.{rules}
 use Rattle.step.proofs.clear.both_made.Goals as goal
 
 pub returns : goal.returns

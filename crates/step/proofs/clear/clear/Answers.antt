@@ -1,5 +1,4 @@
 use Rattle.step.specs.Steps.{clear_of}
-use borrow.Author.Rules.{rules}
 use Rattle.step.proofs.clear.clear.Goals as goal
 
 pub returns : goal.returns

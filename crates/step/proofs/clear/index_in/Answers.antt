@@ -1,5 +1,4 @@
 use Rattle.step.specs.Steps.{index_in_of, medium_from}
-use borrow.Author.Rules.{rules}
 use Rattle.step.proofs.clear.index_in.Goals as goal
 
 pub returns-in-In : goal.returns-in-In

@@ -1,5 +1,4 @@
 use Rattle.step.specs.Steps.{parted_of}
-use borrow.Author.Rules.{rules}
 use Rattle.step.proofs.clear.parted.Goals as goal
 
 pub returns-in-Total : goal.returns-in-Total

@@ -1,5 +1,4 @@
 use Rattle.step.specs.Steps.{mirror_of}
-use borrow.Author.Rules.{rules}
 use Rattle.step.proofs.mirror.mirror.Goals as goal
 
 pub returns-then-power-threshold : goal.returns-then-power-threshold

@@ -1,5 +1,4 @@
 use Rattle.step.specs.Steps.{mirror_from_of}
-use borrow.Author.Rules.{rules}
 use Rattle.step.proofs.mirror.mirror_from.Goals as goal
 
 pub returns-in-Made : goal.returns-in-Made

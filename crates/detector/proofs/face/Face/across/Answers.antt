@@ -1,5 +1,4 @@
 use Rattle.detector.specs.Faces.{across_of}
-use borrow.Author.Rules.{rules}
 use Rattle.detector.proofs.face.Face.across.Goals as goal
 
 pub returns-then-is_within-2 : goal.returns-then-is_within-2

@@ -1,5 +1,4 @@
 use Rattle.detector.specs.Faces.{face_intersect_ray_of}
-use borrow.Author.Rules.{rules}
 use Rattle.detector.proofs.face.Face.intersect_ray.Goals as goal
 
 pub returns-then-is_under : goal.returns-then-is_under

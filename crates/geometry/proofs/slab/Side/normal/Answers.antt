@@ -1,5 +1,4 @@
 use Rattle.geometry.specs.Slabs.{normal_of}
-use borrow.Author.Rules.{rules}
 use Rattle.geometry.proofs.slab.Side.normal.Goals as goal
 
 pub returns-in-MinusX : goal.returns-in-MinusX

@@ -1,5 +1,4 @@
 use Rattle.geometry.proofs.Local.{along_is}
-use borrow.Author.Rules.{rules}
 use Rattle.geometry.proofs.transform.Transform3D.inverse_transform_ray.Goals as goal
 
 pub returns : goal.returns

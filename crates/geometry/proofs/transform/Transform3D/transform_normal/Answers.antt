@@ -1,5 +1,4 @@
 use Rattle.geometry.specs.Transforms.{world_normal_of}
-use borrow.Author.Rules.{rules}
 use Rattle.geometry.proofs.transform.Transform3D.transform_normal.Goals as goal
 
 pub returns : goal.returns

@@ -1,5 +1,4 @@
 use Rattle.rays.specs.Matrices.{times_of}
-use borrow.Author.Rules.{rules}
 use Rattle.rays.proofs.matrix.Mat4.times.Goals as goal
 
 pub returns : goal.returns

@@ -1,5 +1,4 @@
 use Rattle.rays.specs.Matrices.{transform_normal_of}
-use borrow.Author.Rules.{rules}
 use Rattle.rays.proofs.matrix.Mat4.transform_normal.Goals as goal
 
 pub returns : goal.returns

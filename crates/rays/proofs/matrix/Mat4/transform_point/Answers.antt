@@ -1,5 +1,4 @@
 use Rattle.rays.specs.Matrices.{transform_point_of}
-use borrow.Author.Rules.{rules}
 use Rattle.rays.proofs.matrix.Mat4.transform_point.Goals as goal
 
 pub returns : goal.returns

@@ -1,5 +1,4 @@
 use Rattle.rays.specs.Vectors.{has_direction_of}
-use borrow.Author.Rules.{rules}
 use Rattle.rays.proofs.vector.Vec3.has_direction.Goals as goal
 
 pub returns-then-length : goal.returns-then-length

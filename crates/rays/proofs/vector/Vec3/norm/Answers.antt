@@ -1,5 +1,4 @@
 use Rattle.rays.specs.Vectors.{norm_of}
-use borrow.Author.Rules.{rules}
 use Rattle.rays.proofs.vector.Vec3.norm.Goals as goal
 
 pub returns : goal.returns

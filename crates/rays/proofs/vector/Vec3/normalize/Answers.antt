@@ -1,5 +1,4 @@
 use Rattle.rays.specs.Vectors.{normalize_of}
-use borrow.Author.Rules.{rules}
 use Rattle.rays.proofs.vector.Vec3.normalize.Goals as goal
 
 pub returns : goal.returns

@@ -1,5 +1,4 @@
 use Rattle.report.specs.Report.{absorb_unless_of}
-use borrow.Author.Rules.{rules}
 use Rattle.report.proofs.ledger.Ledger.absorb_unless.Goals as goal
 
 pub returns-then-made : goal.returns-then-made

@@ -1,5 +1,4 @@
 use Rattle.report.specs.Report.{ledger_after_of}
-use borrow.Author.Rules.{rules}
 use Rattle.report.proofs.ledger.Ledger.after.Goals as goal
 
 pub returns-in-Dim : goal.returns-in-Dim

@@ -1,5 +1,4 @@
 use Rattle.report.specs.Report.{ledger_met_of}
-use borrow.Author.Rules.{rules}
 use Rattle.report.proofs.ledger.Ledger.met.Goals as goal
 
 pub returns-in-Stopped : goal.returns-in-Stopped

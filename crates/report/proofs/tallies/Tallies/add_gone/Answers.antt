@@ -1,5 +1,4 @@
 use Rattle.report.specs.Report.{add_gone_of}
-use borrow.Author.Rules.{rules}
 use Rattle.report.proofs.tallies.Tallies.add_gone.Goals as goal
 
 pub returns : goal.returns

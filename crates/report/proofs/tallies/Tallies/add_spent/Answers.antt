@@ -1,5 +1,4 @@
 use Rattle.report.specs.Report.{add_spent_of}
-use borrow.Author.Rules.{rules}
 use Rattle.report.proofs.tallies.Tallies.add_spent.Goals as goal
 
 pub returns : goal.returns

@@ -1,5 +1,3 @@
-use native.Mathlib.Omega.{arith}
-use borrow.Author.Rules.{rules}
 use Rattle.run.proofs.Places.{first_made, first_missing, second-made, second-missing, no_room}
 use Rattle.run.proofs.stack.Stack.after.Goals.{then-e, else-e}
 use Rattle.run.proofs.stack.Stack.after.Goals as goal

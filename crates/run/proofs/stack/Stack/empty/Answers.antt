@@ -1,5 +1,4 @@
 use Rattle.run.specs.Stack.{empty_stack_of}
-use borrow.Author.Rules.{rules}
 use Rattle.run.proofs.stack.Stack.empty.Goals as goal
 
 pub returns : goal.returns

@@ -1,5 +1,4 @@
 use Rattle.run.specs.Stack.{popped}
-use borrow.Author.Rules.{rules}
 use Rattle.run.proofs.stack.Stack.popped.Goals as goal
 
 pub returns : goal.returns

@@ -1,0 +1,11 @@
+use mathlib.Core.Path.{sym}
+use native.Mathlib.Omega.{arith}
+use lib.Seq.{length-take-le}
+use borrow.Author.Rules.{rules}
+use Rattle.map_text.proofs.Outcomes.{map_is}
+use Rattle.map_text.proofs.mapping.put_map.Goals as goal
+
+pub returns : goal.returns
+returns c = map_is _ _ _ _ _ _ _ _ _ _ _ _ _ c.detectors-ds.ensures c.at_most-n.ensures.0 c.at_most-k.ensures.0 c.all_pixels.ensures c.few-p.ensures.0
+    c.config.ensures c.front.ensures c.front_wholes.ensures c.front-2.ensures c.front_wholes-2.ensures c.whole.ensures c.meant.ensures _ _ _
+    c.put_traced.ensures

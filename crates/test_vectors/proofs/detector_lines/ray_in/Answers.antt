@@ -1,0 +1,7 @@
+use Rattle.test_vectors.specs.DetectorLines.{ray_in_of}
+use Rattle.std.proofs.Common.{rules}
+use Rattle.test_vectors.proofs.detector_lines.ray_in.Goals as goal
+
+pub returns : goal.returns
+unfolding ray_in_of
+returns c = simp (← c.vec_at.ensures, ← c.vec_at-2.ensures)

@@ -1,0 +1,7 @@
+use Rattle.test_vectors.specs.Parts.{is_dash_of}
+use Rattle.std.proofs.Common.{rules}
+use Rattle.test_vectors.proofs.parts.is_dash.Goals as goal
+
+pub returns : goal.returns
+unfolding is_dash_of
+returns c = simp (← c.part.ensures, ← c.is_byte.ensures)

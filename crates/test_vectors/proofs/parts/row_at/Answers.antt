@@ -1,0 +1,15 @@
+use Rattle.test_vectors.specs.Parts.{row_at_of}
+use Rattle.std.proofs.Common.{rules}
+use Rattle.test_vectors.proofs.parts.row_at.Goals as goal
+
+pub returns : goal.returns
+unfolding row_at_of
+returns c = simp (
+  ← c.double_at.ensures,
+  ← c.next.ensures,
+  ← c.double_at-2.ensures,
+  ← c.next-2.ensures,
+  ← c.double_at-3.ensures,
+  ← c.next-3.ensures,
+  ← c.double_at-4.ensures,
+)

@@ -1,0 +1,12 @@
+use Rattle.test_vectors.specs.SolidLines.{is_hit_of}
+use Rattle.std.proofs.Common.{rules}
+use Rattle.test_vectors.proofs.solid_lines.is_hit.Goals as goal
+
+pub returns-in-Hit : goal.returns-in-Hit
+unfolding is_hit_of
+returns-in-Hit c = simp (c.in-Hit.is, ← c.has_shape.ensures, ← c.is_hit_at.ensures, ← c.both.ensures)
+
+pub returns-in-Miss : goal.returns-in-Miss
+unfolding is_hit_of
+returns-in-Miss c = simp
+    (c.in-Miss.is, ← c.has_shape-in-Miss.ensures, ← c.is_dash.ensures, ← c.both-in-Miss.ensures)

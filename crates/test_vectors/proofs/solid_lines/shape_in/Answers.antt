@@ -1,0 +1,7 @@
+use Rattle.test_vectors.specs.SolidLines.{shape_in_of}
+use Rattle.std.proofs.Common.{rules}
+use Rattle.test_vectors.proofs.solid_lines.shape_in.Goals as goal
+
+pub returns : goal.returns
+unfolding shape_in_of
+returns c = simp (← c.vec_at-sizes.ensures, ← c.numbered.ensures)
