@@ -1,8 +1,7 @@
 -- The code's answers and the definitions' say the same in numbers. Assumes nothing.
 use Prim.Native.Nat.{ℕ}
-use mathlib.Core.Path.{◌≡◌, refl, ap, sym, ◌∙◌}
+use mathlib.Core.Path.{◌≡◌, refl, ap, ◌∙◌}
 use Rattle.error.specs.declared.Check.{Check}
-use Rattle.error.specs.declared.Check.TheVariants.{Passed, Refused}
 use Rattle.error.specs.Refusals.{Checked, passed, refused_at, as_checked}
 use Rattle.scene_text.specs.Scene.{Slices, Answer, answer}
 use Rattle.host_numbers.specs.declared.HostChecked.{HostChecked}

@@ -31,7 +31,17 @@ pub extern "C" fn nonseq_read_scene(
         ≡ scene_from (read_scene_of text.now
         (slices run_values.old run_tags.old solid_values.old solid_tags.old detector_values.old detector_tags.old ray_values.old ray_tags.old)) }
 {
-    host_texts::nonseq_read_scene(text, run_values, run_tags, solid_values, solid_tags, detector_values, detector_tags, ray_values, ray_tags)
+    host_texts::nonseq_read_scene(
+        text,
+        run_values,
+        run_tags,
+        solid_values,
+        solid_tags,
+        detector_values,
+        detector_tags,
+        ray_values,
+        ray_tags,
+    )
 }
 
 // The answer of a tracing as text, whole, or nothing where it does not fit: its length, at most 131,072, is told
@@ -51,7 +61,9 @@ pub extern "C" fn nonseq_put_answer(
     ensures { text_put result buf.new ≡ host_put_answer_of buf.old report filter
         (held detectors flux.now hit_values.now hit_tags.now used) }
 {
-    host_texts::nonseq_put_answer(buf, report, detectors, filter, flux, hit_values, hit_tags, used)
+    host_texts::nonseq_put_answer(
+        buf, report, detectors, filter, flux, hit_values, hit_tags, used,
+    )
 }
 
 // A refusal as text, whole, or nothing where it does not fit. Answers its length.

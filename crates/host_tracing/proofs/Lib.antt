@@ -1,4 +1,4 @@
--- What holds of the definitions, and what walks by hand cite.
+-- What holds of the definitions.
 pub mod Given
 pub mod Laying
 pub mod Told

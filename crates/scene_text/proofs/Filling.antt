@@ -2,13 +2,13 @@
 use mathlib.Core.Path.{◌≡◌, refl, ap, ◌∙◌}
 use mathlib.Core.List.{List, [], ◌∷◌, ◌++◌}
 use mathlib.Core.Bool.{Bool, true, false}
-use Prim.Native.Nat.{ℕ, ◌+◌, ◌-◌, ◌≤◌, ◌<◌}
+use Prim.Native.Nat.{ℕ, ◌+◌, ◌≤◌, ◌<◌}
 use lib.ListN.{length, set}
 use lib.Seq.{set_out}
 use lib.Ieee.{Float, binary64, of_bits}
 use borrow.Author.Tests.{lt-ltb, le-ltb}
 use Rattle.fields.specs.Number.{Read, number, malformed}
-use Rattle.scene_text.specs.Cells.{Values, values, no_values, bad_values, joined, double_cell, whole_cell}
+use Rattle.scene_text.specs.Cells.{Values, joined, double_cell, whole_cell}
 use Rattle.scene_text.specs.Tables.{Filled, filled, next_at, put_all}
 use Rattle.scene_text.specs.Steps.{Table, table, put}
 

@@ -16,8 +16,8 @@ pub fn text(all: &[u8], text: &mut [u8], numbers: &mut [u64]) -> Ran {
 }
 
 // The scene text is a file of that name; `text` has a byte more than the room.
-pub fn file(all: &[u8], text: &mut [u8], numbers: &mut [u64]) -> Ran {
-    let n = files::read(words::word(words::line_in(all, numbers), 1), text);
+pub fn file(rt: &HostRuntime, all: &[u8], text: &mut [u8], numbers: &mut [u64]) -> Ran {
+    let n = files::read(rt, words::word(words::line_in(all, numbers), 1), text);
     lists::put_number(numbers, world::TEXT, n as u64);
     if 0 < n {
         return done_if(n <= world::TEXT_ROOM);

@@ -83,6 +83,7 @@ fn judge_line(name: &[u8], table: &[u8], all: &[u8], verb: usize, ran: Ran, numb
 
 // The line where the file stands.
 fn step(
+    rt: &HostRuntime,
     name: &[u8],
     table: &[u8],
     all: &[u8],
@@ -99,7 +100,7 @@ fn step(
     let verb = read_line(name, table, all, numbers);
     if verb < script::VERBS {
         let ran = script::run(
-            verb, all, text, values, tags, flux, hits, hit_values, hit_tags, numbers, written,
+            rt, verb, all, text, values, tags, flux, hits, hit_values, hit_tags, numbers, written,
         );
         return judge_line(name, table, all, verb, ran, numbers);
     }
@@ -107,7 +108,7 @@ fn step(
 }
 
 // All lines of a file.
-fn run_lines(name: &[u8], table: &[u8], all: &[u8], numbers: &mut [u64]) {
+fn run_lines(rt: &HostRuntime, name: &[u8], table: &[u8], all: &[u8], numbers: &mut [u64]) {
     let mut text = [0u8; world::TEXT_ROOM + 1];
     let mut values = [0.0f64; world::DOUBLES];
     let mut tags = [0u32; world::WHOLES];
@@ -119,6 +120,7 @@ fn run_lines(name: &[u8], table: &[u8], all: &[u8], numbers: &mut [u64]) {
     let mut at: usize = 0;
     while at < all.len() {
         step(
+            rt,
             name,
             table,
             all,
@@ -163,19 +165,31 @@ fn judge_file(name: &[u8], all: &[u8], said: u64, numbers: &mut [u64]) {
 }
 
 // A file's text of scripts, which is said to have so many.
-fn run_text(name: &[u8], table: &[u8], all: &[u8], said: u64, numbers: &mut [u64]) {
+fn run_text(
+    rt: &HostRuntime,
+    name: &[u8],
+    table: &[u8],
+    all: &[u8],
+    said: u64,
+    numbers: &mut [u64],
+) {
     lists::put_number(numbers, world::AT, 0);
     lists::put_number(numbers, world::LINE, 1);
     lists::put_number(numbers, world::INSIDE, 0);
     lists::put_number(numbers, world::IN_FILE, 0);
-    run_lines(name, table, all, numbers);
+    run_lines(rt, name, table, all, numbers);
     judge_file(name, all, said, numbers);
 }
 
+// Room for a file. A value by its type alone, since the check would lay a literal of this length out.
+fn room() -> [u8; FILE_ROOM] {
+    [0; FILE_ROOM]
+}
+
 fn run_file(rt: &HostRuntime, name: &[u8], table: &[u8], said: u64, numbers: &mut [u64]) {
-    let mut buf = [0u8; FILE_ROOM];
+    let mut buf = room();
     let n = files::read(rt, name, &mut buf);
-    run_text(name, table, files::front(&buf, n), said, numbers);
+    run_text(rt, name, table, files::front(&buf, n), said, numbers);
 }
 
 // A line of the index: a file and how many scripts it has.

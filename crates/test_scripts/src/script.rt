@@ -49,6 +49,7 @@ fn on_numbers(verb: usize, numbers: &mut [u64]) -> Ran {
 
 // Lines on the text and what is read from it.
 fn on_text(
+    rt: &HostRuntime,
     verb: usize,
     all: &[u8],
     text: &mut [u8],
@@ -59,7 +60,7 @@ fn on_text(
     let n = lists::few(numbers, world::TEXT, text.len());
     match verb {
         6 => set_up::text(all, text, numbers),
-        7 => set_up::file(all, text, numbers),
+        7 => set_up::file(rt, all, text, numbers),
         8 => set_up::byte(text, numbers),
         _ => test_texts::read(&text[0..n], values, tags, numbers),
     }
@@ -67,6 +68,7 @@ fn on_text(
 
 // Lines on what is written.
 fn on_written(
+    rt: &HostRuntime,
     verb: usize,
     all: &[u8],
     text: &[u8],
@@ -77,7 +79,7 @@ fn on_written(
     let a = world::given(numbers, 0);
     let b = world::given(numbers, 2);
     if verb == 12 {
-        return test_texts::written(all, written, numbers);
+        return test_texts::written(rt, all, written, numbers);
     }
     if verb == 10 {
         if a <= written.len() {
@@ -206,6 +208,7 @@ fn on_memory(
 
 // Lines on what is read and written.
 fn on_texts(
+    rt: &HostRuntime,
     verb: usize,
     all: &[u8],
     text: &mut [u8],
@@ -221,10 +224,10 @@ fn on_texts(
         return on_numbers(verb, numbers);
     }
     if verb < FIRST_ON_WRITTEN {
-        return on_text(verb, all, text, values, tags, numbers);
+        return on_text(rt, verb, all, text, values, tags, numbers);
     }
     if verb < FIRST_SET_UP {
-        return on_written(verb, all, text, written, numbers);
+        return on_written(rt, verb, all, text, written, numbers);
     }
     set_up::set_read(values, tags, numbers)
 }
@@ -236,6 +239,7 @@ fn is_on_texts(verb: usize, numbers: &[u64]) -> bool {
 
 // The line at which the file stands.
 pub(crate) fn run(
+    rt: &HostRuntime,
     verb: usize,
     all: &[u8],
     text: &mut [u8],
@@ -249,7 +253,7 @@ pub(crate) fn run(
     written: &mut [u8],
 ) -> Ran {
     if is_on_texts(verb, numbers) {
-        return on_texts(verb, all, text, values, tags, numbers, written);
+        return on_texts(rt, verb, all, text, values, tags, numbers, written);
     }
     on_memory(
         verb, values, tags, flux, hits, hit_values, hit_tags, numbers, written,

@@ -296,9 +296,10 @@ pub fn map(text: &[u8], numbers: &mut [u64], buf: &mut [u8]) -> Ran {
 }
 
 // Whether what was written last is the file. A file that fills the room here is longer than all that is written.
-pub fn written(all: &[u8], buf: &[u8], numbers: &mut [u64]) -> Ran {
+pub fn written(rt: &HostRuntime, all: &[u8], buf: &[u8], numbers: &mut [u64]) -> Ran {
     let mut stored = [0u8; world::WRITTEN_ROOM + 1];
     let n = files::read(
+        rt,
         words::word(words::asked(words::line_in(all, numbers)), 1),
         &mut stored,
     );

@@ -1,5 +1,5 @@
 -- A turn of the loop over the drawn numbers of a line. Assumes nothing.
-use Rattle.std.proofs.Common.{◌≡◌, ℕ, suc, ◌+◌, ◌-◌, ◌<◌, ◌≤◌, Bool, true, false, List, sym, ◌∙◌, arith}
+use Rattle.std.proofs.Common.{◌≡◌, ℕ, suc, ◌+◌, ◌-◌, ◌<◌, ◌≤◌, Bool, true, false, List, ◌∙◌, arith}
 use Rattle.source.specs.declared.Rng64.{Rng64}
 use Rattle.source.specs.declared.DrawnU64.{DrawnU64}
 use Rattle.source.specs.declared.DrawnF64.{DrawnF64}

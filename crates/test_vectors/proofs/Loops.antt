@@ -1,5 +1,5 @@
 -- A turn of the loop that counts the lines of a text, for any test of a line; and all of a text but its first byte. Assumes nothing.
-use Rattle.std.proofs.Common.{◌≡◌, ℕ, ◌+◌, ◌-◌, ◌<◌, ◌≤◌, Bool, List, [], ◌∷◌, length, take, drop, sym, ◌∙◌, le_of_eq, length-drop, drop_of_length-le, take_all}
+use Rattle.std.proofs.Common.{◌≡◌, ℕ, ◌+◌, ◌-◌, ◌<◌, ◌≤◌, Bool, List, length, take, drop, le_of_eq, length-drop, drop_of_length-le, take_all}
 use Rattle.fields.specs.Split.{text_lines, end_at_of}
 use Rattle.fields.proofs.Parts.{lines_again, lines_none}
 use Rattle.test_vectors.specs.declared.tally.Tally.{Tally}

@@ -62,16 +62,26 @@ fn read_open(file: &mut File, buf: &mut [u8]) -> usize
     done
 }
 
-// The lines of an open file.
-fn run_open(kind: Kind, path: &str, file: &mut File) {
-    let mut text = [0u8; 524288];
-    let n = read_open(file, &mut text);
-    if n == 524288 {
+// The lines of an open file, which is read into text.
+fn run_into(kind: Kind, path: &str, file: &mut File, text: &mut [u8]) {
+    let n = read_open(file, text);
+    if n == text.len() {
         io::write_all(1, path.as_bytes());
         io::write_all(1, b" does not fit the buffer\n");
         return;
     }
     report(path.as_bytes(), tally_lines(kind, &text[..n]));
+}
+
+// Room for a file's text: a byte more than it may have. A value by its type alone, since the check would lay a literal
+// of this length out.
+fn room() -> [u8; 524288] {
+    [0; 524288]
+}
+
+fn run_open(kind: Kind, path: &str, file: &mut File) {
+    let mut text = room();
+    run_into(kind, path, file, &mut text);
 }
 
 // One file. One that is missing or does not fit is said to be so.

@@ -1,7 +1,7 @@
 -- How far a rounded product, sum or difference of modest doubles lies from the exact one: by at most 2 ^ -40, since a
 -- value of at most 64 is moved by at most one of its 2 ^ 50 parts. Numbers as large as L and E are variables wherever
 -- arithmetic is done, since `omega` bounds its coefficients. Assumes nothing.
-use Prim.Native.Nat.{ℕ, ◌+◌, ◌-◌, ◌*◌, ◌/◌, ◌^◌, ◌≤◌, ◌<◌}
+use Prim.Native.Nat.{ℕ, ◌+◌, ◌-◌, ◌*◌, ◌^◌, ◌≤◌, ◌<◌}
 use native.Mathlib.Nat.{le_of_lt, lt_of_le_of_lt, mul_comm, mul-le-mul_left, mul-le-mul_right, mul-pos, le_of_mul-le-mul_right, mul-sub}
 use native.Mathlib.Omega.{arith}
 use mathlib.Core.Path.{◌≡◌, refl, sym, ap, ◌∙◌, subst}

@@ -1,6 +1,6 @@
 -- How far rounding to a double moves a number: at most one of 2 ^ 50 parts of it and one smallest double. And the
 -- product, the sum and the quotient of doubles as the rounded fractions of their values. Assumes nothing.
-use Prim.Native.Nat.{ℕ, zero, suc, ◌+◌, ◌*◌, ◌/◌, ◌^◌, ◌≤◌, ◌<◌}
+use Prim.Native.Nat.{ℕ, zero, suc, ◌+◌, ◌*◌, ◌^◌, ◌≤◌, ◌<◌}
 use native.Mathlib.Nat.{mul-le-mul_left, mul-pos, eq_of_mul-eq-mul_right, zero-mul, zero-lt-suc, lt_irrefl}
 use native.Mathlib.Omega.{arith}
 use mathlib.Core.Path.{◌≡◌, sym, ap, ◌∙◌, subst}

@@ -9,7 +9,7 @@ use Rattle.error.specs.Refusals.{Checked, passed, refused_at, after}
 use Rattle.detector.specs.declared.DetectorNo.{DetectorNo}
 use Rattle.detector.specs.declared.DetectorHit.{DetectorHit}
 use Rattle.detectors.specs.declared.Detectors.{Detectors}
-use Rattle.detectors.specs.Detectors.{all_pixels_of, check_detectors_of, check_asked, placed_of, find_of}
+use Rattle.detectors.specs.Detectors.{check_asked, placed_of, find_of}
 use Rattle.detectors.proofs.Passed.{Sound, sound, asked_sound, both_passed}
 use Rattle.memory.specs.Memory.{Memory, Outcome, refused, unless, record_of, is_memory, record_hit_classified_of}
 use Rattle.memory.proofs.Plain.{map_outcome}

@@ -14,7 +14,6 @@ use Rattle.detectors.specs.declared.Detectors.{Detectors}
 use Rattle.detectors.specs.Detectors.{detector_at, first_pixel_of, check_detectors_of, check_asked, placed_of, find_of}
 use Rattle.memory.specs.Memory.{Memory, Outcome, done, refused, memory_left, unless, record_hit_classified_of}
 use Rattle.memory.specs.Plain.{Empty, added}
-use Rattle.memory.proofs.Plain.{map_outcome}
 use Rattle.filter.specs.declared.RayPathFilter.{RayPathFilter}
 use Rattle.filter.specs.Filters.{numbered_filter_of}
 use Rattle.report.specs.declared.NonSeqTraceReport.{NonSeqTraceReport}
@@ -25,17 +24,16 @@ use Rattle.host_detectors.specs.declared.maps.HostPart.{HostPart}
 use Rattle.host_detectors.specs.Maps.{recorded_from, filtered_from, refilter_by, host_refilter_of, part_from}
 use Rattle.host_numbers.specs.Numbers.{checked_of, read_of}
 use Rattle.host_texts.specs.Texts.{host_put_answer_of}
-use Rattle.host_tracing.specs.declared.answers.HostTraced.{HostTraced}
 use Rattle.host_tracing.specs.Flat.{flat_values, flat_tags}
 use Rattle.host_tracing.specs.Tracing.{left_by, traced_in, host_trace_rays_of}
 use Rattle.theorems_calls.specs.Calls.{Call, tracing, recording, refilter, irradiance, Answer, trace_said, record_said, filter_said, part_said, reading_said, crossing_said, verdict, answer_in, outcome_in}
-use Rattle.theorems_calls.specs.Book.{bare_detectors, bare, with_used, granted, wish_in, plain_hit, book_granted, book_after, book_traced, book_asked, book_filtered, book_reading, book_answer}
+use Rattle.theorems_calls.specs.Book.{bare_detectors, bare, with_used, granted, wish_in, plain_hit, book_granted, book_after, book_traced, book_answer}
 use Rattle.theorems_calls.proofs.Bare.{bare_first, bare_pixels_at, bare_checks, bare_asked, bare_hits, bare_detectors_lem}
 use Rattle.theorems_calls.proofs.Booked.{left_map, Sane}
 use Rattle.theorems_calls.proofs.Lists.{call_booked, after_calls, after_sane}
 use Rattle.theorems_calls.proofs.Answers.{answer_same}
 use Rattle.theorems_hosts.specs.HostCalls.{HostCall, trace_rays, trace_given_rays, record_hit, refilter_map, pixels_in, irradiance_at, put_answer, check_detectors, check_detector, intersect_ray, pixel_area_m2}
-use Rattle.theorems_hosts.specs.HostCalls.{traced, recorded, filtered, part, reading, written, checked, crossed, held_in, host_answer_in, host_memory_after}
+use Rattle.theorems_hosts.specs.HostCalls.{traced, recorded, filtered, part, reading, written, checked, held_in, host_answer_in, host_memory_after}
 use Rattle.theorems_hosts.specs.HostBook.{ambient_in, batch_with, calls_in, traced_with, traced_by, book_tracing, recorded_with, recorded_by, book_sifted, host_book_answer}
 use Rattle.theorems_hosts.proofs.Lists.{calls_left}
 use Rattle.theorems_hosts.proofs.Texts.{handed_in, written_same}

@@ -2,19 +2,18 @@
 use Prim.Native.Nat.{ℕ, zero, suc}
 use mathlib.Core.Path.{◌≡◌, refl, ap, sym, ◌∙◌}
 use mathlib.Core.List.{List, [], ◌∷◌}
-use mathlib.Core.Option.{Option, some}
+use mathlib.Core.Option.{some}
 use native.Mathlib.Omega.{arith}
-use lib.Dec.{eqb}
 use lib.Ieee.{Float}
 use borrow.Author.Tests.{ne_eqb}
 use Rattle.error.specs.Refusals.{passed}
 use Rattle.material.specs.declared.OpticalMedium.{OpticalMedium}
 use Rattle.memory.specs.Memory.{Memory, Outcome, done, refused}
-use Rattle.trace.specs.Trace.{Batch, Trace, check_batch, trace_rays_of}
+use Rattle.trace.specs.Trace.{Trace, check_batch, trace_rays_of}
 use Rattle.host_tracing.specs.declared.answers.HostConfig.{HostConfig}
 use Rattle.host_tracing.specs.Tracing.{left_by, traced_in, host_trace_rays_of}
 use Rattle.theorems_marks.proofs.Only.{never_0}
-use Rattle.theorems_calls.specs.Parts.{Part, Splits, shifted, then_on, with_rays, trace_parts}
+use Rattle.theorems_calls.specs.Parts.{Part, Splits, shifted, then_on, trace_parts}
 use Rattle.theorems_calls.proofs.Split as splitting
 use Rattle.theorems_hosts.specs.HostBook.{ambient_in, batch_with}
 use Rattle.theorems_hosts.specs.HostParts.{outcome_from, host_trace_parts}

@@ -10,7 +10,7 @@ use Rattle.detector.specs.Checks.{check_detector_of}
 use Rattle.detector.specs.Faces.{intersect_ray_of}
 use Rattle.detector.specs.Pixels.{pixel_area_m2_of}
 use Rattle.detectors.specs.Detectors.{check_detectors_of, find_of}
-use Rattle.memory.specs.Memory.{Memory, Outcome, refused, memory_left}
+use Rattle.memory.specs.Memory.{Memory, Outcome, memory_left}
 use Rattle.memory.specs.Plain.{added}
 use Rattle.filter.specs.declared.RayPathFilter.{RayPathFilter}
 use Rattle.filter.specs.Filters.{numbered_filter_of}

@@ -1,4 +1,3 @@
-use borrow.Author.Rules.{rules}
 use Rattle.printing.proofs.Writing.{put_join}
 use Rattle.answer_text.specs.Answer.{answer_text}
 use Rattle.answer_text.proofs.put_answer.Goals as goal

@@ -1,5 +1,4 @@
 use Rattle.answer_text.specs.Answer.{ledger_text}
-use borrow.Author.Rules.{rules}
 use Rattle.printing.proofs.Writing.{put_join}
 use Rattle.fields.specs.Split.{bytes}
 use Rattle.answer_text.proofs.put_ledger.Goals as goal

@@ -1,5 +1,3 @@
-use Prim.Native.Nat.{◌-◌}
-use borrow.Author.Rules.{rules}
 use Rattle.printing.proofs.Writing.{put_in, put_out}
 use Rattle.printing.proofs.put.Goals as goal
 

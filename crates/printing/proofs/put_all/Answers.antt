@@ -1,8 +1,5 @@
-use Prim.Native.Nat.{◌≤◌, ◌-◌}
-use mathlib.Core.Path.{◌≡◌, refl, ◌∙◌}
+use mathlib.Core.Path.{◌∙◌}
 use borrow.Author.Rules.{rules}
-use lib.ListN.{length, drop}
-use Rattle.printing.specs.Printing.{put_all}
 use Rattle.printing.proofs.Writing.{put_next, put_end}
 use Rattle.printing.proofs.put_all.Goals as goal
 

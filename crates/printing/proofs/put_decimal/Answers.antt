@@ -1,6 +1,5 @@
 use mathlib.Core.Path.{◌≡◌, ◌∙◌}
 use lib.ListN.{take}
-use borrow.Author.Rules.{rules}
 use Rattle.printing.specs.Printing.{decimal_text}
 use Rattle.printing.proofs.Back.{digits_are, few_digits}
 use Rattle.printing.proofs.put_decimal.Goals as goal

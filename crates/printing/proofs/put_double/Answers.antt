@@ -1,5 +1,4 @@
 use Rattle.printing.specs.Printing.{double_text, next_at, put_all}
-use borrow.Author.Rules.{rules}
 use Rattle.printing.proofs.put_double.Goals as goal
 
 pub returns : goal.returns

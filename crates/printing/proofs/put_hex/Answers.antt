@@ -1,8 +1,5 @@
-use Prim.Native.Nat.{◌≤◌, ◌<◌, ◌-◌, ◌^◌}
-use mathlib.Core.Path.{◌≡◌, refl, ◌∙◌}
+use mathlib.Core.Path.{◌∙◌}
 use borrow.Author.Rules.{rules}
-use lib.ListN.{length}
-use Rattle.printing.specs.Printing.{put_all, hex_text}
 use Rattle.printing.proofs.Writing.{hex_put, hex_last, hex_none}
 use Rattle.printing.proofs.put_hex.Goals as goal
 

@@ -1,10 +1,6 @@
-use Rattle.std.proofs.Common.{◌≡◌, ◌+◌, ◌-◌, ◌≤◌, length, drop, le_of_lt, arith, rules}
-use Rattle.fields.specs.Split.{text_lines}
+use Rattle.std.proofs.Common.{◌≤◌, length, le_of_lt, arith, rules}
 use Rattle.fields.proofs.Parts.{end_in}
-use Rattle.test_vectors.specs.Count.{tally_lines_of, empty_of}
 use Rattle.test_vectors.proofs.Loops.{turn, done}
-use Rattle.test_vectors.specs.Count.{empty_of, tally_lines_of}
-use Rattle.test_vectors.specs.Lines.{line_agrees_of}
 use Rattle.test_vectors.proofs.tally_lines.Goals as goal
 
 pub slice_bounds-line_agrees-count : goal.slice_bounds-line_agrees-count

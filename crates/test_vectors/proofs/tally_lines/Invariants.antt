@@ -1,8 +1,6 @@
-use Rattle.std.proofs.Common.{◌≡◌, ◌+◌, ◌-◌, ◌≤◌, length, drop, le_of_lt, arith, rules}
+use Rattle.std.proofs.Common.{◌≡◌, ◌+◌, ◌-◌, ◌≤◌, length, drop}
 use Rattle.fields.specs.Split.{text_lines}
-use Rattle.fields.proofs.Parts.{end_in}
 use Rattle.test_vectors.specs.Count.{tally_lines_of, empty_of}
-use Rattle.test_vectors.proofs.Loops.{turn, done}
 use Rattle.test_vectors.specs.Count.{empty_of, tally_lines_of}
 use Rattle.test_vectors.specs.Lines.{line_agrees_of}
 use Rattle.test_vectors.proofs.tally_lines.Given as goal

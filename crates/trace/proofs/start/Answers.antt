@@ -1,5 +1,4 @@
 use Rattle.trace.specs.Trace.{start_of}
-use borrow.Author.Rules.{rules}
 use Rattle.trace.proofs.start.Goals as goal
 
 pub returns : goal.returns

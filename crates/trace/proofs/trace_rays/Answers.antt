@@ -1,6 +1,4 @@
-use mathlib.Core.Path.{refl}
 use Rattle.trace.proofs.Calls.{refused_call, passed_call}
-use borrow.Author.Rules.{rules}
 use Rattle.trace.proofs.trace_rays.Goals as goal
 
 pub returns-in-Refused : goal.returns-in-Refused

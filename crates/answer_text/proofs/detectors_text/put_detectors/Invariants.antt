@@ -1,10 +1,8 @@
 use Prim.Native.Nat.{◌-◌, ◌≤◌}
-use mathlib.Core.Path.{◌≡◌, refl, ◌∙◌}
+use mathlib.Core.Path.{◌≡◌}
 use lib.ListN.{length}
-use borrow.Author.Rules.{rules}
 use Rattle.printing.specs.Printing.{put_all}
 use Rattle.answer_text.specs.Answer.{held, detector_text, each_from, detector_count_of}
-use Rattle.answer_text.proofs.Texts.{each_start, each_again, each_end}
 use Rattle.answer_text.proofs.detectors_text.put_detectors.Given as goal
 
 abbrev pub invariant-loop-d : goal.invariant-loop-d

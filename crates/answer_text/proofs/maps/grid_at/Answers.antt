@@ -1,6 +1,5 @@
 use native.Mathlib.Omega.{arith}
 use Rattle.answer_text.specs.Answer.{grid_from, grid_at_of}
-use borrow.Author.Rules.{rules}
 use Rattle.answer_text.proofs.maps.grid_at.Goals as goal
 
 pub returns-in-There : goal.returns-in-There

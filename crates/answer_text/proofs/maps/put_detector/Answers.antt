@@ -1,5 +1,4 @@
 use Rattle.answer_text.specs.Answer.{detector_text}
-use borrow.Author.Rules.{rules}
 use Rattle.answer_text.proofs.maps.put_detector.Goals as goal
 
 pub returns : goal.returns

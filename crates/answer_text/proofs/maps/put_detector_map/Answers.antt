@@ -1,8 +1,4 @@
-use mathlib.Core.Path.{sym}
-use native.Mathlib.Omega.{arith}
-use lib.Seq.{length-take-le}
-use Rattle.answer_text.proofs.Shown.{again_fits, again_is, again_count, map_none, map-some}
-use borrow.Author.Rules.{rules}
+use Rattle.answer_text.proofs.Shown.{again_is, map_none, map-some}
 use Rattle.answer_text.proofs.maps.put_detector_map.Goals as goal
 
 pub returns-then-w-eq0 : goal.returns-then-w-eq0

@@ -1,8 +1,4 @@
-use mathlib.Core.Path.{sym}
-use native.Mathlib.Omega.{arith}
-use lib.Seq.{length-take-le}
 use Rattle.answer_text.proofs.Shown.{total-shown, count-shown}
-use borrow.Author.Rules.{rules}
 use Rattle.answer_text.proofs.maps.shown.Goals as goal
 
 pub returns : goal.returns

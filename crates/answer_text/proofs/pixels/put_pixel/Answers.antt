@@ -1,6 +1,5 @@
 use Rattle.printing.specs.Printing.{put_all}
 use Rattle.answer_text.specs.Answer.{pixel_text}
-use borrow.Author.Rules.{rules}
 use Rattle.answer_text.proofs.pixels.put_pixel.Goals as goal
 
 pub returns-then-flux : goal.returns-then-flux

@@ -1,10 +1,6 @@
-use Prim.Native.Nat.{◌-◌, ◌≤◌}
-use mathlib.Core.Path.{◌≡◌, refl, ◌∙◌}
-use lib.ListN.{length, drop}
+use mathlib.Core.Path.{◌∙◌}
 use borrow.Author.Rules.{rules}
-use Rattle.printing.specs.Printing.{put_all}
 use Rattle.answer_text.proofs.Texts.{pixels_again, pixels_end}
-use Rattle.answer_text.specs.Answer.{pixels_text}
 use Rattle.answer_text.proofs.pixels.put_pixels.Goals as goal
 
 pub loop-i-preserved : goal.loop-i-preserved

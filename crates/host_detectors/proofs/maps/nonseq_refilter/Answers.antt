@@ -1,6 +1,5 @@
 use Rattle.host_detectors.proofs.Alike.{filtered_same}
 use Rattle.host_detectors.specs.Maps.{refilter_by, host_refilter_of}
-use borrow.Author.Rules.{rules}
 use Rattle.host_detectors.proofs.maps.nonseq_refilter.Goals as goal
 
 pub returns-in-Filter : goal.returns-in-Filter

@@ -1,5 +1,4 @@
 use Rattle.host_tracing.specs.Tracing.{no_medium_of}
-use borrow.Author.Rules.{rules}
 use Rattle.host_tracing.proofs.answers.no_medium.Goals as goal
 
 pub returns : goal.returns

@@ -1,5 +1,4 @@
 use Rattle.host_tracing.specs.Tracing.{told_of}
-use borrow.Author.Rules.{rules}
 use Rattle.host_tracing.proofs.answers.told.Goals as goal
 
 pub returns : goal.returns

@@ -1,7 +1,6 @@
 use native.Mathlib.Omega.{arith}
 use Rattle.host_tracing.proofs.Laying.{room_in}
 use Rattle.host_tracing.specs.Flat.{put_ray_of}
-use borrow.Author.Rules.{rules}
 use Rattle.host_tracing.proofs.slices.put_ray.Goals as goal
 
 pub put_ray_values-requires : goal.put_ray_values-requires

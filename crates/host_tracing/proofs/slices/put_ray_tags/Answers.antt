@@ -1,9 +1,6 @@
-use native.Mathlib.Omega.{arith}
-use lib.ListN.{length-set}
 use native.Mathlib.Numerals.{add-one, add-two, add-three, add-four, add_five, add_six, add_seven, add_eight}
 use Rattle.host_tracing.proofs.Laying.{add_nine}
 use Rattle.host_tracing.specs.Flat.{ray_tags_row}
-use borrow.Author.Rules.{rules}
 use Rattle.host_tracing.proofs.slices.put_ray_tags.Goals as goal
 
 pub returns : goal.returns

@@ -1,8 +1,5 @@
-use native.Mathlib.Omega.{arith}
-use lib.ListN.{length-set}
 use native.Mathlib.Numerals.{add-one, add-two, add-three, add-four, add_five, add_six, add_seven}
 use Rattle.host_tracing.specs.Flat.{ray_values_row}
-use borrow.Author.Rules.{rules}
 use Rattle.host_tracing.proofs.slices.put_ray_values.Goals as goal
 
 pub returns : goal.returns

@@ -1,5 +1,4 @@
 use Rattle.host_tracing.proofs.Told.{traced_is, no_medium_is}
-use borrow.Author.Rules.{rules}
 use Rattle.host_tracing.proofs.tracing.nonseq_trace_rays.Goals as goal
 
 pub returns-in-Medium : goal.returns-in-Medium

@@ -1,5 +1,4 @@
 use Rattle.map_text.specs.StrayMap.{room}
-use borrow.Author.Rules.{rules}
 use Rattle.map_text.proofs.Answers.{text_refused, text_mapped}
 use Rattle.map_text.proofs.answering.put_stray_map.Goals as goal
 

@@ -1,5 +1,3 @@
-use mathlib.Core.Path.{sym}
-use lib.Seq.{length-take-le}
 use borrow.Author.Tests.{le-leb, lt-leb}
 use Rattle.fields.specs.Split.{front_of}
 use Rattle.map_text.proofs.mapping.front_wholes.Goals as goal

@@ -1,7 +1,3 @@
-use mathlib.Core.Path.{sym}
-use native.Mathlib.Omega.{arith}
-use lib.Seq.{length-take-le}
-use borrow.Author.Rules.{rules}
 use Rattle.map_text.proofs.Outcomes.{map_is}
 use Rattle.map_text.proofs.mapping.put_map.Goals as goal
 

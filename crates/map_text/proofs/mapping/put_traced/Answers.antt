@@ -1,4 +1,3 @@
-use borrow.Author.Rules.{rules}
 use Rattle.map_text.proofs.Outcomes.{refused_text, done_text}
 use Rattle.map_text.proofs.mapping.put_traced.Goals as goal
 

@@ -1,5 +1,4 @@
 use Rattle.map_text.specs.Tables.{config_of}
-use borrow.Author.Rules.{rules}
 use Rattle.map_text.proofs.parts.config.Goals as goal
 
 pub returns : goal.returns

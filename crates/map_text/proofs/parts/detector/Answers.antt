@@ -1,5 +1,4 @@
 use Rattle.map_text.specs.Tables.{detector_of}
-use borrow.Author.Rules.{rules}
 use Rattle.map_text.proofs.parts.detector.Goals as goal
 
 pub returns : goal.returns

@@ -1,5 +1,4 @@
 use Rattle.map_text.specs.Tables.{detectors_of}
-use borrow.Author.Rules.{rules}
 use Rattle.map_text.proofs.parts.detectors.Goals as goal
 
 pub returns : goal.returns

@@ -1,6 +1,5 @@
 use borrow.Author.Tests.{eq-eqb, ne_eqb}
 use Rattle.map_text.specs.Tables.{meant_of}
-use borrow.Author.Rules.{rules}
 use Rattle.map_text.proofs.parts.meant.Goals as goal
 
 pub returns-then-number-eq-NO_FILTER : goal.returns-then-number-eq-NO_FILTER

@@ -1,7 +1,6 @@
 use Rattle.doubles.proofs.Floats.{zero_by_zero}
 use borrow.Author.Tests.{lt-ltb, le-ltb}
 use Rattle.map_text.specs.Tables.{value_of}
-use borrow.Author.Rules.{rules}
 use Rattle.map_text.proofs.parts.value.Goals as goal
 
 pub returns-then-i-l : goal.returns-then-i-l

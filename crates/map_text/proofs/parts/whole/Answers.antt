@@ -1,6 +1,5 @@
 use borrow.Author.Tests.{lt-ltb, le-ltb}
 use Rattle.map_text.specs.Tables.{whole_of}
-use borrow.Author.Rules.{rules}
 use Rattle.map_text.proofs.parts.whole.Goals as goal
 
 pub returns-then-i-l : goal.returns-then-i-l

@@ -1,6 +1,5 @@
 use borrow.Author.Tests.{lt-ltb, le-ltb}
 use Rattle.printing.specs.Rows.{behind_of}
-use borrow.Author.Rules.{rules}
 use Rattle.printing.proofs.rows.behind.Goals as goal
 
 pub returns-then-i-n-2 : goal.returns-then-i-n-2

@@ -1,12 +1,9 @@
-use Prim.Native.Nat.{◌-◌, ◌≤◌}
-use mathlib.Core.Path.{◌≡◌, refl, ◌∙◌}
+use mathlib.Core.Path.{refl, ◌∙◌}
 use lib.Ieee.{nan}
-use lib.ListN.{length, drop}
 use borrow.Author.Rules.{rules}
 use Rattle.printing.specs.Printing.{double_text}
 use Rattle.printing.proofs.Lines.{spaced_again, spaced_end}
-use Rattle.printing.specs.Printing.{put_all}
-use Rattle.printing.specs.Rows.{doubles_text, spaced}
+use Rattle.printing.specs.Rows.{doubles_text}
 use Rattle.printing.proofs.rows.put_doubles.Goals as goal
 
 pub loop-i-init : goal.loop-i-init

@@ -1,4 +1,3 @@
-use borrow.Author.Rules.{rules}
 use Rattle.printing.proofs.Lines.{row_wholes, row_both}
 use Rattle.printing.proofs.rows.put_row.Goals as goal
 

@@ -1,11 +1,8 @@
-use Prim.Native.Nat.{◌-◌, ◌≤◌}
-use mathlib.Core.Path.{◌≡◌, refl, ◌∙◌}
-use lib.ListN.{length, drop}
+use mathlib.Core.Path.{refl, ◌∙◌}
 use borrow.Author.Rules.{rules}
 use Rattle.printing.specs.Printing.{decimal_text}
 use Rattle.printing.proofs.Lines.{spaced_again, spaced_end}
-use Rattle.printing.specs.Printing.{put_all}
-use Rattle.printing.specs.Rows.{spaced, wholes_text}
+use Rattle.printing.specs.Rows.{wholes_text}
 use Rattle.printing.proofs.rows.put_wholes.Goals as goal
 
 pub loop-i-init : goal.loop-i-init

@@ -1,8 +1,6 @@
 use native.Mathlib.Omega.{arith}
-use mathlib.Core.Path.{sym, ◌∙◌, subst}
-use lib.Dec.{T}
+use mathlib.Core.Path.{sym, ◌∙◌}
 use Rattle.scene_text.proofs.Standing.{stands_over, stands-row, stands_bad}
-use borrow.Author.Rules.{rules}
 use Rattle.scene_text.proofs.blocks.read_line.Goals as goal
 
 pub returns-then-same-clause-nw_after : goal.returns-then-same-clause-nw_after

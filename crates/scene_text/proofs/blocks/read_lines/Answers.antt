@@ -1,9 +1,5 @@
-use borrow.Author.Rules.{rules}
-use mathlib.Core.Path.{◌≡◌, refl, ◌∙◌}
-use Prim.Native.Nat.{◌+◌, ◌≤◌}
-use lib.ListN.{length}
-use Rattle.scene_text.specs.Steps.{table, comes_to}
-use Rattle.scene_text.proofs.Standing.{stands_start, stands_end, left, less}
+use mathlib.Core.Path.{◌∙◌}
+use Rattle.scene_text.proofs.Standing.{stands_start, stands_end}
 use Rattle.scene_text.proofs.blocks.read_lines.Goals as goal
 
 pub returns-clause-at_after : goal.returns-clause-at_after

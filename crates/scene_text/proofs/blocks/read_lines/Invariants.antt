@@ -1,9 +1,8 @@
-use borrow.Author.Rules.{rules}
-use mathlib.Core.Path.{◌≡◌, refl, ◌∙◌}
+use mathlib.Core.Path.{◌≡◌}
 use Prim.Native.Nat.{◌+◌, ◌≤◌}
 use lib.ListN.{length}
 use Rattle.scene_text.specs.Steps.{table, comes_to}
-use Rattle.scene_text.proofs.Standing.{stands_start, stands_end, left, less}
+use Rattle.scene_text.proofs.Standing.{left}
 use Rattle.scene_text.proofs.blocks.read_lines.Given as goal
 
 abbrev pub invariant-loop-f : goal.invariant-loop-f

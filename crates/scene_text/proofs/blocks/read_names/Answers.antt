@@ -1,5 +1,4 @@
 use Rattle.scene_text.proofs.Gathering.{names_are}
-use borrow.Author.Rules.{rules}
 use Rattle.scene_text.proofs.blocks.read_names.Goals as goal
 
 pub returns-clause-fact : goal.returns-clause-fact

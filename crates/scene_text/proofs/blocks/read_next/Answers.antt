@@ -1,8 +1,5 @@
-use mathlib.Core.Path.{sym, subst}
-use lib.Dec.{T}
 use Rattle.fields.proofs.Parts.{end_in}
 use Rattle.scene_text.proofs.Standing.{stands-last}
-use borrow.Author.Rules.{rules}
 use Rattle.scene_text.proofs.blocks.read_next.Goals as goal
 
 pub read_line-requires : goal.read_line-requires

@@ -1,9 +1,5 @@
-use Prim.Native.Nat.{◌≤◌, ◌-◌}
-use mathlib.Core.Path.{◌≡◌, refl}
 use native.Mathlib.Omega.{arith}
 use borrow.Author.Rules.{rules}
-use lib.ListN.{drop}
-use Rattle.scene_text.specs.Blocks.{same_of}
 use Rattle.scene_text.proofs.Alike.{same_no, same_again, same_stop, same_end}
 use Rattle.scene_text.proofs.blocks.same.Goals as goal
 

@@ -1,10 +1,7 @@
 use Prim.Native.Nat.{◌≤◌, ◌-◌}
-use mathlib.Core.Path.{◌≡◌, refl}
-use native.Mathlib.Omega.{arith}
-use borrow.Author.Rules.{rules}
+use mathlib.Core.Path.{◌≡◌}
 use lib.ListN.{drop}
 use Rattle.scene_text.specs.Blocks.{same_of}
-use Rattle.scene_text.proofs.Alike.{same_no, same_again, same_stop, same_end}
 use Rattle.scene_text.proofs.blocks.same.Given as goal
 
 abbrev pub invariant-loop-i : goal.invariant-loop-i

@@ -1,5 +1,4 @@
 use Rattle.scene_text.proofs.Filling.{put_in, put_out}
-use borrow.Author.Rules.{rules}
 use Rattle.scene_text.proofs.cells.put_f64.Goals as goal
 
 pub returns-then-at-d : goal.returns-then-at-d

@@ -1,5 +1,4 @@
 use Rattle.scene_text.proofs.Filling.{put_in, put_out}
-use borrow.Author.Rules.{rules}
 use Rattle.scene_text.proofs.cells.put_u32.Goals as goal
 
 pub returns-then-at-w : goal.returns-then-at-w

@@ -1,7 +1,6 @@
 use mathlib.Core.Path.{ap}
 use Rattle.fields.specs.Number.{as_whole}
 use Rattle.scene_text.proofs.Filling.{put_whole, put_no_whole}
-use borrow.Author.Rules.{rules}
 use Rattle.scene_text.proofs.cells.put_whole.Goals as goal
 
 pub returns-in-Whole : goal.returns-in-Whole

@@ -1,6 +1,5 @@
 use borrow.Author.Tests.{lt-ltb, le-ltb}
 use Rattle.scene_text.specs.Cells.{read_below_of}
-use borrow.Author.Rules.{rules}
 use Rattle.scene_text.proofs.cells.read_below.Goals as goal
 
 pub returns-then-n-m : goal.returns-then-n-m

@@ -1,6 +1,5 @@
 use Rattle.scene_text.specs.Cells.{read_cell_of}
 use borrow.Author.Tests.{eq-eqb, ne_eqb}
-use borrow.Author.Rules.{rules}
 use Rattle.scene_text.proofs.cells.read_cell.Goals as goal
 
 pub returns-then-kind-eq100 : goal.returns-then-kind-eq100

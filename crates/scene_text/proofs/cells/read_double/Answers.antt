@@ -1,7 +1,6 @@
 use mathlib.Core.Path.{ap, sym, ◌∙◌}
 use Rattle.fields.specs.Number.{as_bits}
 use Rattle.scene_text.proofs.Filling.{put_double, put_no_double}
-use borrow.Author.Rules.{rules}
 use Rattle.scene_text.proofs.cells.read_double.Goals as goal
 
 pub returns-in-Bits : goal.returns-in-Bits

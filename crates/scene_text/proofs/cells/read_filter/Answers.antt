@@ -1,5 +1,4 @@
 use Rattle.scene_text.specs.Cells.{read_filter_of}
-use borrow.Author.Rules.{rules}
 use Rattle.scene_text.proofs.cells.read_filter.Goals as goal
 
 pub returns-then-is_byte : goal.returns-then-is_byte

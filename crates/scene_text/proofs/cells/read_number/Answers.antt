@@ -1,6 +1,5 @@
 use borrow.Author.Tests.{eq-eqb, ne_eqb}
 use Rattle.scene_text.specs.Cells.{read_number_of}
-use borrow.Author.Rules.{rules}
 use Rattle.scene_text.proofs.cells.read_number.Goals as goal
 
 pub returns-then-kind-eq102 : goal.returns-then-kind-eq102

@@ -1,11 +1,6 @@
 use borrow.Author.Rules.{rules}
 use native.Mathlib.Omega.{arith}
-use mathlib.Core.Path.{◌≡◌, refl}
-use Prim.Native.Nat.{◌+◌, ◌-◌, ◌≤◌}
-use lib.ListN.{length}
-use Rattle.fields.specs.Split.{parts_at}
 use Rattle.fields.proofs.Parts.{end_in}
-use Rattle.scene_text.specs.Cells.{count_media_of}
 use Rattle.scene_text.proofs.Joined.{count_again, count_bad, count_done}
 use Rattle.scene_text.proofs.media.count_media.Goals as goal
 

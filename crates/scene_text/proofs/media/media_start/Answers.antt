@@ -1,7 +1,5 @@
-use native.Mathlib.Omega.{arith}
 use mathlib.Core.Path.{sym, ◌∙◌}
 use Rattle.scene_text.proofs.Joined.{start_dash, start_list}
-use borrow.Author.Rules.{rules}
 use Rattle.scene_text.proofs.media.media_start.Goals as goal
 
 pub returns-then-is_byte-clause-result_value : goal.returns-then-is_byte-clause-result_value

@@ -1,4 +1,3 @@
-use native.Mathlib.Omega.{arith}
 use Rattle.fields.proofs.Parts.{end_in}
 use Rattle.scene_text.proofs.Joined.{medium_past, medium_here}
 use borrow.Author.Rules.{rules}

@@ -1,5 +1,4 @@
 use Rattle.scene_text.specs.Cells.{number_or_zero_of}
-use borrow.Author.Rules.{rules}
 use Rattle.scene_text.proofs.media.number_or_zero.Goals as goal
 
 pub returns-in-Whole : goal.returns-in-Whole

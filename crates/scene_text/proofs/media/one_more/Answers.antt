@@ -1,6 +1,5 @@
 use native.Mathlib.Omega.{arith}
 use Rattle.scene_text.proofs.Joined.{more_is, most_is}
-use borrow.Author.Rules.{rules}
 use Rattle.scene_text.proofs.media.one_more.Goals as goal
 
 pub returns-then-n-lt-MORE_MEDIA : goal.returns-then-n-lt-MORE_MEDIA

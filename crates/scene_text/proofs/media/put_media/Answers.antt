@@ -1,12 +1,6 @@
 use native.Mathlib.Omega.{arith}
-use borrow.Author.Rules.{rules}
-use mathlib.Core.Path.{◌≡◌, refl, ◌∙◌}
-use Prim.Native.Nat.{◌+◌, ◌-◌, ◌≤◌}
-use lib.ListN.{length}
-use Rattle.fields.specs.Split.{parts_at}
-use Rattle.scene_text.specs.Tables.{put_all}
+use mathlib.Core.Path.{◌∙◌}
 use Rattle.scene_text.proofs.Joined.{media_again, media_end}
-use Rattle.scene_text.specs.Cells.{media_row}
 use Rattle.scene_text.proofs.media.put_media.Goals as goal
 
 pub loop-j-preserved : goal.loop-j-preserved

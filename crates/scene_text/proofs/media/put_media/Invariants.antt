@@ -1,11 +1,8 @@
-use native.Mathlib.Omega.{arith}
-use borrow.Author.Rules.{rules}
-use mathlib.Core.Path.{◌≡◌, refl, ◌∙◌}
+use mathlib.Core.Path.{◌≡◌}
 use Prim.Native.Nat.{◌+◌, ◌-◌, ◌≤◌}
 use lib.ListN.{length}
 use Rattle.fields.specs.Split.{parts_at}
 use Rattle.scene_text.specs.Tables.{put_all}
-use Rattle.scene_text.proofs.Joined.{media_again, media_end}
 use Rattle.scene_text.specs.Cells.{media_row}
 use Rattle.scene_text.proofs.media.put_media.Given as goal
 

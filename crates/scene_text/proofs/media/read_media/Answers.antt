@@ -1,6 +1,4 @@
-use mathlib.Core.Path.{◌∙◌}
 use Rattle.scene_text.proofs.Joined.{media_some, media_no}
-use borrow.Author.Rules.{rules}
 use Rattle.scene_text.proofs.media.read_media.Goals as goal
 
 pub returns-in-Whole : goal.returns-in-Whole

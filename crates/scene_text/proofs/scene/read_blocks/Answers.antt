@@ -1,7 +1,6 @@
 use Rattle.scene_text.specs.Names.{ended, ray_form}
 use Rattle.scene_text.specs.Scene.{slices}
 use Rattle.scene_text.proofs.Gathering.{gathered}
-use borrow.Author.Rules.{rules}
 use Rattle.fields.specs.Split.{bytes}
 use Rattle.scene_text.proofs.scene.read_blocks.Goals as goal
 

@@ -1,5 +1,4 @@
 use Rattle.scene_text.specs.Names.{ended, ray_names, detector_form}
-use borrow.Author.Rules.{rules}
 use Rattle.fields.specs.Split.{bytes}
 use Rattle.scene_text.proofs.scene.read_detectors.Goals as goal
 

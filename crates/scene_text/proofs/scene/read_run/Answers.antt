@@ -1,7 +1,6 @@
 use Rattle.scene_text.specs.Names.{ended, run_names, run_form, solid_names}
 use Rattle.scene_text.specs.Steps.{rest_at}
 use Rattle.scene_text.proofs.Gathering.{run_is}
-use borrow.Author.Rules.{rules}
 use Rattle.fields.specs.Split.{bytes}
 use Rattle.scene_text.proofs.scene.read_run.Goals as goal
 

@@ -1,5 +1,4 @@
 use Rattle.scene_text.specs.Names.{ended, detector_names, solid_form}
-use borrow.Author.Rules.{rules}
 use Rattle.fields.specs.Split.{bytes}
 use Rattle.scene_text.proofs.scene.read_solids.Goals as goal
 

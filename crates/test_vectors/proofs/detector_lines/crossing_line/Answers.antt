@@ -1,5 +1,4 @@
 use Rattle.test_vectors.specs.DetectorLines.{crossing_line_of}
-use Rattle.std.proofs.Common.{rules}
 use Rattle.test_vectors.proofs.detector_lines.crossing_line.Goals as goal
 
 pub returns : goal.returns

@@ -1,5 +1,4 @@
 use Rattle.test_vectors.specs.DetectorLines.{grid_in_of}
-use Rattle.std.proofs.Common.{rules}
 use Rattle.test_vectors.proofs.detector_lines.grid_in.Goals as goal
 
 pub returns : goal.returns

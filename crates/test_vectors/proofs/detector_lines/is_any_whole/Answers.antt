@@ -1,5 +1,4 @@
 use Rattle.test_vectors.specs.DetectorLines.{is_any_whole_of}
-use Rattle.std.proofs.Common.{rules}
 use Rattle.test_vectors.proofs.detector_lines.is_any_whole.Goals as goal
 
 pub returns-in-Whole : goal.returns-in-Whole

@@ -1,5 +1,4 @@
 use Rattle.test_vectors.specs.DetectorLines.{is_area_of}
-use Rattle.std.proofs.Common.{rules}
 use Rattle.test_vectors.proofs.detector_lines.is_area.Goals as goal
 
 pub returns-in-Value : goal.returns-in-Value

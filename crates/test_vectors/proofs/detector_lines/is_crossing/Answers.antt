@@ -1,5 +1,4 @@
 use Rattle.test_vectors.specs.DetectorLines.{is_crossing_of}
-use Rattle.std.proofs.Common.{rules}
 use Rattle.test_vectors.proofs.detector_lines.is_crossing.Goals as goal
 
 pub returns-in-At : goal.returns-in-At

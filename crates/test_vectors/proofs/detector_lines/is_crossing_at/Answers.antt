@@ -1,5 +1,4 @@
 use Rattle.test_vectors.specs.DetectorLines.{is_crossing_at_of}
-use Rattle.std.proofs.Common.{rules}
 use Rattle.test_vectors.proofs.detector_lines.is_crossing_at.Goals as goal
 
 pub returns : goal.returns

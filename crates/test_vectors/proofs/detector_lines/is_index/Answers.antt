@@ -1,5 +1,4 @@
 use Rattle.test_vectors.specs.DetectorLines.{is_index_of}
-use Rattle.std.proofs.Common.{rules}
 use Rattle.test_vectors.proofs.detector_lines.is_index.Goals as goal
 
 pub returns-in-Whole : goal.returns-in-Whole

@@ -1,5 +1,4 @@
 use Rattle.test_vectors.specs.DetectorLines.{is_recording_given_of}
-use Rattle.std.proofs.Common.{rules}
 use Rattle.test_vectors.proofs.detector_lines.is_recording_given.Goals as goal
 
 pub returns : goal.returns

@@ -1,5 +1,4 @@
 use Rattle.test_vectors.specs.DetectorLines.{whole_at_of}
-use Rattle.std.proofs.Common.{rules}
 use Rattle.test_vectors.proofs.detector_lines.whole_at.Goals as goal
 
 pub returns-in-Whole : goal.returns-in-Whole

@@ -1,5 +1,4 @@
 use Rattle.test_vectors.specs.Lines.{double_line_of}
-use Rattle.std.proofs.Common.{rules}
 use Rattle.test_vectors.proofs.lines.double_line.Goals as goal
 
 pub returns : goal.returns

@@ -1,6 +1,5 @@
-use Rattle.std.proofs.Common.{◌≡◌, ◌-◌, ◌≤◌, refl, rules}
+use Rattle.std.proofs.Common.{rules}
 use Rattle.test_vectors.proofs.Draws.{draw-again, draw-stop, draw_end}
-use Rattle.test_vectors.specs.Lines.{draws_agree_of}
 use Rattle.test_vectors.proofs.lines.draws_agree.Goals as goal
 
 pub loop-k-preserved : goal.loop-k-preserved

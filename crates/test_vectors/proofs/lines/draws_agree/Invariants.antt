@@ -1,5 +1,4 @@
-use Rattle.std.proofs.Common.{◌≡◌, ◌-◌, ◌≤◌, refl, rules}
-use Rattle.test_vectors.proofs.Draws.{draw-again, draw-stop, draw_end}
+use Rattle.std.proofs.Common.{◌≡◌, ◌-◌, ◌≤◌}
 use Rattle.test_vectors.specs.Lines.{draws_agree_of}
 use Rattle.test_vectors.proofs.lines.draws_agree.Given as goal
 

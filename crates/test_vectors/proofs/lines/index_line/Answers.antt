@@ -1,5 +1,4 @@
 use Rattle.test_vectors.specs.Lines.{index_agrees, index_line_of, index_of_medium}
-use Rattle.std.proofs.Common.{rules}
 use Rattle.test_vectors.proofs.lines.index_line.Goals as goal
 
 pub returns-in-Medium : goal.returns-in-Medium

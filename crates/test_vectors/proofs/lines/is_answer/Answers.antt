@@ -1,5 +1,4 @@
 use Rattle.test_vectors.specs.Lines.{is_answer_of}
-use Rattle.std.proofs.Common.{rules}
 use Rattle.test_vectors.proofs.lines.is_answer.Goals as goal
 
 pub returns-in-Index : goal.returns-in-Index

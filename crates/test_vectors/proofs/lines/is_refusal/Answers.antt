@@ -1,4 +1,4 @@
-use Rattle.std.proofs.Common.{ap, ◌∙◌, rules, le-ltb, lt-ltb, eq-eqb, ne_eqb}
+use Rattle.std.proofs.Common.{ap, ◌∙◌, le-ltb, lt-ltb, eq-eqb, ne_eqb}
 use Rattle.fields.specs.Number.{read_whole_of}
 use Rattle.test_vectors.proofs.Loops.{all_but_first}
 use Rattle.test_vectors.specs.Lines.{is_refusal_of}

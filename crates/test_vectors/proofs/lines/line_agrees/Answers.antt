@@ -1,5 +1,4 @@
 use Rattle.test_vectors.specs.Lines.{line_agrees_of}
-use Rattle.std.proofs.Common.{rules}
 use Rattle.test_vectors.proofs.lines.line_agrees.Goals as goal
 
 pub returns-in-Root : goal.returns-in-Root

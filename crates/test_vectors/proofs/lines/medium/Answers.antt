@@ -1,5 +1,4 @@
 use Rattle.test_vectors.specs.Lines.{medium_of}
-use Rattle.std.proofs.Common.{rules}
 use Rattle.test_vectors.proofs.lines.medium.Goals as goal
 
 pub returns : goal.returns

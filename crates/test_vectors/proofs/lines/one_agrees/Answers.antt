@@ -1,5 +1,4 @@
 use Rattle.test_vectors.specs.Lines.{one_agrees_of}
-use Rattle.std.proofs.Common.{rules}
 use Rattle.test_vectors.proofs.lines.one_agrees.Goals as goal
 
 pub returns : goal.returns

@@ -1,5 +1,4 @@
 use Rattle.test_vectors.specs.Lines.{pair_agrees_of}
-use Rattle.std.proofs.Common.{rules}
 use Rattle.test_vectors.proofs.lines.pair_agrees.Goals as goal
 
 pub returns : goal.returns

@@ -1,5 +1,4 @@
 use Rattle.test_vectors.specs.Lines.{state_line_of}
-use Rattle.std.proofs.Common.{rules}
 use Rattle.test_vectors.proofs.lines.state_line.Goals as goal
 
 pub returns : goal.returns

@@ -1,6 +1,4 @@
-use Rattle.std.proofs.Common.{◌≡◌, ◌-◌, refl, rules}
 use Rattle.test_vectors.proofs.PartLoops.{bits-again, bits-stop, bits_end}
-use Rattle.test_vectors.specs.Parts.{bits_from}
 use Rattle.test_vectors.proofs.parts.are_bits.Goals as goal
 
 pub loop-k-preserved : goal.loop-k-preserved

@@ -1,5 +1,4 @@
-use Rattle.std.proofs.Common.{◌≡◌, ◌-◌, refl, rules}
-use Rattle.test_vectors.proofs.PartLoops.{bits-again, bits-stop, bits_end}
+use Rattle.std.proofs.Common.{◌≡◌, ◌-◌}
 use Rattle.test_vectors.specs.Parts.{bits_from}
 use Rattle.test_vectors.proofs.parts.are_bits.Given as goal
 

@@ -1,5 +1,4 @@
 use Rattle.test_vectors.specs.Parts.{bits_at_of}
-use Rattle.std.proofs.Common.{rules}
 use Rattle.test_vectors.proofs.parts.bits_at.Goals as goal
 
 pub returns-in-Bits : goal.returns-in-Bits

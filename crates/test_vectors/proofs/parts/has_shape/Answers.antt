@@ -1,4 +1,4 @@
-use Rattle.std.proofs.Common.{rules, eq-eqb, ne_eqb}
+use Rattle.std.proofs.Common.{eq-eqb, ne_eqb}
 use Rattle.test_vectors.specs.Parts.{has_shape_of}
 use Rattle.test_vectors.proofs.parts.has_shape.Goals as goal
 

@@ -1,5 +1,4 @@
 use Rattle.test_vectors.specs.Parts.{is_double_of}
-use Rattle.std.proofs.Common.{rules}
 use Rattle.test_vectors.proofs.parts.is_double.Goals as goal
 
 pub returns : goal.returns

@@ -1,5 +1,4 @@
 use Rattle.test_vectors.specs.Parts.{mat_at_of}
-use Rattle.std.proofs.Common.{rules}
 use Rattle.test_vectors.proofs.parts.mat_at.Goals as goal
 
 pub returns : goal.returns

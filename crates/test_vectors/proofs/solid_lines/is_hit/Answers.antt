@@ -1,5 +1,4 @@
 use Rattle.test_vectors.specs.SolidLines.{is_hit_of}
-use Rattle.std.proofs.Common.{rules}
 use Rattle.test_vectors.proofs.solid_lines.is_hit.Goals as goal
 
 pub returns-in-Hit : goal.returns-in-Hit

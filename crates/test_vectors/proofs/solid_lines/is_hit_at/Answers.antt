@@ -1,5 +1,4 @@
 use Rattle.test_vectors.specs.SolidLines.{is_hit_at_of}
-use Rattle.std.proofs.Common.{rules}
 use Rattle.test_vectors.proofs.solid_lines.is_hit_at.Goals as goal
 
 pub returns : goal.returns

@@ -1,5 +1,4 @@
 use Rattle.test_vectors.specs.SolidLines.{object_in_of}
-use Rattle.std.proofs.Common.{rules}
 use Rattle.test_vectors.proofs.solid_lines.object_in.Goals as goal
 
 pub returns : goal.returns

@@ -1,5 +1,4 @@
 use Rattle.test_vectors.specs.SolidLines.{ray_in_of}
-use Rattle.std.proofs.Common.{rules}
 use Rattle.test_vectors.proofs.solid_lines.ray_in.Goals as goal
 
 pub returns : goal.returns

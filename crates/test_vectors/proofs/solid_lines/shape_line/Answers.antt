@@ -1,5 +1,4 @@
 use Rattle.test_vectors.specs.SolidLines.{shape_agrees, shape_line_of, shape_numbered}
-use Rattle.std.proofs.Common.{rules}
 use Rattle.test_vectors.proofs.solid_lines.shape_line.Goals as goal
 
 pub returns-in-Shape : goal.returns-in-Shape

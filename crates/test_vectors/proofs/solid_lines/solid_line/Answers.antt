@@ -1,5 +1,4 @@
 use Rattle.test_vectors.specs.SolidLines.{solid_agrees, solid_line_of, solid_numbered}
-use Rattle.std.proofs.Common.{rules}
 use Rattle.test_vectors.proofs.solid_lines.solid_line.Goals as goal
 
 pub returns-in-Shape : goal.returns-in-Shape

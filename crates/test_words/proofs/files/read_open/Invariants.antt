@@ -1,4 +1,4 @@
-use Rattle.std.proofs.Common.{length, ◌-◌, ◌≡◌, ◌≤◌}
+use Rattle.std.proofs.Common.{length, ◌-◌, ◌≤◌}
 use Rattle.test_words.proofs.files.read_open.Given as goal
 
 abbrev pub invariant-loop-done : goal.invariant-loop-done

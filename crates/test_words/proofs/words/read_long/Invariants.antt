@@ -1,4 +1,4 @@
-use Rattle.std.proofs.Common.{◌-◌, ◌≤◌, length, rules}
+use Rattle.std.proofs.Common.{◌-◌, ◌≤◌, length}
 use Rattle.test_words.proofs.words.read_long.Given as goal
 
 abbrev pub invariant-loop-k : goal.invariant-loop-k

@@ -1,6 +1,5 @@
 use borrow.Author.Tests.{le-leb, lt-leb}
 use Rattle.trace.specs.Trace.{check_config_of}
-use borrow.Author.Rules.{rules}
 use Rattle.trace.proofs.checks.check_config.Goals as goal
 
 pub returns-then-config-le-MAX_BOUNCES : goal.returns-then-config-le-MAX_BOUNCES

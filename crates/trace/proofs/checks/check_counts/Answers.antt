@@ -1,6 +1,5 @@
 use borrow.Author.Tests.{le-leb, lt-leb}
 use Rattle.trace.specs.Trace.{check_counts_of}
-use borrow.Author.Rules.{rules}
 use Rattle.trace.proofs.checks.check_counts.Goals as goal
 
 pub returns-then-given-le-MAX_RAYS : goal.returns-then-given-le-MAX_RAYS

@@ -1,5 +1,4 @@
 use Rattle.trace.specs.Trace.{check_flat_of}
-use borrow.Author.Rules.{rules}
 use Rattle.trace.proofs.checks.check_flat.Goals as goal
 
 pub returns-in-Passed : goal.returns-in-Passed

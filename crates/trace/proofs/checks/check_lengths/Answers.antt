@@ -1,5 +1,4 @@
 use Rattle.trace.specs.Trace.{check_lengths_of}
-use borrow.Author.Rules.{rules}
 use Rattle.trace.proofs.checks.check_lengths.Goals as goal
 
 pub returns-then-are_lengths : goal.returns-then-are_lengths

@@ -1,5 +1,4 @@
 use Rattle.trace.specs.Trace.{check_rules_of}
-use borrow.Author.Rules.{rules}
 use Rattle.trace.proofs.checks.check_rules.Goals as goal
 
 pub returns-in-Passed : goal.returns-in-Passed

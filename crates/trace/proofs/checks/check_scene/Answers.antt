@@ -1,5 +1,4 @@
 use Rattle.trace.specs.Trace.{check_scene_of}
-use borrow.Author.Rules.{rules}
 use Rattle.trace.proofs.checks.check_scene.Goals as goal
 
 pub returns-in-Passed-check_rules : goal.returns-in-Passed-check_rules

@@ -1,5 +1,4 @@
 use Rattle.trace.specs.Trace.{check_trace_of, checks_with}
-use borrow.Author.Rules.{rules}
 use Rattle.trace.proofs.checks.check_trace.Goals as goal
 
 pub returns-in-Passed-check_lengths : goal.returns-in-Passed-check_lengths
