@@ -1,4 +1,5 @@
 #!/usr/bin/env python3
+# Of the older kit, kept as it was: it fills what prove.py wrote, and today's proofs have no such files.
 """fill.py PROOF < ANSWERS: fill the holes of a proof file that prove.py left.
 
 Each block of ANSWERS starts with a line `NAME:` (a need, Inv-loop, a measure, or `use`); what follows

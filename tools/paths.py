@@ -1,3 +1,4 @@
+# Of the older kit, kept as it was: there are no `.before` paths in today's proofs.
 """paths.py: the long paths of a proof under names. Used by prove.py.
 
 A path `c .before .before .before .. .goes-on .ensures` of a need's clause becomes `goes-on .ensures`, with

@@ -1,4 +1,5 @@
 #!/usr/bin/env python3
+# Of the older kit, kept as it was: today's Rattle writes its own proof files (rt check --start F) and has no walks.
 """prove.py CRATE [FUNCTION ..]: write the proof files that a check of CRATE asks for.
 
 A need that `search needs` closes is left to it. At each `returns` the goal is rewritten by what the

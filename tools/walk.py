@@ -1,4 +1,5 @@
 #!/usr/bin/env python3
+# Of the older kit, kept as it was: the walks that it wrote and the MIR that it went by are gone.
 """walk.py NAME FILE: write the walk by hand of the function NAME, a key of WALKS, into FILE. Then `rt fmt`.
 
 A walk is the proof of a function that the checker does not cover. There are two shapes:
