@@ -1,5 +1,4 @@
 use Rattle.bench.specs.Hits.{bench_hit_of, bench_ray}
-use borrow.Author.Rules.{rules}
 use Rattle.bench.proofs.bench_closest.Goals as goal
 
 pub returns : goal.returns

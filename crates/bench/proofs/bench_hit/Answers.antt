@@ -1,5 +1,4 @@
 use Rattle.bench.specs.Hits.{bench_hit_of}
-use borrow.Author.Rules.{rules}
 use Rattle.bench.proofs.bench_hit.Goals as goal
 
 pub returns-in-Hit : goal.returns-in-Hit

@@ -1,11 +1,7 @@
-use borrow.Author.Rules.{rules}
-use mathlib.Core.Path.{◌≡◌, refl, ap}
-use mathlib.Core.List.{List, [], ◌∷◌}
-use Prim.Native.Nat.{◌-◌, ◌≤◌}
+use mathlib.Core.Path.{◌≡◌}
+use Prim.Native.Nat.{◌-◌}
 use lib.ListN.{length, drop}
-use lib.Ieee.{Float, binary64, add, of_bits}
-use Rattle.doubles.specs.Root.{sqrt_of}
-use Rattle.bench.proofs.Loops.{turn, done}
+use lib.Ieee.{binary64, of_bits}
 use Rattle.bench.specs.Loops.{bench_root_chain_of}
 use Rattle.bench.proofs.bench_root_chain.Given as goal
 

@@ -1,9 +1,6 @@
-use borrow.Author.Rules.{rules}
 use mathlib.Core.Path.{◌≡◌, refl, ap}
 use mathlib.Core.List.{List, [], ◌∷◌}
-use Prim.Native.Nat.{◌-◌, ◌≤◌}
-use lib.ListN.{length, drop}
-use lib.Ieee.{Float, binary64, add, of_bits}
+use lib.Ieee.{Float, binary64, add}
 use Rattle.doubles.specs.Root.{sqrt_of}
 use Rattle.bench.proofs.Loops.{turn, done}
 use Rattle.bench.specs.Loops.{bench_root_sum_of}

@@ -1,5 +1,4 @@
 use Rattle.bench.specs.Hits.{met_of}
-use borrow.Author.Rules.{rules}
 use Rattle.bench.proofs.met.Goals as goal
 
 pub returns : goal.returns
