@@ -1,4 +1,4 @@
 //! Builds the driver again when the proved library changed.
 fn main() {
-    println!("cargo:rerun-if-changed=../../crates/bench_c/out/libbench_c.a");
+    println!("cargo:rerun-if-changed=../../target/staticlib/libbench.a");
 }

@@ -25,7 +25,7 @@ struct BenchHit {
     g: [f64; 3],
 }
 
-#[link(name = "bench_c", kind = "static")]
+#[link(name = "bench", kind = "static")]
 extern "C" {
     #[allow(clippy::too_many_arguments)]
     fn bench_closest(solid_values: *const f64, nv: usize, solid_tags: *const u32, nt: usize, count: u32, ox: f64, oy: f64, oz: f64, dx: f64, dy: f64, dz: f64) -> BenchHit;
