@@ -12,6 +12,7 @@ ghost use Rattle.doubles.specs.Doubles.{abs_of, clamp_of, max_zero_of, is_finite
 pub use root::{root_elsewhere, sqrt};
 
 // The double of a bit pattern. Every NaN pattern gives the one NaN.
+#[tactic(auto, using(crate::proofs::Floats::nan_pattern, crate::proofs::Floats::no_nan_pattern, crate::proofs::Floats::zero_by_zero))]
 pub fn from_bits(b: u64) -> f64
     ensures { result ≡ from_bits binary64 b }
 {
@@ -42,6 +43,7 @@ pub fn abs(x: f64) -> f64
 }
 
 // `x.abs() > h`, without a test for NaN.
+#[tactic(auto, using(crate::proofs::Sizes::exceeds_first, crate::proofs::Sizes::exceeds_then))]
 pub fn exceeds(x: f64, h: f64) -> bool
     ensures { result ≡ exceeds_of x h }
 {
@@ -52,6 +54,7 @@ pub fn exceeds(x: f64, h: f64) -> bool
 }
 
 // `x.abs() < h`.
+#[tactic(auto, using(crate::proofs::Sizes::under_first, crate::proofs::Sizes::under_not))]
 pub fn is_under(x: f64, h: f64) -> bool
     ensures { result ≡ is_under_of x h }
 {
@@ -62,6 +65,7 @@ pub fn is_under(x: f64, h: f64) -> bool
 }
 
 // `x.abs() <= h`.
+#[tactic(auto, using(crate::proofs::Sizes::within_first, crate::proofs::Sizes::within_not))]
 pub fn is_within(x: f64, h: f64) -> bool
     ensures { result ≡ is_within_of x h }
 {
@@ -73,6 +77,7 @@ pub fn is_within(x: f64, h: f64) -> bool
 
 // `x.clamp(lo, hi)`: keeps NaN, and keeps -0 between 0 and 1. Where lo is above hi or one of them
 // is NaN the Rust panics; here the same two tests go on.
+#[tactic(auto, unfolding(crate::specs::Doubles::clamp_of))]
 pub fn clamp(x: f64, lo: f64, hi: f64) -> f64
     ensures { result ≡ clamp_of x lo hi }
 {
@@ -86,6 +91,7 @@ pub fn clamp(x: f64, lo: f64, hi: f64) -> f64
 }
 
 // `x.max(0.0)`: +0 for NaN and for -0.
+#[tactic(auto, unfolding(crate::specs::Doubles::max_zero_of))]
 pub fn max_zero(x: f64) -> f64
     ensures { result ≡ max_zero_of x }
 {
@@ -96,6 +102,7 @@ pub fn max_zero(x: f64) -> f64
 }
 
 // `x.is_finite()`.
+#[tactic(auto, using(crate::proofs::Small::finite_is))]
 pub fn is_finite(x: f64) -> bool
     ensures { result ≡ is_finite_of x }
 {

@@ -48,6 +48,7 @@ fn is_nearest_root(m: u64, q: u64) -> bool
 // their errors lie evenly about 0. The first step turns both signs and the second turns them back.
 // t has the first digits of g1, so that t * t and x - t * t are exact, and d, which is x - g * g,
 // nearly so.
+#[tactic(auto, using(crate::proofs::Floats::positive_no_nan), unfolding(crate::specs::Guess::guess_of, crate::specs::Guess::scaled_bits))]
 fn guess(b: u64) -> f64
     ensures { result ≡ guess_of b }
 {
@@ -77,9 +78,7 @@ fn nearest_root(m: u64) -> u64
     let mut n = m;
     let mut q: u64 = 0;
     let mut r: u64 = 0;
-    let mut j: u64 = 0;
-    while j < 53 {
-        j += 1;
+    for _ in 0..53u64 {
         r = r * 4 + n / 0x10_0000_0000_0000;
         n = n % 0x10_0000_0000_0000 * 4;
         let t = q * 4 + 1;
@@ -135,6 +134,7 @@ fn root_by(b: u64, q: u64) -> f64
 
 // The root of a double within 2^-26 of 1, as the squared length of a vector that was made a unit vector is:
 // half as far from 1, by as many of the smallest steps; an odd number of steps goes to the lower root.
+#[tactic(auto, using(crate::proofs::Floats::positive_no_nan, crate::proofs::Beside::root_beside))]
 fn root_beside_one(b: u64) -> f64
     requires { (0x3fef_ffff_fc00_0000 ≤ b) × (b < 0x3ff0_0000_0400_0000) }
     ensures { result ≡ sqrt_of (from_bits binary64 b) }
@@ -143,6 +143,7 @@ fn root_beside_one(b: u64) -> f64
 }
 
 // By the guess.
+#[tactic(auto, using(crate::proofs::Floats::same_no_nan))]
 fn root_guessed(b: u64) -> f64
     requires { (2 ^ 52 ≤ b) × (b < 0x7ff0_0000_0000_0000) }
     ensures { result ≡ sqrt_of (from_bits binary64 b) }
@@ -185,6 +186,7 @@ pub fn root_elsewhere(x: f64) -> f64
 
 // `x.sqrt()`: the double nearest to the root of x. Roots beside 1 are short enough to be worked out where
 // they are asked for.
+#[tactic(auto, using(crate::proofs::Floats::same_no_nan, crate::proofs::Floats::differs_is_nan, crate::proofs::Roots::own_nan, crate::proofs::Roots::by_bits))]
 pub fn sqrt(x: f64) -> f64
     ensures { result ≡ sqrt_of x }
 {

@@ -1,8 +1,7 @@
 -- The numbers of the documents' refusals, and what a call answers in these terms.
-use Rattle.std.specs.Prelude.{ℕ}
+use Rattle.std.specs.Prelude.{ℕ, Result, Ok, Err}
 use Rattle.error.specs.declared.NonSeqError.{NonSeqError}
-use Rattle.error.specs.declared.Check.{Check}
-use Rattle.error.specs.declared.Check.TheVariants.{Passed, Refused}
+use Rattle.error.specs.declared.Refusal.{Refusal}
 use Rattle.error.specs.declared.NonSeqError.TheVariants.{InvalidThreshold, BounceLimitTooLarge, ListTooLong}
 use Rattle.error.specs.declared.NonSeqError.TheVariants.{NoSuchDetector, InvalidDetectorSize, ZeroResolution}
 use Rattle.error.specs.declared.NonSeqError.TheVariants.{ResolutionTooLarge, ParallelUp, InvalidSliceLength}
@@ -41,10 +40,14 @@ pub data Checked (A : Type 0) : Type 0 where
   passed : A → Checked A
   refused_at : ℕ → ℕ → Checked A
 
--- what the code's check says
-abbrev pub as_checked : Check → Checked Unit
-as_checked Passed = passed tt
-as_checked (Refused e place) = refused_at (number_of e) place
+-- what the code's answers say in these terms
+abbrev pub as_answer : {A : Type 0} → Result A NonSeqError → Answer A
+as_answer (Ok a) = value a
+as_answer (Err e) = refusal (number_of e)
+
+abbrev pub as_checked : {A : Type 0} → Result A Refusal → Checked A
+as_checked (Ok a) = passed a
+as_checked (Err r) = refused_at (number_of r.error) r.place
 
 -- the second answer, unless the check before it refuses
 abbrev pub after : {A : Type 0} → Checked Unit → Checked A → Checked A

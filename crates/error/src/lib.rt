@@ -4,7 +4,7 @@
 ghost use Rattle.std.specs.Prelude.{◌≡◌};
 ghost use Rattle.error.specs.Refusals.{number_of};
 
-#[derive(Clone, Copy)]
+#[derive(Clone, Copy, Debug, PartialEq, Eq)]
 pub enum NonSeqError {
     // 1: the threshold is below 0 or not finite
     InvalidThreshold,
@@ -46,7 +46,7 @@ pub enum NonSeqError {
 }
 
 impl NonSeqError {
-    // The documents' number.
+    // The documents' number. No `From<NonSeqError> for u32`: that would not say which number it is.
     pub fn number(self) -> u32
         ensures { result ≡ number_of self }
     {
@@ -73,9 +73,9 @@ impl NonSeqError {
     }
 }
 
-// What checks before a run find: nothing wrong, or a refusal and its place in a list, from 0.
-#[derive(Clone, Copy)]
-pub enum Check {
-    Passed,
-    Refused { error: NonSeqError, place: u32 },
+// A refusal, and the place in a list of what is refused, from 0.
+#[derive(Clone, Copy, Debug, PartialEq, Eq)]
+pub struct Refusal {
+    pub error: NonSeqError,
+    pub place: u32,
 }

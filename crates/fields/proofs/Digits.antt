@@ -1,4 +1,6 @@
 -- Laws of the digits of a number. Assumes nothing.
+use Rattle.std.specs.Prelude.{Option, None, Some, ◌&&◌}
+use Rattle.std.specs.List.{list_all}
 use mathlib.Core.Path.{◌≡◌, refl, sym, subst}
 use mathlib.Core.List.{List, [], ◌∷◌}
 use mathlib.Core.Bool.{Bool, true, false, cond}
@@ -6,11 +8,11 @@ use Prim.Native.Nat.{ℕ, zero, suc, ◌+◌, ◌-◌, ◌*◌, ◌^◌, ◌≤�
 use native.Mathlib.Nat.{pow-suc, pow-le-pow_right, lt_of_lt_of_le}
 use native.Mathlib.Numerals.{add-one}
 use native.Mathlib.Omega.{arith}
-use lib.Dec.{T, ltb}
+use lib.Dec.{T, eqb, ltb}
 use lib.ListN.{length, drop, get_or, drop_of_length-le}
 use lib.Seq.{drop-cons}
-use borrow.Author.Tests.{lt-ltb, le-ltb, eq-eqb, ne_eqb, ltb-true, ltb-false}
-use Rattle.fields.specs.Number.{number, malformed, digit_of, is_hex_of, hex_pad_of, digit_at_of, is_decimal, decimal_from, is_led_by_zero_of, read_whole_of}
+use borrow.Author.Tests.{lt-ltb, le-ltb, ltb-true, ltb-false}
+use Rattle.fields.specs.Number.{digit_of, is_hex_of, hex_pad_of, digit_at_of, is_decimal, decimal_from, is_led_by_zero_of, read_whole_of}
 
 clash : false ≡ true → ⊥
 clash e = subst T (sym e) tt
@@ -94,6 +96,17 @@ digit_at_lt t i e = go (ltb i (length t)) refl
     go true q = rw q (hex_here t i (ltb-true _ _ q) (hex_drop t i e))
     go false q = rw q (omega arith)
 
+-- ---- all digits of a text
+
+pub hex_all : (t : List ℕ) → list_all (λ b. ltb (digit_of b) 16) t ≡ is_hex_of t
+unfolding is_hex_of
+hex_all [] = refl
+hex_all (b ∷ t) = go (ltb (digit_of b) 16) (hex_all t)
+  where
+    go : (x : Bool) → list_all (λ b. ltb (digit_of b) 16) t ≡ is_hex_of t → (x && list_all (λ b. ltb (digit_of b) 16) t) ≡ cond x (is_hex_of t) false
+    go true i = i
+    go false i = refl
+
 -- ---- a decimal digit more
 
 module _ (t : List ℕ) (i : ℕ) (h : i < length t) where
@@ -125,28 +138,28 @@ from_end t i v w h e = rw (drop_of_length-le t h) at e
 -- ---- each answer of `read_whole`
 
 module _ (t : List ℕ) where
-  pub whole_none : length t ≡ 0 → malformed ≡ read_whole_of t
+  pub whole_none : eqb (length t) 0 ≡ true → None ≡ read_whole_of t
   unfolding read_whole_of
-  whole_none e = simp (eq-eqb _ _ e)
+  whole_none e = simp e
 
-  module _ (n : length t ≡ 0 → ⊥) where
-    pub whole-led : is_led_by_zero_of t ≡ true → malformed ≡ read_whole_of t
+  module _ (n : eqb (length t) 0 ≡ false) where
+    pub whole-led : is_led_by_zero_of t ≡ true → None ≡ read_whole_of t
     unfolding read_whole_of
-    whole-led l = simp (ne_eqb _ _ n, l)
+    whole-led l = simp (n, l)
 
     module _ (l : is_led_by_zero_of t ≡ false) where
-      pub whole-bad : is_decimal t ≡ false → malformed ≡ read_whole_of t
+      pub whole-bad : is_decimal t ≡ false → None ≡ read_whole_of t
       unfolding read_whole_of
-      whole-bad e = simp (ne_eqb _ _ n, l, e)
+      whole-bad e = simp (n, l, e)
 
-      pub whole-big : 2 ^ 32 ≤ decimal_from 0 t → malformed ≡ read_whole_of t
+      pub whole-big : 2 ^ 32 ≤ decimal_from 0 t → None ≡ read_whole_of t
       unfolding read_whole_of
-      whole-big e = simp (ne_eqb _ _ n, l, le-ltb _ _ e) (same (is_decimal t))
+      whole-big e = simp (n, l, le-ltb _ _ e) (same (is_decimal t))
         where
-          same : (b : Bool) → malformed ≡ cond b malformed malformed
+          same : (b : Bool) → ◌≡◌ {A = Option ℕ} None (cond b None None)
           same true = refl
           same false = refl
 
-      pub whole_is : (v : ℕ) → is_decimal t ≡ true → v ≡ decimal_from 0 t → v < 2 ^ 32 → number v ≡ read_whole_of t
+      pub whole_is : (v : ℕ) → is_decimal t ≡ true → v ≡ decimal_from 0 t → v < 2 ^ 32 → Some v ≡ read_whole_of t
       unfolding read_whole_of
-      whole_is v e w b = let b2 : decimal_from 0 t < 2 ^ 32 = rw w at b in simp (ne_eqb _ _ n, l, e, lt-ltb _ _ b2, w)
+      whole_is v e w b = let b2 : decimal_from 0 t < 2 ^ 32 = rw w at b in simp (n, l, e, lt-ltb _ _ b2, w)

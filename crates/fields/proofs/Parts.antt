@@ -1,16 +1,17 @@
 -- Laws of the parts of a text. Assumes nothing.
 use mathlib.Core.Path.{◌≡◌, refl, sym, ap, ◌∙◌}
 use mathlib.Core.List.{List, [], ◌∷◌}
-use mathlib.Core.Bool.{Bool, true, false, cond}
+use mathlib.Core.Bool.{Bool, true, false, cond, ◌&&◌}
 use Prim.Native.Nat.{ℕ, suc, ◌+◌, ◌-◌, ◌≤◌, ◌<◌}
 use native.Mathlib.Nat.{le_refl, le_trans, le_of_eq, lt_irrefl, lt_of_lt_of_le, add-zero}
 use native.Mathlib.Numerals.{add-one}
 use native.Mathlib.Omega.{arith}
 use lib.Dec.{eqb, ltb}
+use lib.Pointwise.{pointwise}
 use lib.ListN.{length, take, drop, get_or, length-drop, drop_of_length-le}
 use lib.Seq.{drop-cons, drop-drop}
 use borrow.Author.Tests.{lt-ltb, le-ltb, eq-eqb, ne_eqb, ltb-true, ltb-false, eqb-true, eqb-false}
-use Rattle.fields.specs.Split.{before, later, split, ended, text_lines, end_at_of, after_of, parts_at}
+use Rattle.fields.specs.Split.{before, later, split, ended, text_lines, end_at_of, after_of, parts_at, is_byte_of}
 
 -- ---- what stands before the first b
 
@@ -81,6 +82,22 @@ module _ (s : List ℕ) (b i e : ℕ) where
 
   pub count_end : (n : ℕ) → length s ≤ i → n + length (later b (drop i s)) ≡ e → n ≡ e
   count_end n h p = sym (add-zero n) ∙ ap (λ (l : List (List ℕ)). n + length l) (sym (later_end s i b h)) ∙ p
+
+-- ---- a text of one byte
+
+pub one_byte : (s : List ℕ) (b : ℕ) → pointwise eqb s (b ∷ []) ≡ is_byte_of s b
+unfolding is_byte_of
+one_byte [] b = refl
+one_byte (x ∷ []) b = go (eqb x b)
+  where
+    go : (t : Bool) → (t && true) ≡ t
+    go true = refl
+    go false = refl
+one_byte (x ∷ y ∷ s) b = let n : eqb (suc (suc (length s))) 1 ≡ false = ne_eqb _ _ (λ e. omega (arith, e)) in rw n (go (eqb x b))
+  where
+    go : (t : Bool) → (t && false) ≡ false
+    go true = refl
+    go false = refl
 
 -- ---- the end of a part
 

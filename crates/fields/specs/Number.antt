@@ -1,23 +1,5 @@
 -- Numbers in text.
-use Rattle.std.specs.Prelude.{ℕ, zero, suc, ◌+◌, ◌-◌, ◌*◌, ◌^◌, List, [], ◌∷◌, Bool, true, false, cond, eqb, ltb, length, get_or}
-use Rattle.fields.specs.declared.number.ReadBits.{ReadBits}
-use Rattle.fields.specs.declared.number.ReadBits.TheVariants as ReadBits'
-use Rattle.fields.specs.declared.number.ReadWhole.{ReadWhole}
-use Rattle.fields.specs.declared.number.ReadWhole.TheVariants as ReadWhole'
-
--- what reading a number finds
-pub data Read : Type 0 where
-  number : ℕ → Read
-  malformed : Read
-
--- what the code's answers say
-abbrev pub as_bits : ReadBits → Read
-as_bits (ReadBits'.Bits n) = number n
-as_bits ReadBits'.Malformed = malformed
-
-abbrev pub as_whole : ReadWhole → Read
-as_whole (ReadWhole'.Whole n) = number n
-as_whole ReadWhole'.Malformed = malformed
+use Rattle.std.specs.Prelude.{ℕ, zero, suc, ◌+◌, ◌-◌, ◌*◌, ◌^◌, List, [], ◌∷◌, Bool, true, false, cond, eqb, ltb, length, get_or, Option, None, Some}
 
 -- ---- doubles, by their bits
 
@@ -40,11 +22,11 @@ unfoldable pub digit_at_of : List ℕ → ℕ → ℕ
 digit_at_of t i = cond (ltb i (length t)) (digit_of (get_or t i 0)) 0
 
 -- 1 to 16 hex digits, zeros understood on the right
-unfoldable pub read_bits_of : List ℕ → Read
+unfoldable pub read_bits_of : List ℕ → Option ℕ
 read_bits_of t =
-    cond (eqb (length t) 0) malformed
-    (cond (ltb 16 (length t)) malformed
-    (cond (is_hex_of t) (number (hex_pad_of 0 16 t)) malformed))
+    cond (eqb (length t) 0) None
+    (cond (ltb 16 (length t)) None
+    (cond (is_hex_of t) (Some (hex_pad_of 0 16 t)) None))
 
 -- ---- decimals
 
@@ -62,8 +44,8 @@ unfoldable pub is_led_by_zero_of : List ℕ → Bool
 is_led_by_zero_of t = cond (ltb (length t) 2) false (eqb (get_or t 0 0) 48)
 
 -- a decimal below 2 ^ 32 without leading zeros
-unfoldable pub read_whole_of : List ℕ → Read
+unfoldable pub read_whole_of : List ℕ → Option ℕ
 read_whole_of t =
-    cond (eqb (length t) 0) malformed
-    (cond (is_led_by_zero_of t) malformed
-    (cond (is_decimal t) (cond (ltb (decimal_from 0 t) (2 ^ 32)) (number (decimal_from 0 t)) malformed) malformed))
+    cond (eqb (length t) 0) None
+    (cond (is_led_by_zero_of t) None
+    (cond (is_decimal t) (cond (ltb (decimal_from 0 t) (2 ^ 32)) (Some (decimal_from 0 t)) None) None))

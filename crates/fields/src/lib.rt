@@ -5,5 +5,5 @@
 mod number;
 mod split;
 
-pub use number::{ReadBits, ReadWhole, read_bits, read_whole};
-pub use split::{count_parts, end_at, is_byte, part};
+pub use number::{read_bits, read_whole};
+pub use split::{count_parts, end_at, front, is_byte, part};

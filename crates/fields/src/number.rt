@@ -1,66 +1,34 @@
 // Numbers in text: hex digits of a double's bits, and decimals.
 ghost use Rattle.std.specs.Prelude.{◌≡◌, true, ◌≤◌};
-ghost use Rattle.fields.specs.Number.{digit_of, digit_at_of, is_hex_of, hex_pad_of, read_bits_of, as_bits, is_led_by_zero_of, read_whole_of, as_whole};
-
-#[derive(Clone, Copy)]
-pub enum ReadBits {
-    Bits(u64),
-    Malformed,
-}
-
-#[derive(Clone, Copy)]
-pub enum ReadWhole {
-    Whole(u32),
-    Malformed,
-}
-
-// The byte after the last digit, the one after the last letter, and where the letters count from 0.
-const AFTER_9: u8 = b'9' + 1;
-
-const AFTER_F: u8 = b'f' + 1;
-
-const LETTERS: u8 = b'a' - 10;
+ghost use Rattle.fields.specs.Number.{digit_of, digit_at_of, is_hex_of, hex_pad_of, read_bits_of, is_led_by_zero_of, read_whole_of};
 
 // What a hex digit counts; 16 for any other byte.
+#[tactic(auto, unfolding(crate::specs::Number::digit_of))]
 fn digit(b: u8) -> u64
     ensures { result ≡ digit_of b }
 {
-    if b < b'0' {
-        return 16;
+    match b {
+        b'0'..=b'9' => u64::from(b - b'0'),
+        b'a'..=b'f' => u64::from(b - b'a' + 10),
+        _ => 16,
     }
-    if b < AFTER_9 {
-        return (b - b'0') as u64;
-    }
-    if b < b'a' {
-        return 16;
-    }
-    if b < AFTER_F {
-        return (b - LETTERS) as u64;
-    }
-    16
 }
 
 fn is_hex(t: &[u8]) -> bool
     ensures { result ≡ is_hex_of t.now }
 {
-    let mut i: usize = 0;
-    while i < t.len() {
-        if 16 <= digit(t[i]) {
-            return false;
-        }
-        i += 1;
-    }
-    true
+    t.iter().all(|b| digit(*b) < 16)
 }
 
 // The digit at place i, or 0 past the end.
+#[tactic(auto, unfolding(crate::specs::Number::digit_at_of))]
 fn digit_at(t: &[u8], i: usize) -> u64
     ensures { result ≡ digit_at_of t.now i }
 {
-    if i < t.len() {
-        return digit(t[i]);
+    match t.get(i) {
+        Some(b) => digit(*b),
+        None => 0,
     }
-    0
 }
 
 // Sixteen digits, zeros understood on the right.
@@ -69,64 +37,51 @@ fn hex_pad(t: &[u8]) -> u64
     ensures { result ≡ hex_pad_of 0 16 t.now }
 {
     let mut v: u64 = 0;
-    let mut i: usize = 0;
-    while i < 16 {
+    for i in 0..16 {
         v = v * 16 + digit_at(t, i);
-        i += 1;
     }
     v
 }
 
 // The bits of a double: 1 to 16 lower-case hex digits, zeros understood on the right.
-pub fn read_bits(t: &[u8]) -> ReadBits
-    ensures { as_bits result ≡ read_bits_of t.now }
+#[tactic(auto, unfolding(crate::specs::Number::read_bits_of))]
+pub fn read_bits(t: &[u8]) -> Option<u64>
+    ensures { result ≡ read_bits_of t.now }
 {
-    let n = t.len();
-    if n == 0 {
-        return ReadBits::Malformed;
+    if t.is_empty() || 16 < t.len() || !is_hex(t) {
+        return None;
     }
-    if 16 < n {
-        return ReadBits::Malformed;
-    }
-    if is_hex(t) {
-        return ReadBits::Bits(hex_pad(t));
-    }
-    ReadBits::Malformed
+    Some(hex_pad(t))
 }
 
 // Whether a 0 stands before another byte.
+#[tactic(auto, unfolding(crate::specs::Number::is_led_by_zero_of))]
 fn is_led_by_zero(t: &[u8]) -> bool
     ensures { result ≡ is_led_by_zero_of t.now }
 {
-    if t.len() < 2 {
-        return false;
-    }
-    t[0] == b'0'
+    1 < t.len() && t[0] == b'0'
 }
 
 // A decimal below 2^32 without leading zeros.
-pub fn read_whole(t: &[u8]) -> ReadWhole
-    ensures { as_whole result ≡ read_whole_of t.now }
+pub fn read_whole(t: &[u8]) -> Option<u32>
+    ensures { result ≡ read_whole_of t.now }
 {
-    let n = t.len();
-    if n == 0 {
-        return ReadWhole::Malformed;
+    if t.is_empty() {
+        return None;
     }
     if is_led_by_zero(t) {
-        return ReadWhole::Malformed;
+        return None;
     }
     let mut v: u64 = 0;
-    let mut i: usize = 0;
-    while i < n {
-        let d = digit(t[i]);
+    for b in t {
+        let d = digit(*b);
         if 10 <= d {
-            return ReadWhole::Malformed;
+            return None;
         }
         v = v * 10 + d;
         if 0xffff_ffff < v {
-            return ReadWhole::Malformed;
+            return None;
         }
-        i += 1;
     }
-    ReadWhole::Whole(v as u32)
+    Some(v as u32)
 }

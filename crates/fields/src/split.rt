@@ -1,19 +1,17 @@
 // The parts of a text between the places where a byte stands.
 ghost use Rattle.std.specs.Prelude.{◌≡◌, [], ◌∷◌, ◌+◌, ◌<◌, length};
-ghost use Rattle.fields.specs.Split.{end_at_of, after_of, is_byte_of, part_at_of, part_of, count_parts_of};
+ghost use Rattle.fields.specs.Split.{front_of, end_at_of, after_of, is_byte_of, part_at_of, part_of, count_parts_of};
 
 // The first place from `at` on that holds b, or the text's length where there is none.
 pub fn end_at(s: &[u8], at: usize, b: u8) -> usize
     ensures { result ≡ end_at_of s.now at b }
 {
-    let mut i = at;
-    while i < s.len() {
+    for i in at..s.len() {
         if s[i] == b {
             return i;
         }
-        i += 1;
     }
-    i
+    at.max(s.len())
 }
 
 // Where the part that follows the one at `at` starts; past the length where there is none.
@@ -42,10 +40,8 @@ pub fn part(s: &[u8], b: u8, k: usize) -> &[u8]
     ensures { result.now ≡ part_of s.now b k }
 {
     let mut at: usize = 0;
-    let mut j: usize = 0;
-    while j < k {
+    for _ in 0..k {
         at = after(s, at, b);
-        j += 1;
     }
     part_at(s, at, b)
 }
@@ -55,11 +51,8 @@ pub fn count_parts(s: &[u8], b: u8) -> usize
     ensures { result ≡ count_parts_of s.now b }
 {
     let mut n: usize = 1;
-    let mut i: usize = 0;
-    while i < s.len() {
-        let x = s[i];
-        i += 1;
-        if x == b {
+    for x in s {
+        if *x == b {
             n += 1;
         }
     }
@@ -70,8 +63,13 @@ pub fn count_parts(s: &[u8], b: u8) -> usize
 pub fn is_byte(s: &[u8], b: u8) -> bool
     ensures { result ≡ is_byte_of s.now b }
 {
-    if s.len() == 1 {
-        return s[0] == b;
-    }
-    false
+    s == [b].as_slice()
+}
+
+// The first n elements, or all.
+#[tactic(auto, unfolding(crate::specs::Split::front_of))]
+pub fn front<T: Copy>(l: &[T], n: usize) -> &[T]
+    ensures { result.now ≡ front_of n l.now }
+{
+    if n <= l.len() { &l[..n] } else { l }
 }

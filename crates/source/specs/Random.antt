@@ -5,8 +5,7 @@ use Rattle.std.specs.Prelude.{ℕ, ◌*◌, ◌/◌, ◌%◌, ◌^◌, cond, pos
 use Rattle.std.specs.Float.{binary64}
 use Rattle.std.specs.Float.Ieee.{mul, of_int}
 use Rattle.source.specs.declared.Rng64.{Rng64}
-use Rattle.source.specs.declared.DrawnU64.{DrawnU64}
-use Rattle.source.specs.declared.DrawnF64.{DrawnF64}
+use Rattle.source.specs.declared.Drawn.{Drawn}
 
 -- Vigna's next state: x ^= x >> 12; x ^= x << 25; x ^= x >> 27
 unfoldable pub next_state : ℕ → ℕ
@@ -23,12 +22,12 @@ scrambled x = x * 2685821657736338717 % 2 ^ 64
 unfoldable pub new_of : ℕ → Rng64
 new_of seed = record { state = cond (seed == 0) 0x853c49e6748fea9b seed }
 
-unfoldable pub next_u64_of : Rng64 → DrawnU64
+unfoldable pub next_u64_of : Rng64 → Drawn ℕ
 next_u64_of g = let x = next_state g.state in record { rng = record { state = x }; value = scrambled x }
 
 -- the top 53 bits as a whole number, times 2 ^ -53
 unfoldable pub unit_interval : ℕ → Float
 unit_interval n = mul binary64 (of_int binary64 (pos (n / 2 ^ 11))) (from_bits binary64 0x3ca0000000000000)
 
-unfoldable pub next_f64_of : Rng64 → DrawnF64
+unfoldable pub next_f64_of : Rng64 → Drawn Float
 next_f64_of g = let d = next_u64_of g in record { rng = d.rng; value = unit_interval d.value }

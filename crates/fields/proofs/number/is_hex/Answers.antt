@@ -1,11 +1,11 @@
-use Rattle.fields.proofs.Digits.{hex_again, hex_stop, hex_end}
+use Rattle.std.proofs.Common.{◌∙◌, ltb, rules, tests}
+use Rattle.std.proofs.lemmas.Iterator.{YieldsList-from_slice}
+use Rattle.std.proofs.lemmas.Iterator.Search.{all_from_yields_List}
+use Rattle.fields.specs.Number.{digit_of}
+use Rattle.fields.proofs.Digits.{hex_all}
 use Rattle.fields.proofs.number.is_hex.Goals as goal
 
-pub returns-then-digit-ge16 : goal.returns-then-digit-ge16
-returns-then-digit-ge16 c = hex_stop _ c.loop-i.i c.loop-i-test.true _ (rw c.digit.ensures at c.if-digit-ge16.true) c.loop-i.invariant
-
-pub loop-i-preserved : goal.loop-i-preserved
-loop-i-preserved c = hex_again _ c.loop-i.i c.loop-i-test.true _ (rw c.digit.ensures at c.if-digit-ge16.false) c.loop-i.invariant
-
 pub returns : goal.returns
-returns c = hex_end _ c.loop-i.i _ c.loop-i-test.false c.loop-i.invariant
+returns c =
+    all_from_yields_List (λ b. ltb (digit_of b) 16) _ _ _ c.all.ensures.ran (YieldsList-from_slice c.args.t.now cc) (λ x b q k. search (rules, tests))
+    ∙ hex_all c.args.t.now
