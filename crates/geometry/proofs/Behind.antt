@@ -1,10 +1,10 @@
 -- What the sign tests rule out is not met. Assumes nothing.
+use Rattle.std.specs.Prelude.{Option, None, Some}
 use Prim.Native.Nat.{ℕ, zero, suc}
 use native.Mathlib.Omega.{arith}
 use mathlib.Core.Path.{◌≡◌, refl, sym, ap, ◌∙◌, subst}
 use mathlib.Core.Bool.{Bool, true, false, not, cond, ◌&&◌, ◌||◌}
 use mathlib.Core.Logic.{◌⊎◌, inl, inr}
-use mathlib.Core.Option.{none, some}
 use lib.Dec.{T}
 use lib.IntN.{ℤ, negsuc}
 use lib.Ieee.{Float, nan, inf, fin, binary64, sub, mul, div, neg, lt, le, of_bits, fits, is_nan}
@@ -22,8 +22,6 @@ use Rattle.rays.specs.Matrices.{transform_point_of, transform_direction_of}
 use Rattle.rays.specs.Rays.{min_local_distance, is_finite_ray_of, new_ray_of}
 use Rattle.geometry.specs.declared.PrimitiveGeometry.{PrimitiveGeometry}
 use Rattle.geometry.specs.declared.PrimitiveGeometry.TheVariants.{Plane, Disk, Sphere, Cylinder, Box, ClosedCylinder}
-use Rattle.geometry.specs.declared.flat.Distance.{Distance}
-use Rattle.geometry.specs.declared.flat.Distance.TheVariants.{At, Nowhere}
 use Rattle.geometry.specs.declared.slab.Side.{Side}
 use Rattle.geometry.specs.Hits.{parallel}
 use Rattle.geometry.specs.Flat.{flat_distance_of, plane_from, disk_from, intersect_plane_of, intersect_disk_of}
@@ -52,17 +50,17 @@ parallel_is = refl
 zero_parallel : (d : ℤ) → lt (fin false 0 d) parallel ≡ true
 zero_parallel d = subst (λ (l : Float). lt (fin false 0 d) l ≡ true) (sym parallel_is) (zero_below d 0x119799812dea11 (negsuc 91) (omega arith))
 
-beside : (b : Bool) (x : Distance) → b ≡ true → cond b Nowhere x ≡ Nowhere
+beside : (b : Bool) (x : Option Float) → b ≡ true → cond b None x ≡ None
 beside b x e = rw e
 
-behind : (a b : Bool) (t : Float) → b ≡ true → cond a Nowhere (cond b Nowhere (At t)) ≡ Nowhere
+behind : (a b : Bool) (t : Float) → b ≡ true → cond a None (cond b None (Some t)) ≡ None
 behind true b t e = refl
 behind false b t e = rw e
 
 near_quotient : (s : Bool) (m : ℕ) (e : ℤ) (n : ℕ) (k : ℤ) → le (div binary64 (fin (not s) m e) (fin s (suc n) k)) min_local_distance ≡ true
 near_quotient s m e n k = under_near (div binary64 (fin (not s) m e) (fin s (suc n) k)) (opposed_quotient s m e n k)
 
-flat_none : (s : Bool) (o d : Float) → Signed s o → Signed s d → Finite o → Finite d → cond (lt (abs_of d) parallel) Nowhere (cond (le (div binary64 (neg o) d) min_local_distance) Nowhere (At (div binary64 (neg o) d))) ≡ Nowhere
+flat_none : (s : Bool) (o d : Float) → Signed s o → Signed s d → Finite o → Finite d → cond (lt (abs_of d) parallel) None (cond (le (div binary64 (neg o) d) min_local_distance) None (Some (div binary64 (neg o) d))) ≡ None
 unfolding is_finite_of abs_of neg
 flat_none s nan d p q f g = absurd p
 flat_none s (inf u) d p q f g = absurd (clash (sym f))
@@ -80,15 +78,15 @@ flat_none false (fin false m e) (fin false (suc n) k) p q f g = behind (lt (fin 
 abbrev AlikeZ : Ray → Type 0
 AlikeZ r = Alike r.origin.z r.direction.z
 
-flat_nowhere : (r : Ray) → AlikeZ r → Finite r.origin.z → Finite r.direction.z → flat_distance_of r ≡ Nowhere
+flat_nowhere : (r : Ray) → AlikeZ r → Finite r.origin.z → Finite r.direction.z → flat_distance_of r ≡ None
 unfolding flat_distance_of
 flat_nowhere r (s, (p, q)) f g = flat_none s r.origin.z r.direction.z p q f g
 
-plane_none : (w h : Float) (r : Ray) → AlikeZ r → Finite r.origin.z → Finite r.direction.z → intersect_plane_of w h r ≡ none
+plane_none : (w h : Float) (r : Ray) → AlikeZ r → Finite r.origin.z → Finite r.direction.z → intersect_plane_of w h r ≡ None
 unfolding intersect_plane_of plane_from
 plane_none w h r a f g = ap (plane_from w h r) (flat_nowhere r a f g)
 
-disk_none : (outer inner : Float) (r : Ray) → AlikeZ r → Finite r.origin.z → Finite r.direction.z → intersect_disk_of outer inner r ≡ none
+disk_none : (outer inner : Float) (r : Ray) → AlikeZ r → Finite r.origin.z → Finite r.direction.z → intersect_disk_of outer inner r ≡ None
 unfolding intersect_disk_of disk_from
 disk_none outer inner r a f g = ap (disk_from outer inner r) (flat_nowhere r a f g)
 
@@ -98,7 +96,7 @@ to_keeps : (Q : Float → Type 0) → ((t x : Float) → lt t x ≡ true → Q x
 unfolding moved_far
 to_keeps Q low s t side q = go (lt t s.far) refl
   where
-    go : (b : Bool) → lt t s.far ≡ b → Q (cond b (record { near = s.near; far = t; near_side = s.near_side; far_side = side }) s).far
+    go : (b : Bool) → lt t s.far ≡ b → Q (cond b (record { near = s.near; far = t; near_side = s.near_side; far_side = Some side }) s).far
     go true e = low t s.far e q
     go false e = q
 
@@ -106,7 +104,7 @@ from_far : (s : Interval) (t : Float) (side : Side) → s.far ≡ (moved_near s 
 unfolding moved_near
 from_far s t side = go (lt s.near t)
   where
-    go : (b : Bool) → s.far ≡ (cond b (record { near = t; far = s.far; near_side = side; far_side = s.far_side }) s).far
+    go : (b : Bool) → s.far ≡ (cond b (record { near = t; far = s.far; near_side = Some side; far_side = s.far_side }) s).far
     go true = refl
     go false = refl
 
@@ -144,7 +142,7 @@ to_under : (s : Interval) (t : Float) (side : Side) → Number s.far → Under t
 unfolding moved_far
 to_under s t side n h = go (lt t s.far) refl
   where
-    go : (b : Bool) → lt t s.far ≡ b → Under (cond b (record { near = s.near; far = t; near_side = s.near_side; far_side = side }) s).far
+    go : (b : Bool) → lt t s.far ≡ b → Under (cond b (record { near = s.near; far = t; near_side = s.near_side; far_side = Some side }) s).far
     go true e = h
     go false e = not_below_under t s.far h e n
 
@@ -184,19 +182,19 @@ axis s o d h minus plus n ((f, g), (fd, ((sign, (p, q)), b))) = go (lt parallel 
     go true k = inr (cut_under s sign o d h minus plus n f g fd p q b k)
     go false k = inl b
 
-hit_none : (s : Interval) → Under s.far → hit_within s ≡ none
+hit_none : (s : Interval) → Under s.far → hit_within s ≡ None
 unfolding hit_within
 hit_none s h = go (lt s.far s.near)
   where
-    go : (b : Bool) → cond b none (cond (le s.far min_local_distance) none (cond (lt min_local_distance s.near) (side_hit_of s.near s.near_side) (side_hit_of s.far s.far_side))) ≡ none
+    go : (b : Bool) → cond b None (cond (le s.far min_local_distance) None (cond (lt min_local_distance s.near) (side_hit_of s.near s.near_side) (side_hit_of s.far s.far_side))) ≡ None
     go true = refl
     go false = rw (under_near s.far h)
 
-box_none : (a b c : Bool) (s : Interval) → ((a || (b || c)) ≡ true) ⊎ Under s.far → cond (a || (b || c)) none (hit_within s) ≡ none
+box_none : (a b c : Bool) (s : Interval) → ((a || (b || c)) ≡ true) ⊎ Under s.far → cond (a || (b || c)) None (hit_within s) ≡ None
 box_none a b c s (inl e) = rw e
 box_none a b c s (inr h) = go (a || (b || c))
   where
-    go : (t : Bool) → cond t none (hit_within s) ≡ none
+    go : (t : Bool) → cond t None (hit_within s) ≡ None
     go true = refl
     go false = hit_none s h
 
@@ -260,17 +258,17 @@ left_z : (hx hy hz : Float) (r : Ray) → (out_z hz r ≡ true) ⊎ Under (cut_z
 left_z hx hy hz r (inl e) = inl (or_3 (out_x hx r) (out_y hy r) (out_z hz r) e)
 left_z hx hy hz r (inr h) = inr h
 
-box_out : (hx hy hz : Float) (r : Ray) → Out hx hy hz r → intersect_box_of hx hy hz r ≡ none
+box_out : (hx hy hz : Float) (r : Ray) → Out hx hy hz r → intersect_box_of hx hy hz r ≡ None
 unfolding intersect_box_of inside_of
 box_out hx hy hz r o = box_none (out_x hx r) (out_y hy r) (out_z hz r) (cut_z (cut_y (cut_x hx r) hy r) hz r) o
 
-box_x : (hx hy hz : Float) (r : Ray) → Leaves r.origin.x r.direction.x hx → intersect_box_of hx hy hz r ≡ none
+box_x : (hx hy hz : Float) (r : Ray) → Leaves r.origin.x r.direction.x hx → intersect_box_of hx hy hz r ≡ None
 box_x hx hy hz r l = box_out hx hy hz r (left_x hx hy hz r (axis whole_ray r.origin.x r.direction.x hx MinusX PlusX whole_number l))
 
-box_y : (hx hy hz : Float) (r : Ray) → Leaves r.origin.y r.direction.y hy → intersect_box_of hx hy hz r ≡ none
+box_y : (hx hy hz : Float) (r : Ray) → Leaves r.origin.y r.direction.y hy → intersect_box_of hx hy hz r ≡ None
 box_y hx hy hz r l = box_out hx hy hz r (left_y hx hy hz r (axis (cut_x hx r) r.origin.y r.direction.y hy MinusY PlusY (number_x hx r) l))
 
-box_z : (hx hy hz : Float) (r : Ray) → Leaves r.origin.z r.direction.z hz → intersect_box_of hx hy hz r ≡ none
+box_z : (hx hy hz : Float) (r : Ray) → Leaves r.origin.z r.direction.z hz → intersect_box_of hx hy hz r ≡ None
 box_z hx hy hz r l = box_out hx hy hz r (left_z hx hy hz r (axis (cut_y (cut_x hx r) hy r) r.origin.z r.direction.z hz MinusZ PlusZ (keep_y (cut_x hx r) hy r Number below_number (number_x hx r)) l))
 
 -- ---- any shape
@@ -301,7 +299,7 @@ any_of true b c e = inl refl
 any_of false true c e = inr (inl refl)
 any_of false false c e = inr (inr e)
 
-shape_none : (g : PrimitiveGeometry) (o d : Vec3) (l w p : Float) → T (positive l) → FiniteVec o → FiniteVec (divide_of d l) → is_behind_of g o d ≡ true → intersect_local_of g (record { origin = o; direction = divide_of d l; wavelength_nm = w; energy = p }) ≡ none
+shape_none : (g : PrimitiveGeometry) (o d : Vec3) (l w p : Float) → T (positive l) → FiniteVec o → FiniteVec (divide_of d l) → is_behind_of g o d ≡ true → intersect_local_of g (record { origin = o; direction = divide_of d l; wavelength_nm = w; energy = p }) ≡ None
 unfolding intersect_local_of is_behind_of divide_of
 shape_none (Plane a b) o d l w p k (ox, (oy, oz)) (dx, (dy, dz)) e = plane_none a b _ (alike_along o.z d.z l k e) oz dz
 shape_none (Disk a b) o d l w p k (ox, (oy, oz)) (dx, (dy, dz)) e = disk_none a b _ (alike_along o.z d.z l k e) oz dz
@@ -313,7 +311,7 @@ shape_none (Box a b c) o d l w p k (ox, (oy, oz)) (dx, (dy, dz)) e = go (any_of 
     r : Ray
     r = record { origin = o; direction = record { x = div binary64 d.x l; y = div binary64 d.y l; z = div binary64 d.z l }; wavelength_nm = w; energy = p }
 
-    go : (leaves_of o.x d.x a ≡ true) ⊎ ((leaves_of o.y d.y b ≡ true) ⊎ (leaves_of o.z d.z c ≡ true)) → intersect_box_of a b c r ≡ none
+    go : (leaves_of o.x d.x a ≡ true) ⊎ ((leaves_of o.y d.y b ≡ true) ⊎ (leaves_of o.z d.z c ≡ true)) → intersect_box_of a b c r ≡ None
     go (inl x) = box_x a b c r (leaves_along o.x d.x a l k ox dx x)
     go (inr (inl y)) = box_y a b c r (leaves_along o.y d.y b l k oy dy y)
     go (inr (inr z)) = box_z a b c r (leaves_along o.z d.z c l k oz dz z)
@@ -327,32 +325,32 @@ finite_ray r e =
     let ab = and_left (a && b) (is_finite_of r.wavelength_nm) abc in
     (finite_vec r.origin (and_left a b ab), finite_vec r.direction (and_right a b ab))
 
-made_none : (g : PrimitiveGeometry) (o d : Vec3) (l : Float) (r : Ray) → T (positive l) → is_behind_of g o d ≡ true → meet_along_of g (ray_by o r (some (divide_of d l))) ≡ none
+made_none : (g : PrimitiveGeometry) (o d : Vec3) (l : Float) (r : Ray) → T (positive l) → is_behind_of g o d ≡ true → meet_along_of g (ray_by o r (Some (divide_of d l))) ≡ None
 unfolding ray_by new_ray_of meet_along_of meet_by made_ray
 made_none g o d l r k e = go (is_finite_ray_of q) refl
   where
     q : Ray
     q = record { origin = o; direction = divide_of d l; wavelength_nm = r.wavelength_nm; energy = r.energy }
 
-    go : (c : Bool) → is_finite_ray_of q ≡ c → meet_along_of g (made_ray (cond c (value q) (refusal 16))) ≡ none
+    go : (c : Bool) → is_finite_ray_of q ≡ c → meet_along_of g (made_ray (cond c (value q) (refusal 16))) ≡ None
     go true f =
         let parts = finite_ray q f in
         ap (meet_by q) (shape_none g o d l r.wavelength_nm r.energy k parts.0 parts.1 e)
     go false f = refl
 
-pub behind_misses : (g : PrimitiveGeometry) (o d : Vec3) (r : Ray) → is_behind_of g o d ≡ true → meet_along_of g (ray_from_of o d r) ≡ none
+pub behind_misses : (g : PrimitiveGeometry) (o d : Vec3) (r : Ray) → is_behind_of g o d ≡ true → meet_along_of g (ray_from_of o d r) ≡ None
 unfolding ray_from_of unit_of ray_by meet_along_of
 behind_misses g o d r e = go (le l min_length) (is_finite_of l) refl refl
   where
     l : Float
     l = norm_of d
 
-    go : (a b : Bool) → le l min_length ≡ a → is_finite_of l ≡ b → meet_along_of g (ray_by o r (cond a none (cond b (some (divide_of d l)) none))) ≡ none
+    go : (a b : Bool) → le l min_length ≡ a → is_finite_of l ≡ b → meet_along_of g (ray_by o r (cond a None (cond b (Some (divide_of d l)) None))) ≡ None
     go true b p q = refl
     go false false p q = refl
     go false true p q = made_none g o d l r (length_positive l short (negsuc 100) (omega arith) (subst (λ (x : Float). le l x ≡ false) short_is p) q) e
 
-pub miss_is : (g : PrimitiveGeometry) (w : Mat4) (r : Ray) (o d : Vec3) (b : Bool) → o ≡ transform_point_of w r.origin → d ≡ transform_direction_of w r.direction → b ≡ is_behind_of g o d → b ≡ true → none ≡ meet_of g w r
+pub miss_is : (g : PrimitiveGeometry) (w : Mat4) (r : Ray) (o d : Vec3) (b : Bool) → o ≡ transform_point_of w r.origin → d ≡ transform_direction_of w r.direction → b ≡ is_behind_of g o d → b ≡ true → None ≡ meet_of g w r
 unfolding meet_of
 miss_is g w r o d b p q e t =
     sym

@@ -1,6 +1,6 @@
 -- The ray in a shape's coordinates, by the inverse matrix alone. Assumes nothing.
+use Rattle.std.specs.Prelude.{Option, None, Some}
 use mathlib.Core.Path.{◌≡◌, refl, ap, ◌∙◌}
-use mathlib.Core.Option.{Option, none, some}
 use Rattle.rays.specs.declared.vector.Vec3.{Vec3}
 use Rattle.rays.specs.declared.Ray.{Ray}
 use Rattle.rays.specs.Matrices.{transform_point_of, transform_direction_of}
@@ -10,8 +10,8 @@ use Rattle.geometry.specs.Contacts.{ray_by, ray_from_of}
 
 by_is : (t : Transform3D) (r : Ray) (d : Option Vec3) → ray_by (transform_point_of t.inverse r.origin) r d ≡ ray_along t r d
 unfolding ray_by ray_along
-by_is t r (some d) = refl
-by_is t r none = refl
+by_is t r (Some d) = refl
+by_is t r None = refl
 
 pub from_is : (t : Transform3D) (r : Ray) → ray_from_of (transform_point_of t.inverse r.origin) (transform_direction_of t.inverse r.direction) r ≡ inverse_transform_ray_of t r
 unfolding ray_from_of inverse_transform_ray_of

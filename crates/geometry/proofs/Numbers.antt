@@ -1,7 +1,7 @@
 -- A shape by its number: up to the last there is one, beyond it none. Assumes nothing.
+use Rattle.std.specs.Prelude.{None, Some}
 use Prim.Native.Nat.{ℕ, zero, suc, ◌≤◌, ◌<◌}
 use mathlib.Core.Path.{◌≡◌, refl}
-use mathlib.Core.Option.{none, some}
 use native.Mathlib.Omega.{arith}
 use lib.Ieee.{Float}
 use borrow.Author.Tests.{ne_eqb}
@@ -9,7 +9,7 @@ use Rattle.geometry.specs.declared.PrimitiveGeometry.{PrimitiveGeometry}
 use Rattle.geometry.specs.declared.PrimitiveGeometry.TheVariants.{Plane, Disk, Sphere, Cylinder, Box, ClosedCylinder}
 use Rattle.geometry.specs.Shapes.{last_shape, numbered_geometry_of}
 
-pub shape_there : (k : ℕ) (p q r : Float) → k ≤ last_shape → (g : PrimitiveGeometry) × (numbered_geometry_of k p q r ≡ some g)
+pub shape_there : (k : ℕ) (p q r : Float) → k ≤ last_shape → (g : PrimitiveGeometry) × (numbered_geometry_of k p q r ≡ Some g)
 unfolding numbered_geometry_of
 shape_there zero p q r h = (Plane p q, refl)
 shape_there (suc zero) p q r h = (Disk p q, refl)
@@ -19,7 +19,7 @@ shape_there (suc (suc (suc (suc zero)))) p q r h = (Box p q r, refl)
 shape_there (suc (suc (suc (suc (suc zero))))) p q r h = (ClosedCylinder p q, refl)
 shape_there (suc (suc (suc (suc (suc (suc k)))))) p q r h = absurd (omega (arith, h))
 
-pub shape_beyond : (k : ℕ) (p q r : Float) → last_shape < k → numbered_geometry_of k p q r ≡ none
+pub shape_beyond : (k : ℕ) (p q r : Float) → last_shape < k → numbered_geometry_of k p q r ≡ None
 unfolding numbered_geometry_of
 shape_beyond k p q r h =
     simp (

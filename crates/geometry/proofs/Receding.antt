@@ -1,11 +1,11 @@
 -- A sphere that a ray runs away from, from outside it, is not met: with b above 0 and c not below 0 both roots are at most 0. Assumes nothing.
+use Rattle.std.specs.Prelude.{Option, None, Some}
 use Prim.Native.Nat.{ℕ, zero, suc, ◌+◌, ◌-◌, ◌*◌, ◌/◌, ◌%◌, ◌^◌, ◌≤◌, ◌<◌}
 use native.Mathlib.Nat.{le_trans, le_of_eq, mul_assoc, mul_right_comm, mul-le-mul_right, mul-pos, zero-mul, zero-lt-suc}
 use native.Mathlib.Omega.{arith}
 use mathlib.Core.Path.{◌≡◌, refl, sym, ap, ◌∙◌, subst}
 use mathlib.Core.Logic.{◌⊎◌, inl, inr}
 use mathlib.Core.Bool.{Bool, true, false, not, cond, ◌&&◌, true≢false}
-use mathlib.Core.Option.{Option, none}
 use lib.Dec.{T, ltb, leb, eqb, ltb→lt, leb→le, nltb→le, eqb→eq}
 use lib.IntN.{ℤ, pos, negsuc}
 use lib.Pow.{pow_pos}
@@ -26,13 +26,15 @@ use Rattle.rays.specs.Vectors.{dot_of}
 use Rattle.rays.specs.Rays.{min_local_distance}
 use Rattle.geometry.specs.declared.LocalHit.{LocalHit}
 use Rattle.geometry.specs.declared.round.Roots.{Roots}
-use Rattle.geometry.specs.declared.round.Roots.TheVariants.{Two, Nothing}
 use Rattle.geometry.specs.Hits.{first_there}
 use Rattle.geometry.specs.Round.{solve_of, sphere_at_of, sphere_among_of, intersect_sphere_of}
 use Rattle.geometry.specs.Away.{is_away_of}
 use Rattle.geometry.proofs.Signs.{Signed, under, round_signed, signed_under, suc_not_zero, cond_no, near_is}
 use Rattle.geometry.proofs.Squares.{L, squared, squared_most, RootMost, root-of}
 use Rattle.doubles.proofs.Floats.{and_left, and_right}
+
+abbrev two : Float → Float → Option Roots
+two t1 t2 = Some (record { first = t1; second = t2 })
 
 -- ---- not negative, or no number at all
 
@@ -199,12 +201,12 @@ four_above : Above #4
 unfolding of_bits
 four_above = refl
 
-nothing_among : (radius : Float) (r : Ray) (t : Bool) (x : Roots) → t ≡ true → sphere_among_of radius r (cond t Nothing x) ≡ none
+nothing_among : (radius : Float) (r : Ray) (t : Bool) (x : Option Roots) → t ≡ true → sphere_among_of radius r (cond t None x) ≡ None
 unfolding sphere_among_of
 nothing_among radius r true x e = refl
 nothing_among radius r false x e = absurd (true≢false (sym e))
 
-low_among : (radius : Float) (r : Ray) (t : Bool) (t1 t2 : Float) → T (low t1) → T (low t2) → sphere_among_of radius r (cond t Nothing (Two t1 t2)) ≡ none
+low_among : (radius : Float) (r : Ray) (t : Bool) (t1 t2 : Float) → T (low t1) → T (low t2) → sphere_among_of radius r (cond t None (two t1 t2)) ≡ None
 unfolding sphere_among_of sphere_at_of first_there
 low_among radius r true t1 t2 p q = refl
 low_among radius r false t1 t2 p q = rw (not_ahead t1 p, not_ahead t2 q)
@@ -313,7 +315,7 @@ module _ (m j : ℕ) (lo : 2 ^ 52 ≤ m) (hi : m < 2 ^ 53) (least : 511 ≤ j) (
       let c : k * up e * down d ≤ n * up d * down e = transfer (k * up e) (n * up d) (down e) (down d) (k * up e) (m * 2 ^ j) (down e) L (down_pos e) (pow_pos 1074) refl v.1 h in
       (low_sum n d (not s) k e c, low_sum n d s k e c)
 
-  pub not_met : (a c radius : Float) (r : Ray) → Above a → Above c → sphere_among_of radius r (solve_of a b c) ≡ none
+  pub not_met : (a c radius : Float) (r : Ray) → Above a → Above c → sphere_among_of radius r (solve_of a b c) ≡ None
   unfolding solve_of
   not_met a c radius r p q = go (few prod (above_mul (mul binary64 #4 a) c (above_mul #4 a four_above p) q))
     where
@@ -326,8 +328,8 @@ module _ (m j : ℕ) (lo : 2 ^ 52 ≤ m) (hi : m < 2 ^ 53) (least : 511 ≤ j) (
       twice : Float
       twice = mul binary64 #2 a
 
-      go : Few (sub binary64 bb prod) → sphere_among_of radius r (cond (lt (sub binary64 bb prod) #0) Nothing (Two (div binary64 (sub binary64 (neg b) root) twice) (div binary64 (add binary64 (neg b) root) twice))) ≡ none
-      go (inl e) = nothing_among radius r (lt (sub binary64 bb prod) #0) (Two (div binary64 (sub binary64 (neg b) root) twice) (div binary64 (add binary64 (neg b) root) twice)) e
+      go : Few (sub binary64 bb prod) → sphere_among_of radius r (cond (lt (sub binary64 bb prod) #0) None (two (div binary64 (sub binary64 (neg b) root) twice) (div binary64 (add binary64 (neg b) root) twice))) ≡ None
+      go (inl e) = nothing_among radius r (lt (sub binary64 bb prod) #0) (two (div binary64 (sub binary64 (neg b) root) twice) (div binary64 (add binary64 (neg b) root) twice)) e
       go (inr h) =
           let l = low_both b root is h in
           let t = above_mul #2 a two_above p in
@@ -341,7 +343,7 @@ pattern_value k lo hi =
     subst (λ (x : Float). HasValue x false ((2 ^ 52 + k % 2 ^ 52) * 2 ^ (k / 2 ^ 52 - 1)) L) (sym (normal k lo hi))
     (odd_sign 53 false (2 ^ 52 + k % 2 ^ 52) (k / 2 ^ 52 - 1) 1074)
 
-pub by_bits : (k : ℕ) → 0x2000_0000_0000_0000 ≤ k → k < 0x5000_0000_0000_0000 → (b : Float) → T (fits binary64 b) → k ≡ to_bits binary64 b → (a c radius : Float) (r : Ray) → Above a → Above c → sphere_among_of radius r (solve_of a b c) ≡ none
+pub by_bits : (k : ℕ) → 0x2000_0000_0000_0000 ≤ k → k < 0x5000_0000_0000_0000 → (b : Float) → T (fits binary64 b) → k ≡ to_bits binary64 b → (a c radius : Float) (r : Ray) → Above a → Above c → sphere_among_of radius r (solve_of a b c) ≡ None
 by_bits k lo hi b f e =
     not_met (2 ^ 52 + k % 2 ^ 52) (k / 2 ^ 52 - 1) (digits k) (digits_most k) (field k lo) (field-most k hi) b
     (subst (λ (x : Float). HasValue x false ((2 ^ 52 + k % 2 ^ 52) * 2 ^ (k / 2 ^ 52 - 1)) L) (ap (of_bits binary64) e ∙ of_bits-to_bits binary64 b f)
@@ -381,7 +383,7 @@ dot_above v =
     above_add (add binary64 (mul binary64 v.x v.x) (mul binary64 v.y v.y)) (mul binary64 v.z v.z)
     (above_add (mul binary64 v.x v.x) (mul binary64 v.y v.y) (above_square v.x) (above_square v.y)) (above_square v.z)
 
-away_none : (b c : Float) → T (fits binary64 b) → is_away_of b c ≡ true → (a radius : Float) (r : Ray) → Above a → sphere_among_of radius r (solve_of a b c) ≡ none
+away_none : (b c : Float) → T (fits binary64 b) → is_away_of b c ≡ true → (a radius : Float) (r : Ray) → Above a → sphere_among_of radius r (solve_of a b c) ≡ None
 unfolding is_away_of
 away_none b c f e a radius r p =
     let k = to_bits binary64 b in
@@ -399,7 +401,7 @@ abs_square (inf false) = refl
 abs_square (fin true m e) = refl
 abs_square (fin false m e) = refl
 
-pub sphere_passed : (radius : Float) (r : Ray) (x o2 : Float) (t : Bool) → x ≡ dot_of r.origin r.direction → o2 ≡ dot_of r.origin r.origin → t ≡ is_away_of (mul binary64 #2 x) (sub binary64 o2 (mul binary64 radius radius)) → t ≡ true → none ≡ intersect_sphere_of radius r
+pub sphere_passed : (radius : Float) (r : Ray) (x o2 : Float) (t : Bool) → x ≡ dot_of r.origin r.direction → o2 ≡ dot_of r.origin r.origin → t ≡ is_away_of (mul binary64 #2 x) (sub binary64 o2 (mul binary64 radius radius)) → t ≡ true → None ≡ intersect_sphere_of radius r
 unfolding intersect_sphere_of
 sphere_passed radius r x o2 t ex eo et e =
     sym
@@ -412,6 +414,6 @@ sphere_passed radius r x o2 t ex eo et e =
     (dot_of r.direction r.direction) (abs_of radius) r (dot_above r.direction))
 
 -- the sphere by its roots
-pub sphere_rooted : (radius s : Float) (r : Ray) (a x o2 : Float) (k : Roots) (h : Option LocalHit) → s ≡ abs_of radius → a ≡ dot_of r.direction r.direction → x ≡ dot_of r.origin r.direction → o2 ≡ dot_of r.origin r.origin → k ≡ solve_of a (mul binary64 #2 x) (sub binary64 o2 (mul binary64 radius radius)) → h ≡ sphere_among_of s r k → h ≡ intersect_sphere_of radius r
+pub sphere_rooted : (radius s : Float) (r : Ray) (a x o2 : Float) (k : Option Roots) (h : Option LocalHit) → s ≡ abs_of radius → a ≡ dot_of r.direction r.direction → x ≡ dot_of r.origin r.direction → o2 ≡ dot_of r.origin r.origin → k ≡ solve_of a (mul binary64 #2 x) (sub binary64 o2 (mul binary64 radius radius)) → h ≡ sphere_among_of s r k → h ≡ intersect_sphere_of radius r
 unfolding intersect_sphere_of
 sphere_rooted radius s r a x o2 k h es ea ex eo ek eh = rw (eh, ek, es, ea, ex, eo, ← abs_square radius)

@@ -1,7 +1,7 @@
 -- The box with its sides left to the end is the box. Assumes nothing.
+use Rattle.std.specs.Prelude.{Option, Some}
 use mathlib.Core.Path.{◌≡◌, refl, sym, ap, ◌∙◌}
 use mathlib.Core.Bool.{Bool, true, false, cond}
-use mathlib.Core.Option.{Option}
 use lib.Ieee.{Float, nan, inf, fin, binary64, sub, mul, div, neg, lt, le}
 use Rattle.doubles.specs.Doubles.{abs_of, #0, #1}
 use Rattle.rays.specs.declared.Ray.{Ray}
@@ -41,23 +41,23 @@ with s x first last =
     record {
       near = later_of x.near s.near;
       far = sooner_of x.far s.far;
-      near_side = cond (lt s.near x.near) first s.near_side;
-      far_side = cond (lt x.far s.far) last s.far_side;
+      near_side = cond (lt s.near x.near) (Some first) s.near_side;
+      far_side = cond (lt x.far s.far) (Some last) s.far_side;
     }
 
-abbrev made : Float → Float → Side → Side → Interval
+abbrev made : Float → Float → Option Side → Option Side → Interval
 made near far first last = record { near = near; far = far; near_side = first; far_side = last }
 
 both : (s : Interval) (t u : Float) (a b : Side) → moved_far (moved_near s t a) u b ≡ with s (record { near = t; far = u }) a b
 unfolding moved_far moved_near with later_of sooner_of
 both s t u a b = go (lt s.near t)
   where
-    ends : (n : Float) (k : Side) (q : Bool) → cond q (made n u k b) (made n s.far k s.far_side) ≡ made n (cond q u s.far) k (cond q b s.far_side)
+    ends : (n : Float) (k : Option Side) (q : Bool) → cond q (made n u k (Some b)) (made n s.far k s.far_side) ≡ made n (cond q u s.far) k (cond q (Some b) s.far_side)
     ends n k true = refl
     ends n k false = refl
 
-    go : (p : Bool) → moved_far (cond p (made t s.far a s.far_side) s) u b ≡ made (cond p t s.near) (cond (lt u s.far) u s.far) (cond p a s.near_side) (cond (lt u s.far) b s.far_side)
-    go true = ends t a (lt u s.far)
+    go : (p : Bool) → moved_far (cond p (made t s.far (Some a) s.far_side) s) u b ≡ made (cond p t s.near) (cond (lt u s.far) u s.far) (cond p (Some a) s.near_side) (cond (lt u s.far) (Some b) s.far_side)
+    go true = ends t (Some a) (lt u s.far)
     go false = ends s.near s.near_side (lt u s.far)
 
 all_kept : (s : Interval) (a b : Side) → s ≡ with s (record { near = neg (inf false); far = inf false }) a b

@@ -1,10 +1,11 @@
 -- A direction that is made a unit vector is finite. Assumes nothing.
+use Rattle.std.specs.Prelude.{Option, None, Some}
+use Rattle.std.proofs.lemmas.Option.{same_Some, none-some}
 use Prim.Native.Nat.{ℕ, zero, suc, ◌*◌, ◌^◌, ◌≤◌, ◌<◌}
 use native.Mathlib.Nat.{mul-one, one-mul, mul-pos, mul_comm, mul_assoc, mul_left_comm, zero-lt-suc, le_trans, le_of_eq, le_of_lt, mul-le-mul, mul-le-mul_right}
 use native.Mathlib.Omega.{arith}
 use mathlib.Core.Path.{◌≡◌, refl, sym, ap, ◌∙◌, subst}
 use mathlib.Core.Bool.{Bool, true, false, not, cond, ◌&&◌, ◌||◌, beq}
-use mathlib.Core.Option.{none, some, some-injective, none-ne-some}
 use lib.Dec.{T, ltb, ltb→lt, nltb→le}
 use lib.IntN.{ℤ, pos, negsuc}
 use lib.Pow.{pow_pos}
@@ -22,8 +23,7 @@ use Rattle.rays.specs.declared.Ray.{Ray}
 use Rattle.rays.specs.Vectors.{dot_of, norm_of, min_length, divide_of, is_finite_vec_of}
 use Rattle.rays.specs.Rays.{is_finite_ray_of, new_ray_of}
 use Rattle.rays.proofs.Shortest.{short, short_is}
-use Rattle.geometry.specs.declared.transform.UnitVector as unit
-use Rattle.geometry.specs.Transforms.{as_unit_vector, unit_of, made_ray}
+use Rattle.geometry.specs.Transforms.{unit_of, made_ray}
 use Rattle.geometry.specs.Contacts.{ray_by, ray_from_of}
 use Rattle.geometry.proofs.Signs.{Signed, round_signed, abs_round, length_positive, suc_not_zero, cond_no}
 
@@ -155,18 +155,18 @@ divided_finite v k f =
     (quotient_finite v.y l (square_finite v.y inner.1) p k)
     (quotient_finite v.z l (square_finite v.z outer.1) p k)
 
-pub unit_finite : (v u : Vec3) → unit_of v ≡ some u → is_finite_vec_of u ≡ true
+pub unit_finite : (v u : Vec3) → unit_of v ≡ Some u → is_finite_vec_of u ≡ true
 unfolding unit_of
 unit_finite v u e = go (le l min_length) (is_finite_of l) refl refl e
   where
     l : Float
     l = norm_of v
 
-    go : (a b : Bool) → le l min_length ≡ a → is_finite_of l ≡ b → cond a none (cond b (some (divide_of v l)) none) ≡ some u → is_finite_vec_of u ≡ true
-    go true b p q h = absurd (none-ne-some u h)
-    go false false p q h = absurd (none-ne-some u h)
+    go : (a b : Bool) → le l min_length ≡ a → is_finite_of l ≡ b → cond a None (cond b (Some (divide_of v l)) None) ≡ Some u → is_finite_vec_of u ≡ true
+    go true b p q h = absurd (none-some u h)
+    go false false p q h = absurd (none-some u h)
     go false true p q h =
-        subst (λ (w : Vec3). is_finite_vec_of w ≡ true) (some-injective (divide_of v l) u h)
+        subst (λ (w : Vec3). is_finite_vec_of w ≡ true) (same_Some (divide_of v l) u h)
         (divided_finite v (subst (λ (x : Float). le l x ≡ false) short_is p) q)
 
 -- ---- the ray from o along v: only its origin, wavelength and power have to be looked at
@@ -174,22 +174,22 @@ unit_finite v u e = go (le l min_length) (is_finite_of l) refl refl e
 abbrev ray_of : Vec3 → Vec3 → Ray → Ray
 ray_of o u r = record { origin = o; direction = u; wavelength_nm = r.wavelength_nm; energy = r.energy }
 
-choose : (a t b c : Bool) (q : Ray) → t ≡ true → made_ray (cond (a && t && b && c) (value q) (refusal 16)) ≡ cond (a && b && c) (some q) none
+choose : (a t b c : Bool) (q : Ray) → t ≡ true → made_ray (cond (a && t && b && c) (value q) (refusal 16)) ≡ cond (a && b && c) (Some q) None
 unfolding made_ray
 choose true t true true q e = rw e
 choose true t true false q e = rw e
 choose true t false c q e = rw e
 choose false t b c q e = refl
 
-from_made : (o v : Vec3) (r : Ray) (k : unit.UnitVector) (u : Vec3) → as_unit_vector k ≡ unit_of v → k ≡ unit.TheVariants.Made u → ray_from_of o v r ≡ cond (is_finite_vec_of o && is_finite_of r.wavelength_nm && is_finite_of r.energy) (some (ray_of o u r)) none
+from_made : (o v : Vec3) (r : Ray) (k : Option Vec3) (u : Vec3) → k ≡ unit_of v → k ≡ Some u → ray_from_of o v r ≡ cond (is_finite_vec_of o && is_finite_of r.wavelength_nm && is_finite_of r.energy) (Some (ray_of o u r)) None
 unfolding ray_from_of ray_by new_ray_of is_finite_ray_of
 from_made o v r k u p e =
-    let is : unit_of v ≡ some u = sym p ∙ ap as_unit_vector e in
+    let is : unit_of v ≡ Some u = sym p ∙ e in
     ap (ray_by o r) is
     ∙ choose (is_finite_vec_of o) (is_finite_vec_of u) (is_finite_of r.wavelength_nm) (is_finite_of r.energy) (ray_of o u r) (unit_finite v u is)
 
-pub ray_made : (o v : Vec3) (r : Ray) (k : unit.UnitVector) (u : Vec3) (a : Bool) → as_unit_vector k ≡ unit_of v → k ≡ unit.TheVariants.Made u → a ≡ (is_finite_vec_of o && is_finite_of r.wavelength_nm && is_finite_of r.energy) → a ≡ true → some (ray_of o u r) ≡ ray_from_of o v r
+pub ray_made : (o v : Vec3) (r : Ray) (k : Option Vec3) (u : Vec3) (a : Bool) → k ≡ unit_of v → k ≡ Some u → a ≡ (is_finite_vec_of o && is_finite_of r.wavelength_nm && is_finite_of r.energy) → a ≡ true → Some (ray_of o u r) ≡ ray_from_of o v r
 ray_made o v r k u a p e f t = sym (from_made o v r k u p e ∙ rw (← f, t))
 
-pub no_ray_lem : (o v : Vec3) (r : Ray) (k : unit.UnitVector) (u : Vec3) (a : Bool) → as_unit_vector k ≡ unit_of v → k ≡ unit.TheVariants.Made u → a ≡ (is_finite_vec_of o && is_finite_of r.wavelength_nm && is_finite_of r.energy) → a ≡ false → none ≡ ray_from_of o v r
+pub no_ray_lem : (o v : Vec3) (r : Ray) (k : Option Vec3) (u : Vec3) (a : Bool) → k ≡ unit_of v → k ≡ Some u → a ≡ (is_finite_vec_of o && is_finite_of r.wavelength_nm && is_finite_of r.energy) → a ≡ false → None ≡ ray_from_of o v r
 no_ray_lem o v r k u a p e f t = sym (from_made o v r k u p e ∙ rw (← f, t))

@@ -1,11 +1,11 @@
 -- What a closed cylinder answers is what document 02 says of it: of the candidates that qualify the smallest distance, on a tie the side before the lower end before the upper, and none precisely if none qualifies. Assumes nothing.
+use Rattle.std.specs.Prelude.{Option, None, Some}
 use lib.Dec.{T}
 use lib.Ieee.{Float, binary64, add, sub, mul, div, neg, lt, le, fits}
 use lib.Ieee.Fits.{div-fits}
 use mathlib.Core.Path.{◌≡◌, refl, sym, ap, ◌∙◌, subst}
 use mathlib.Core.Logic.{◌↔◌, ◌⊎◌, inl, inr}
 use mathlib.Core.Bool.{Bool, true, false, cond, ◌&&◌}
-use mathlib.Core.Option.{Option, none, some}
 use Rattle.doubles.specs.Doubles.{abs_of, #0, #2, #4}
 use Rattle.doubles.specs.Root.{sqrt_of}
 use Rattle.doubles.proofs.Floats.{clash, and_left, and_right, and_both}
@@ -15,15 +15,19 @@ use Rattle.rays.specs.declared.Ray.{Ray}
 use Rattle.rays.specs.Rays.{min_local_distance}
 use Rattle.geometry.specs.declared.LocalHit.{LocalHit}
 use Rattle.geometry.specs.declared.round.Roots.{Roots}
-use Rattle.geometry.specs.declared.round.Roots.TheVariants.{Two, Nothing}
 use Rattle.geometry.specs.declared.closed.Wall.{Wall}
 use Rattle.geometry.specs.declared.closed.Wall.TheVariants.{Side, Lower, Upper}
 use Rattle.geometry.specs.declared.closed.Offer.{Offer}
-use Rattle.geometry.specs.declared.closed.Offer.TheVariants.{At, Nowhere}
 use Rattle.geometry.specs.Hits.{parallel}
 use Rattle.geometry.specs.Round.{cylinder_roots_of, is_on_side_of, solve_of}
 use Rattle.geometry.specs.Closed.{side_offer_of, end_distance_of, is_on_end_of, end_offer_of, nearer_offer_of, sides_of, ends_of, closest_wall_of, wall_normal_of, wall_hit, intersect_closed_cylinder_of, IsRoot, IsEnd, Qualifies, is_before, IsMet}
 use Rattle.geometry.proofs.Signs.{near_is}
+
+abbrev at : Float → Wall → Option Offer
+at t wall = Some (record { t = t; wall = wall })
+
+abbrev two : Float → Float → Option Roots
+two t1 t2 = Some (record { first = t1; second = t2 })
 
 -- ---- the least of any candidates, P saying which there are
 
@@ -32,9 +36,9 @@ abbrev pub First : (Float → Wall → Type 0) → Float → Wall → Type 0
 First P t wall =
     (s : Float) (other : Wall) → P s other → (le t s ≡ true) × (is_before other wall ≡ true → lt t s ≡ true)
 
-abbrev pub Least : (Float → Wall → Type 0) → Offer → Type 0
-Least P Nowhere = (t : Float) (wall : Wall) → P t wall → ⊥
-Least P (At t wall) = P t wall × First P t wall
+abbrev pub Least : (Float → Wall → Type 0) → Option Offer → Type 0
+Least P None = (t : Float) (wall : Wall) → P t wall → ⊥
+Least P (Some a) = P a.t a.wall × First P a.t a.wall
 
 abbrev Either : (Float → Wall → Type 0) → (Float → Wall → Type 0) → Float → Wall → Type 0
 Either P Q t wall = P t wall ⊎ Q t wall
@@ -62,28 +66,28 @@ module _ (P Q : Float → Wall → Type 0) (p : Above P) (q : Above Q) (o : InOr
       (below_le s u v, λ (k : is_before any other ≡ true). v)
   second_wins t wall s other x f y g e u any (inr z) = g u any z
 
-  joined : (a b : Offer) → Least P a → Least Q b → Least (Either P Q) (nearer_offer_of a b)
+  joined : (a b : Option Offer) → Least P a → Least Q b → Least (Either P Q) (nearer_offer_of a b)
   unfolding nearer_offer_of
-  joined Nowhere Nowhere f g = nothing
+  joined None None f g = nothing
     where
       nothing : (t : Float) (wall : Wall) → Either P Q t wall → ⊥
       nothing t wall (inl z) = f t wall z
       nothing t wall (inr z) = g t wall z
-  joined Nowhere (At s other) f (y, g) = (inr y, rest)
+  joined None (Some b) f (y, g) = (inr y, rest)
     where
-      rest : First (Either P Q) s other
+      rest : First (Either P Q) b.t b.wall
       rest u any (inl z) = absurd (f u any z)
       rest u any (inr z) = g u any z
-  joined (At t wall) Nowhere (x, f) g = (inl x, rest)
+  joined (Some a) None (x, f) g = (inl x, rest)
     where
-      rest : First (Either P Q) t wall
+      rest : First (Either P Q) a.t a.wall
       rest u any (inl z) = f u any z
       rest u any (inr z) = absurd (g u any z)
-  joined (At t wall) (At s other) (x, f) (y, g) = go (lt s t) refl
+  joined (Some a) (Some b) (x, f) (y, g) = go (lt b.t a.t) refl
     where
-      go : (k : Bool) → lt s t ≡ k → Least (Either P Q) (cond k (At s other) (At t wall))
-      go true e = (inr y, second_wins t wall s other x f y g e)
-      go false e = (inl x, first_wins t wall s other x f y g e)
+      go : (k : Bool) → lt b.t a.t ≡ k → Least (Either P Q) (cond k (Some b) (Some a))
+      go true e = (inr y, second_wins a.t a.wall b.t b.wall x f y g e)
+      go false e = (inl x, first_wins a.t a.wall b.t b.wall x f y g e)
 
 -- ---- one wall
 
@@ -97,7 +101,7 @@ not_before_itself Lower = refl
 not_before_itself Upper = refl
 
 -- what is offered is the least of the one that there is
-offered_least : (t : Float) (wall : Wall) (b : Bool) → (b ≡ true → T (above t)) → Least (Offered t wall b) (cond b (At t wall) Nowhere)
+offered_least : (t : Float) (wall : Wall) (b : Bool) → (b ≡ true → T (above t)) → Least (Offered t wall b) (cond b (at t wall) None)
 offered_least t wall true a = ((refl, (refl, refl)), first)
   where
     first : First (Offered t wall true) t wall
@@ -111,9 +115,9 @@ offered_above : (t : Float) (wall : Wall) (b : Bool) → (b ≡ true → T (abov
 offered_above t wall b a s other (e, (k, h)) = subst (λ (x : Float). T (above x)) (sym e) (a h)
 
 -- candidates that are also described otherwise
-described : (P Q : Float → Wall → Type 0) → ((t : Float) (wall : Wall) → P t wall → Q t wall) → ((t : Float) (wall : Wall) → Q t wall → P t wall) → (c : Offer) → Least P c → Least Q c
-described P Q f g Nowhere h = λ (t : Float) (wall : Wall) (z : Q t wall). h t wall (g t wall z)
-described P Q f g (At t wall) (x, h) = (f t wall x, λ (s : Float) (other : Wall) (z : Q s other). h s other (g s other z))
+described : (P Q : Float → Wall → Type 0) → ((t : Float) (wall : Wall) → P t wall → Q t wall) → ((t : Float) (wall : Wall) → Q t wall → P t wall) → (c : Option Offer) → Least P c → Least Q c
+described P Q f g None h = λ (t : Float) (wall : Wall) (z : Q t wall). h t wall (g t wall z)
+described P Q f g (Some a) (x, h) = (f a.t a.wall x, λ (s : Float) (other : Wall) (z : Q s other). h s other (g s other z))
 
 -- ---- above 1e-9: above zero
 
@@ -130,38 +134,38 @@ end_above radius r t h = ahead_above t (and_left (lt min_local_distance t) _ h)
 
 -- ---- the side
 
-abbrev OnSide : Float → Ray → Roots → Float → Wall → Type 0
+abbrev OnSide : Float → Ray → Option Roots → Float → Wall → Type 0
 OnSide half r roots t wall = (wall ≡ Side) × (IsRoot t roots × (is_on_side_of half r t ≡ true))
 
-on_side_above : (half : Float) (r : Ray) (roots : Roots) → Above (OnSide half r roots)
+on_side_above : (half : Float) (r : Ray) (roots : Option Roots) → Above (OnSide half r roots)
 on_side_above half r roots t wall (e, (k, h)) = side_above half r t h
 
 side_least : (half : Float) (r : Ray) (t : Float) → Least (Offered t Side (is_on_side_of half r t)) (side_offer_of half r t)
 unfolding side_offer_of
 side_least half r t = offered_least t Side (is_on_side_of half r t) (side_above half r t)
 
-sides_least : (half : Float) (r : Ray) (roots : Roots) → Least (OnSide half r roots) (sides_of half r roots)
+sides_least : (half : Float) (r : Ray) (roots : Option Roots) → Least (OnSide half r roots) (sides_of half r roots)
 unfolding sides_of
-sides_least half r Nothing = λ (t : Float) (wall : Wall) (z : OnSide half r Nothing t wall). z.1.0
-sides_least half r (Two t1 t2) =
-    described (Either P Q) (OnSide half r (Two t1 t2)) there back (nearer_offer_of (side_offer_of half r t1) (side_offer_of half r t2))
-    (joined P Q (offered_above t1 Side (is_on_side_of half r t1) (side_above half r t1)) (offered_above t2 Side (is_on_side_of half r t2) (side_above half r t2)) in_order (side_offer_of half r t1) (side_offer_of half r t2)
-    (side_least half r t1) (side_least half r t2))
+sides_least half r None = λ (t : Float) (wall : Wall) (z : OnSide half r None t wall). z.1.0
+sides_least half r (Some c) =
+    described (Either P Q) (OnSide half r (Some c)) there back (nearer_offer_of (side_offer_of half r c.first) (side_offer_of half r c.second))
+    (joined P Q (offered_above c.first Side (is_on_side_of half r c.first) (side_above half r c.first)) (offered_above c.second Side (is_on_side_of half r c.second) (side_above half r c.second)) in_order (side_offer_of half r c.first) (side_offer_of half r c.second)
+    (side_least half r c.first) (side_least half r c.second))
   where
     P : Float → Wall → Type 0
-    P = Offered t1 Side (is_on_side_of half r t1)
+    P = Offered c.first Side (is_on_side_of half r c.first)
 
     Q : Float → Wall → Type 0
-    Q = Offered t2 Side (is_on_side_of half r t2)
+    Q = Offered c.second Side (is_on_side_of half r c.second)
 
     in_order : InOrder P Q
     in_order t s wall other (e, (k, h)) (f, (l, g)) = ap (λ (w : Wall). is_before w wall) l ∙ ap (is_before Side) k
 
-    there : (t : Float) (wall : Wall) → Either P Q t wall → OnSide half r (Two t1 t2) t wall
+    there : (t : Float) (wall : Wall) → Either P Q t wall → OnSide half r (Some c) t wall
     there t wall (inl (e, (k, h))) = (k, (inl e, subst (λ (x : Float). is_on_side_of half r x ≡ true) (sym e) h))
     there t wall (inr (e, (k, h))) = (k, (inr e, subst (λ (x : Float). is_on_side_of half r x ≡ true) (sym e) h))
 
-    back : (t : Float) (wall : Wall) → OnSide half r (Two t1 t2) t wall → Either P Q t wall
+    back : (t : Float) (wall : Wall) → OnSide half r (Some c) t wall → Either P Q t wall
     back t wall (k, (inl e, h)) = inl (e, (k, subst (λ (x : Float). is_on_side_of half r x ≡ true) e h))
     back t wall (k, (inr e, h)) = inr (e, (k, subst (λ (x : Float). is_on_side_of half r x ≡ true) e h))
 
@@ -240,10 +244,10 @@ back radius half r t Side z = inl (refl, z)
 back radius half r t Lower z = inr (inl (end_back radius (neg half) r Lower t z))
 back radius half r t Upper z = inr (inr (end_back radius half r Upper t z))
 
-hit_is : (radius half : Float) (r : Ray) (c : Offer) → Least (Qualifies radius half r) c → IsMet radius half r (wall_hit radius r c)
+hit_is : (radius half : Float) (r : Ray) (c : Option Offer) → Least (Qualifies radius half r) c → IsMet radius half r (wall_hit radius r c)
 unfolding wall_hit
-hit_is radius half r Nowhere h = h
-hit_is radius half r (At t wall) (x, f) = (wall, (x, (refl, f)))
+hit_is radius half r None h = h
+hit_is radius half r (Some a) (x, f) = (a.wall, (x, (refl, f)))
 
 -- the wall that is chosen is the least that qualifies
 pub closest_wall_is : (radius half : Float) (r : Ray) → Least (Qualifies radius half r) (closest_wall_of radius half r)
@@ -256,15 +260,15 @@ closed_is radius half r =
     hit_is radius half r (closest_wall_of radius half r) (closest_wall_is radius half r)
 
 -- none is answered precisely if no candidate qualifies
-pub none_precisely : (radius half : Float) (r : Ray) → (intersect_closed_cylinder_of radius half r ≡ none) ↔ ((t : Float) (wall : Wall) → Qualifies radius half r t wall → ⊥)
+pub none_precisely : (radius half : Float) (r : Ray) → (intersect_closed_cylinder_of radius half r ≡ None) ↔ ((t : Float) (wall : Wall) → Qualifies radius half r t wall → ⊥)
 none_precisely radius half r = (
-  λ (e : intersect_closed_cylinder_of radius half r ≡ none). subst (IsMet radius half r) e (closed_is radius half r),
+  λ (e : intersect_closed_cylinder_of radius half r ≡ None). subst (IsMet radius half r) e (closed_is radius half r),
   λ (h : (t : Float) (wall : Wall) → Qualifies radius half r t wall → ⊥). empty (intersect_closed_cylinder_of radius half r) (closed_is radius half r) h,
 )
   where
-    empty : (o : Option LocalHit) → IsMet radius half r o → ((t : Float) (wall : Wall) → Qualifies radius half r t wall → ⊥) → o ≡ none
-    empty none m h = refl
-    empty (some x) (wall, (q, rest)) h = absurd (h x.t wall q)
+    empty : (o : Option LocalHit) → IsMet radius half r o → ((t : Float) (wall : Wall) → Qualifies radius half r t wall → ⊥) → o ≡ None
+    empty None m h = refl
+    empty (Some x) (wall, (q, rest)) h = absurd (h x.t wall q)
 
 -- ---- nothing else is
 
@@ -272,11 +276,11 @@ none_precisely radius half r = (
 abbrev Fit : Float → Type 0
 Fit t = T (fits binary64 t)
 
-abbrev RootsFit : Roots → Type 0
-RootsFit (Two t1 t2) = Fit t1 × Fit t2
-RootsFit Nothing = Unit
+abbrev RootsFit : Option Roots → Type 0
+RootsFit (Some c) = Fit c.first × Fit c.second
+RootsFit None = Unit
 
-unless_fits : (b : Bool) (roots : Roots) → RootsFit roots → RootsFit (cond b Nothing roots)
+unless_fits : (b : Bool) (roots : Option Roots) → RootsFit roots → RootsFit (cond b None roots)
 unless_fits true roots f = tt
 unless_fits false roots f = f
 
@@ -287,7 +291,7 @@ solve_fits a b c =
     let below = sub binary64 (neg b) (sqrt_of disc) in
     let beyond = add binary64 (neg b) (sqrt_of disc) in
     let twice = mul binary64 #2 a in
-    unless_fits (lt disc #0) (Two (div binary64 below twice) (div binary64 beyond twice)) (div-fits binary64 below twice, div-fits binary64 beyond twice)
+    unless_fits (lt disc #0) (two (div binary64 below twice) (div binary64 beyond twice)) (div-fits binary64 below twice, div-fits binary64 beyond twice)
 
 roots_fit : (radius : Float) (r : Ray) → RootsFit (cylinder_roots_of radius r)
 unfolding cylinder_roots_of
@@ -302,10 +306,10 @@ roots_fit radius r = unless_fits (lt a parallel) (solve_of a b c) (solve_fits a 
     c : Float
     c = sub binary64 (add binary64 (mul binary64 r.origin.x r.origin.x) (mul binary64 r.origin.y r.origin.y)) (mul binary64 radius radius)
 
-root_fits : (roots : Roots) → RootsFit roots → (t : Float) → IsRoot t roots → Fit t
-root_fits (Two t1 t2) (p, q) t (inl e) = subst Fit (sym e) p
-root_fits (Two t1 t2) (p, q) t (inr e) = subst Fit (sym e) q
-root_fits Nothing f t z = absurd z
+root_fits : (roots : Option Roots) → RootsFit roots → (t : Float) → IsRoot t roots → Fit t
+root_fits (Some c) (p, q) t (inl e) = subst Fit (sym e) p
+root_fits (Some c) (p, q) t (inr e) = subst Fit (sym e) q
+root_fits None f t z = absurd z
 
 end_fits : (end : Float) (r : Ray) → Fit (end_distance_of end r)
 unfolding end_distance_of
@@ -338,10 +342,10 @@ same_hit h g e k = λ i. record { t = e i; normal = k i }
 
 -- no two answers fit what the request says
 pub closed_only : (radius half : Float) (r : Ray) (o p : Option LocalHit) → IsMet radius half r o → IsMet radius half r p → o ≡ p
-closed_only radius half r none none m n = refl
-closed_only radius half r none (some g) m (v, (z, rest)) = absurd (m g.t v z)
-closed_only radius half r (some h) none (w, (x, rest)) n = absurd (n h.t w x)
-closed_only radius half r (some h) (some g) (w, (x, (a, f))) (v, (z, (b, k))) = ap some (walls (compared w v))
+closed_only radius half r None None m n = refl
+closed_only radius half r None (Some g) m (v, (z, rest)) = absurd (m g.t v z)
+closed_only radius half r (Some h) None (w, (x, rest)) n = absurd (n h.t w x)
+closed_only radius half r (Some h) (Some g) (w, (x, (a, f))) (v, (z, (b, k))) = ap Some (walls (compared w v))
   where
     p : T (above h.t)
     p = qualified_above radius half r h.t w x

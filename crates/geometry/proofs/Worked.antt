@@ -1,6 +1,6 @@
 -- Worked examples of the closed cylinder of radius 1 and half length 2.
+use Rattle.std.specs.Prelude.{None}
 use mathlib.Core.Path.{◌≡◌, refl}
-use mathlib.Core.Option.{none}
 use lib.Ieee.{add, sub, mul, div, neg, lt, le, of_bits, to_bits}
 use Rattle.doubles.specs.Doubles.{abs_of, #0, #1, #2, #3, #5}
 use Rattle.doubles.specs.Root.{sqrt_of}
@@ -15,7 +15,7 @@ use Rattle.geometry.specs.Shapes.{intersect_local_of}
 use Rattle.geometry.proofs.Marks.{upward}
 
 -- along the axis from outside: the open one is not met, the closed one at its lower end, 3 away
-pub stopped : (intersect_local_of (Cylinder #1 #2) (upward (neg #5)) ≡ none) × (intersect_local_of (ClosedCylinder #1 #2) (upward (neg #5)) ≡ hit_at #3 (vec3 #0 #0 (neg #1)))
+pub stopped : (intersect_local_of (Cylinder #1 #2) (upward (neg #5)) ≡ None) × (intersect_local_of (ClosedCylinder #1 #2) (upward (neg #5)) ≡ hit_at #3 (vec3 #0 #0 (neg #1)))
 unfolding intersect_local_of intersect_cylinder_of cylinder_among_of cylinder_at_of intersect_closed_cylinder_of closest_wall_of sides_of ends_of side_offer_of end_offer_of end_distance_of is_on_side_of is_on_end_of nearer_offer_of wall_hit wall_normal_of side_normal_of first_there cylinder_roots_of solve_of reach_of from_axis_of sqrt_of abs_of add sub mul div neg lt le of_bits to_bits
 stopped = (refl, refl)
 

@@ -1,13 +1,10 @@
 -- The shapes by their numbers, and where a ray meets one.
-use Rattle.std.specs.Prelude.{ℕ, eqb, Float, cond}
-use Rattle.std.proofs.Math.Option.{Option, none, some}
+use Rattle.std.specs.Prelude.{ℕ, eqb, Float, cond, Option, None, Some}
 use Rattle.rays.specs.declared.Ray.{Ray}
 use Rattle.geometry.specs.declared.LocalHit.{LocalHit}
 use Rattle.geometry.specs.declared.PrimitiveGeometry.{PrimitiveGeometry}
 use Rattle.geometry.specs.declared.PrimitiveGeometry.TheVariants.{Plane, Disk, Sphere, Cylinder, Box}
 use Rattle.geometry.specs.declared.PrimitiveGeometry.TheVariants.{ClosedCylinder}
-use Rattle.geometry.specs.declared.NumberedGeometry.{NumberedGeometry}
-use Rattle.geometry.specs.declared.NumberedGeometry.TheVariants.{Shape, Nothing}
 use Rattle.geometry.specs.Flat.{intersect_plane_of, intersect_disk_of}
 use Rattle.geometry.specs.Round.{intersect_sphere_of, intersect_cylinder_of}
 use Rattle.geometry.specs.Slabs.{intersect_box_of}
@@ -20,14 +17,9 @@ last_shape = 5
 
 unfoldable pub numbered_geometry_of : ℕ → Float → Float → Float → Option PrimitiveGeometry
 numbered_geometry_of k p q r =
-    cond (eqb k 0) (some (Plane p q)) (cond (eqb k 1) (some (Disk p q))
-    (cond (eqb k 2) (some (Sphere p)) (cond (eqb k 3) (some (Cylinder p q)) (cond (eqb k 4) (some (Box p q r))
-    (cond (eqb k 5) (some (ClosedCylinder p q)) none)))))
-
--- what the code's answer says
-abbrev pub as_shape : NumberedGeometry → Option PrimitiveGeometry
-as_shape (Shape g) = some g
-as_shape Nothing = none
+    cond (eqb k 0) (Some (Plane p q)) (cond (eqb k 1) (Some (Disk p q))
+    (cond (eqb k 2) (Some (Sphere p)) (cond (eqb k 3) (Some (Cylinder p q)) (cond (eqb k 4) (Some (Box p q r))
+    (cond (eqb k 5) (Some (ClosedCylinder p q)) None)))))
 
 -- where a ray meets a shape: the distance and the outward normal, or none
 unfoldable pub intersect_local_of : PrimitiveGeometry → Ray → Option LocalHit

@@ -1,15 +1,14 @@
 -- Nobody has to believe this page: a box as the code goes about it, tied to Slabs by `inside_is` (proofs/Spans.antt).
 -- The distances of all three axes come first, and which sides set the two ends only where one of them is met.
-use Rattle.std.specs.Prelude.{Float, false, cond}
+use Rattle.std.specs.Prelude.{Float, false, cond, Option, None, Some}
 use Rattle.std.specs.Float.{inf, binary64}
 use Rattle.std.specs.Float.Ieee.{sub, mul, div, neg, lt, le}
-use Rattle.std.proofs.Math.Option.{Option, none}
 use Rattle.doubles.specs.Doubles.{abs_of, #0, #1}
 use Rattle.rays.specs.declared.vector.Vec3.{Vec3}
 use Rattle.rays.specs.Rays.{min_local_distance}
 use Rattle.geometry.specs.declared.LocalHit.{LocalHit}
 use Rattle.geometry.specs.declared.slab.Side.{Side}
-use Rattle.geometry.specs.declared.slab.Side.TheVariants.{MinusX, PlusX, MinusY, PlusY, MinusZ, PlusZ, Unset}
+use Rattle.geometry.specs.declared.slab.Side.TheVariants.{MinusX, PlusX, MinusY, PlusY, MinusZ, PlusZ}
 use Rattle.geometry.specs.declared.slab.Span.{Span}
 use Rattle.geometry.specs.declared.slab.Ends.{Ends}
 use Rattle.geometry.specs.Hits.{parallel}
@@ -54,24 +53,24 @@ unfoldable pub side_for_of : Float → Side → Side → Side
 side_for_of d up down = cond (le #0 (div binary64 #1 d)) up down
 
 -- the side that set an end: the last axis that moved it
-unfoldable pub near_side_of : Vec3 → Span → Span → Span → Ends → Side
+unfoldable pub near_side_of : Vec3 → Span → Span → Span → Ends → Option Side
 near_side_of d x y z ends =
-    cond (lt ends.two z.near) (side_for_of d.z MinusZ PlusZ)
-    (cond (lt ends.one y.near) (side_for_of d.y MinusY PlusY)
-    (cond (lt (neg (inf false)) x.near) (side_for_of d.x MinusX PlusX) Unset))
+    cond (lt ends.two z.near) (Some (side_for_of d.z MinusZ PlusZ))
+    (cond (lt ends.one y.near) (Some (side_for_of d.y MinusY PlusY))
+    (cond (lt (neg (inf false)) x.near) (Some (side_for_of d.x MinusX PlusX)) None))
 
-unfoldable pub far_side_of : Vec3 → Span → Span → Span → Ends → Side
+unfoldable pub far_side_of : Vec3 → Span → Span → Span → Ends → Option Side
 far_side_of d x y z ends =
-    cond (lt z.far ends.two) (side_for_of d.z PlusZ MinusZ)
-    (cond (lt y.far ends.one) (side_for_of d.y PlusY MinusY)
-    (cond (lt x.far (inf false)) (side_for_of d.x PlusX MinusX) Unset))
+    cond (lt z.far ends.two) (Some (side_for_of d.z PlusZ MinusZ))
+    (cond (lt y.far ends.one) (Some (side_for_of d.y PlusY MinusY))
+    (cond (lt x.far (inf false)) (Some (side_for_of d.x PlusX MinusX)) None))
 
 -- the near end, or the far one where the near end is not ahead
 unfoldable pub hit_between_of : Vec3 → Span → Span → Span → Option LocalHit
 hit_between_of d x y z =
     let near = near_ends_of x y z in
     let far = far_ends_of x y z in
-    cond (lt far.all near.all) none
-    (cond (le far.all min_local_distance) none
+    cond (lt far.all near.all) None
+    (cond (le far.all min_local_distance) None
     (cond (lt min_local_distance near.all) (side_hit_of near.all (near_side_of d x y z near))
     (side_hit_of far.all (far_side_of d x y z far))))

@@ -2,11 +2,10 @@
 // told by signs, before the ray's direction is made a unit vector.
 ghost use Rattle.std.specs.Prelude.{◌≡◌};
 ghost use Rattle.geometry.specs.declared.PrimitiveGeometry.TheVariants.{Box};
-ghost use Rattle.geometry.specs.Transforms.{as_local_ray};
 ghost use Rattle.geometry.specs.Behind.{recedes_of, leaves_of, is_behind_of};
-ghost use Rattle.geometry.specs.Contacts.{as_contact, meet_along_of, meet_of};
+ghost use Rattle.geometry.specs.Contacts.{meet_along_of, meet_of};
 
-use crate::{LocalHit, LocalIntersection, LocalRay, PrimitiveGeometry, transform};
+use crate::{LocalHit, PrimitiveGeometry, transform};
 use rays::{Mat4, Ray, Vec3};
 
 #[derive(Clone, Copy)]
@@ -15,13 +14,8 @@ pub struct Contact {
     pub hit: LocalHit,
 }
 
-#[derive(Clone, Copy)]
-pub enum LocalContact {
-    At(Contact),
-    Miss,
-}
-
 // Whether a ray runs away from 0 along one axis.
+#[tactic(auto, unfolding(crate::specs::Behind::recedes_of))]
 fn recedes(o: f64, d: f64) -> bool
     ensures { result ≡ recedes_of o d }
 {
@@ -29,6 +23,7 @@ fn recedes(o: f64, d: f64) -> bool
 }
 
 // The same, from beyond the half size h.
+#[tactic(auto, unfolding(crate::specs::Behind::leaves_of))]
 fn leaves(o: f64, d: f64, h: f64) -> bool
     ensures { result ≡ leaves_of o d h }
 {
@@ -36,6 +31,7 @@ fn leaves(o: f64, d: f64, h: f64) -> bool
 }
 
 // Of a box. All three axes are looked at, since which of them tells is hard to predict.
+#[tactic(auto, unfolding(crate::specs::Behind::is_behind_of))]
 fn leaves_box(half_x: f64, half_y: f64, half_z: f64, o: Vec3, d: Vec3) -> bool
     ensures { result ≡ is_behind_of (Box half_x half_y half_z) o d }
 {
@@ -47,6 +43,7 @@ fn leaves_box(half_x: f64, half_y: f64, half_z: f64, o: Vec3, d: Vec3) -> bool
 
 impl PrimitiveGeometry {
     // Whether the shape surely lies behind a ray from o along d, which may have any length.
+    #[tactic(auto, unfolding(crate::specs::Behind::is_behind_of))]
     fn is_behind(self, o: Vec3, d: Vec3) -> bool
         ensures { result ≡ is_behind_of self o d }
     {
@@ -77,29 +74,27 @@ impl PrimitiveGeometry {
     }
 
     // By the ray in the shape's coordinates.
-    fn meet_along(self, along: LocalRay) -> LocalContact
-        ensures { as_contact result ≡ meet_along_of self (as_local_ray along) }
+    #[tactic(auto, unfolding(crate::specs::Contacts::meet_along_of, crate::specs::Contacts::meet_by))]
+    fn meet_along(self, along: Option<Ray>) -> Option<Contact>
+        ensures { result ≡ meet_along_of self along }
     {
-        match along {
-            LocalRay::Made(ray) => match self.intersect_local(ray) {
-                LocalIntersection::Hit(hit) => LocalContact::At(Contact {
-                    point: ray.at(hit.t),
-                    hit,
-                }),
-                LocalIntersection::Miss => LocalContact::Miss,
-            },
-            LocalRay::Nothing => LocalContact::Miss,
-        }
+        let ray = along?;
+        let hit = self.intersect_local(ray)?;
+        Some(Contact {
+            point: ray.at(hit.t),
+            hit,
+        })
     }
 
     // `inverse` is the inverse of the shape's matrix.
-    pub fn meet(self, inverse: Mat4, ray: Ray) -> LocalContact
-        ensures { as_contact result ≡ meet_of self inverse ray }
+    #[tactic(auto, using(crate::proofs::Behind::miss_is), unfolding(crate::specs::Contacts::meet_of))]
+    pub fn meet(self, inverse: Mat4, ray: Ray) -> Option<Contact>
+        ensures { result ≡ meet_of self inverse ray }
     {
         let o = inverse.transform_point(ray.origin);
         let d = inverse.transform_direction(ray.direction);
         if self.is_behind(o, d) {
-            return LocalContact::Miss;
+            return None;
         }
         self.meet_along(transform::ray_from(o, d, ray))
     }

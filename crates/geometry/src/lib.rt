@@ -10,12 +10,11 @@ mod slab;
 mod transform;
 
 ghost use Rattle.std.specs.Prelude.{◌≡◌};
-ghost use Rattle.geometry.specs.Hits.{as_local_hit};
-ghost use Rattle.geometry.specs.Shapes.{numbered_geometry_of, as_shape, intersect_local_of};
+ghost use Rattle.geometry.specs.Shapes.{numbered_geometry_of, intersect_local_of};
 
-pub use contact::{Contact, LocalContact};
+pub use contact::Contact;
 use rays::{Ray, Vec3};
-pub use transform::{LocalRay, Transform3D, UnitVector};
+pub use transform::Transform3D;
 
 // A shape, with its sizes in millimetres.
 #[derive(Clone, Copy)]
@@ -52,13 +51,6 @@ pub enum PrimitiveGeometry {
     },
 }
 
-// What a number means.
-#[derive(Clone, Copy)]
-pub enum NumberedGeometry {
-    Shape(PrimitiveGeometry),
-    Nothing,
-}
-
 // Where a ray meets a shape: the distance and the outward normal.
 #[derive(Clone, Copy)]
 pub struct LocalHit {
@@ -66,60 +58,46 @@ pub struct LocalHit {
     pub normal: Vec3,
 }
 
-#[derive(Clone, Copy)]
-pub enum LocalIntersection {
-    Hit(LocalHit),
-    Miss,
-}
-
 impl PrimitiveGeometry {
     // The largest number of a shape.
     pub const LAST: u32 = 5;
 
     // The shape of the documents' number, if there is one, with as many of the sizes as it takes.
-    pub fn numbered(number: u32, p: f64, q: f64, r: f64) -> NumberedGeometry
-        ensures { as_shape result ≡ numbered_geometry_of number p q r }
+    #[tactic(auto, unfolding(crate::specs::Shapes::numbered_geometry_of))]
+    pub fn numbered(number: u32, p: f64, q: f64, r: f64) -> Option<PrimitiveGeometry>
+        ensures { result ≡ numbered_geometry_of number p q r }
     {
-        if number == 0 {
-            return NumberedGeometry::Shape(PrimitiveGeometry::Plane {
+        match number {
+            0 => Some(PrimitiveGeometry::Plane {
                 half_width: p,
                 half_height: q,
-            });
-        }
-        if number == 1 {
-            return NumberedGeometry::Shape(PrimitiveGeometry::Disk {
+            }),
+            1 => Some(PrimitiveGeometry::Disk {
                 outer_radius: p,
                 inner_radius: q,
-            });
-        }
-        if number == 2 {
-            return NumberedGeometry::Shape(PrimitiveGeometry::Sphere { radius: p });
-        }
-        if number == 3 {
-            return NumberedGeometry::Shape(PrimitiveGeometry::Cylinder {
+            }),
+            2 => Some(PrimitiveGeometry::Sphere { radius: p }),
+            3 => Some(PrimitiveGeometry::Cylinder {
                 radius: p,
                 half_length: q,
-            });
-        }
-        if number == 4 {
-            return NumberedGeometry::Shape(PrimitiveGeometry::Box {
+            }),
+            4 => Some(PrimitiveGeometry::Box {
                 half_x: p,
                 half_y: q,
                 half_z: r,
-            });
-        }
-        if number == 5 {
-            return NumberedGeometry::Shape(PrimitiveGeometry::ClosedCylinder {
+            }),
+            5 => Some(PrimitiveGeometry::ClosedCylinder {
                 radius: p,
                 half_length: q,
-            });
+            }),
+            _ => None,
         }
-        NumberedGeometry::Nothing
     }
 
     // Where a ray in the shape's coordinates first meets it.
-    pub fn intersect_local(self, ray: Ray) -> LocalIntersection
-        ensures { as_local_hit result ≡ intersect_local_of self ray }
+    #[tactic(auto, unfolding(crate::specs::Shapes::intersect_local_of))]
+    pub fn intersect_local(self, ray: Ray) -> Option<LocalHit>
+        ensures { result ≡ intersect_local_of self ray }
     {
         match self {
             PrimitiveGeometry::Plane {

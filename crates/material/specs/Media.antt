@@ -1,20 +1,15 @@
 -- The refractive index of a medium at a wavelength in nanometres. The formulas take micrometres; the order of the
 -- operations is material.rs's.
-use Rattle.std.specs.Prelude.{ℕ, eqb, Float, cond}
+use Rattle.std.specs.Prelude.{ℕ, eqb, Float, cond, Option, None, Some, unwrap_or}
 use Rattle.std.specs.Float.{binary64}
 use Rattle.std.specs.Float.Ieee.{add, sub, mul, div, lt, le, of_bits}
-use Rattle.std.proofs.Math.Option.{Option, none, some}
 use Rattle.doubles.specs.Doubles.{is_finite_of, #0, #1}
 use Rattle.doubles.specs.Root.{sqrt_of}
-use Rattle.error.specs.Refusals.{number_of, Answer, value, refusal}
+use Rattle.error.specs.Refusals.{Answer, value, refusal}
 use Rattle.material.specs.declared.OpticalMedium.{OpticalMedium}
 use Rattle.material.specs.declared.OpticalMedium.TheVariants.{Air, Constant, Sellmeier1, Schott}
 use Rattle.material.specs.declared.SurfaceFinish.{SurfaceFinish}
 use Rattle.material.specs.declared.SurfaceFinish.TheVariants.{Specular, Mirror, Absorber}
-use Rattle.material.specs.declared.NumberedMedium as media
-use Rattle.material.specs.declared.NumberedFinish as finishes
-use Rattle.material.specs.declared.RefractiveIndex.{RefractiveIndex}
-use Rattle.material.specs.declared.RefractiveIndex.TheVariants.{Index, Refused}
 
 -- finishes 0 to 2 in document 01's order, and none beyond; rho is the mirror's reflectance
 abbrev pub last_finish : ℕ
@@ -22,11 +17,10 @@ last_finish = 2
 
 unfoldable pub numbered_finish_of : ℕ → Float → Option SurfaceFinish
 numbered_finish_of k rho =
-    cond (eqb k 0) (some Specular) (cond (eqb k 1) (some (Mirror rho)) (cond (eqb k 2) (some Absorber) none))
+    cond (eqb k 0) (Some Specular) (cond (eqb k 1) (Some (Mirror rho)) (cond (eqb k 2) (Some Absorber) None))
 
-unfoldable pub or_clear_of : Option SurfaceFinish → SurfaceFinish
-or_clear_of (some f) = f
-or_clear_of none = Specular
+abbrev pub or_clear_of : Option SurfaceFinish → SurfaceFinish
+or_clear_of f = unwrap_or f Specular
 
 -- media 0 to 3 in document 01's order, and none beyond, with their coefficients from a on
 abbrev pub last_medium : ℕ
@@ -34,21 +28,11 @@ last_medium = 3
 
 unfoldable pub numbered_medium_of : ℕ → Float → Float → Float → Float → Float → Float → Option OpticalMedium
 numbered_medium_of k a b c d e f =
-    cond (eqb k 0) (some Air) (cond (eqb k 1) (some (Constant a)) (cond (eqb k 2) (some (Sellmeier1 a b c d e f))
-    (cond (eqb k 3) (some (Schott a b c d e f)) none)))
+    cond (eqb k 0) (Some Air) (cond (eqb k 1) (Some (Constant a)) (cond (eqb k 2) (Some (Sellmeier1 a b c d e f))
+    (cond (eqb k 3) (Some (Schott a b c d e f)) None)))
 
-unfoldable pub or_air_of : Option OpticalMedium → OpticalMedium
-or_air_of (some m) = m
-or_air_of none = Air
-
--- what the code's answers say
-abbrev pub as_finish : finishes.NumberedFinish → Option SurfaceFinish
-as_finish (finishes.TheVariants.Finish f) = some f
-as_finish finishes.TheVariants.Nothing = none
-
-abbrev pub as_medium : media.NumberedMedium → Option OpticalMedium
-as_medium (media.TheVariants.Medium m) = some m
-as_medium media.TheVariants.Nothing = none
+abbrev pub or_air_of : Option OpticalMedium → OpticalMedium
+or_air_of m = unwrap_or m Air
 
 -- (λ * 1e-3) squared
 unfoldable pub square_um_of : Float → Float
@@ -95,8 +79,3 @@ index_at_of (Schott a0 a1 a2 a3 a4 a5) w = root_of_square_of (schott_of (square_
 -- 14, before the medium is looked at: a wavelength at most 0 or not finite
 unfoldable pub refractive_index_of : OpticalMedium → Float → Answer Float
 refractive_index_of m w = cond (le w #0) (refusal 14) (cond (is_finite_of w) (index_at_of m w) (refusal 14))
-
--- what the code's answer says
-abbrev pub as_index : RefractiveIndex → Answer Float
-as_index (Index n) = value n
-as_index (Refused e) = refusal (number_of e)

@@ -2,7 +2,8 @@
 #![tactic(auto)]
 
 ghost use Rattle.std.specs.Prelude.{◌≡◌};
-ghost use Rattle.material.specs.Media.{numbered_finish_of, as_finish, or_clear_of, numbered_medium_of, as_medium, or_air_of, square_um_of, sellmeier_term_of, sellmeier_of, schott_of, constant_of, root_of_square_of, index_at_of, refractive_index_of, as_index};
+ghost use Rattle.error.specs.Refusals.{as_answer};
+ghost use Rattle.material.specs.Media.{numbered_finish_of, numbered_medium_of, square_um_of, sellmeier_term_of, sellmeier_of, schott_of, constant_of, root_of_square_of, index_at_of, refractive_index_of};
 
 use error::NonSeqError;
 
@@ -39,26 +40,8 @@ pub enum SurfaceFinish {
     Absorber,
 }
 
-// What a number means.
-#[derive(Clone, Copy)]
-pub enum NumberedMedium {
-    Medium(OpticalMedium),
-    Nothing,
-}
-
-#[derive(Clone, Copy)]
-pub enum NumberedFinish {
-    Finish(SurfaceFinish),
-    Nothing,
-}
-
-#[derive(Clone, Copy)]
-pub enum RefractiveIndex {
-    Index(f64),
-    Refused(NonSeqError),
-}
-
 // The square of the wavelength in micrometres.
+#[tactic(auto, unfolding(crate::specs::Media::square_um_of))]
 fn square_um(wavelength: f64) -> f64
     ensures { result ≡ square_um_of wavelength }
 {
@@ -67,6 +50,7 @@ fn square_um(wavelength: f64) -> f64
 }
 
 // One term of Sellmeier's sum.
+#[tactic(auto, unfolding(crate::specs::Media::sellmeier_term_of))]
 fn sellmeier_term(l2: f64, b: f64, c: f64) -> f64
     ensures { result ≡ sellmeier_term_of l2 b c }
 {
@@ -74,6 +58,7 @@ fn sellmeier_term(l2: f64, b: f64, c: f64) -> f64
 }
 
 // The squared index by Sellmeier's equation.
+#[tactic(auto, unfolding(crate::specs::Media::sellmeier_of))]
 fn sellmeier(l2: f64, b1: f64, c1: f64, b2: f64, c2: f64, b3: f64, c3: f64) -> f64
     ensures { result ≡ sellmeier_of l2 b1 c1 b2 c2 b3 c3 }
 {
@@ -84,6 +69,7 @@ fn sellmeier(l2: f64, b1: f64, c1: f64, b2: f64, c2: f64, b3: f64, c3: f64) -> f
 }
 
 // The squared index by Schott's polynomial.
+#[tactic(auto, unfolding(crate::specs::Media::schott_of))]
 fn schott(l2: f64, a0: f64, a1: f64, a2: f64, a3: f64, a4: f64, a5: f64) -> f64
     ensures { result ≡ schott_of l2 a0 a1 a2 a3 a4 a5 }
 {
@@ -95,29 +81,31 @@ fn schott(l2: f64, a0: f64, a1: f64, a2: f64, a3: f64, a4: f64, a5: f64) -> f64
 }
 
 // An index given as a constant: refused below 1 or not finite.
-fn constant(n: f64) -> RefractiveIndex
-    ensures { as_index result ≡ constant_of n }
+#[tactic(auto, unfolding(crate::specs::Media::constant_of))]
+fn constant(n: f64) -> Result<f64, NonSeqError>
+    ensures { as_answer result ≡ constant_of n }
 {
     if n < 1.0 {
-        return RefractiveIndex::Refused(NonSeqError::InvalidIndex);
+        return Err(NonSeqError::InvalidIndex);
     }
     if doubles::is_finite(n) {
-        return RefractiveIndex::Index(n);
+        return Ok(n);
     }
-    RefractiveIndex::Refused(NonSeqError::InvalidIndex)
+    Err(NonSeqError::InvalidIndex)
 }
 
 // The root of a squared index: refused at most 0 or not finite.
-fn root_of_square(n2: f64) -> RefractiveIndex
-    ensures { as_index result ≡ root_of_square_of n2 }
+#[tactic(auto, unfolding(crate::specs::Media::root_of_square_of))]
+fn root_of_square(n2: f64) -> Result<f64, NonSeqError>
+    ensures { as_answer result ≡ root_of_square_of n2 }
 {
     if n2 <= 0.0 {
-        return RefractiveIndex::Refused(NonSeqError::InvalidIndex);
+        return Err(NonSeqError::InvalidIndex);
     }
     if doubles::is_finite(n2) {
-        return RefractiveIndex::Index(doubles::root_elsewhere(n2));
+        return Ok(doubles::root_elsewhere(n2));
     }
-    RefractiveIndex::Refused(NonSeqError::InvalidIndex)
+    Err(NonSeqError::InvalidIndex)
 }
 
 impl SurfaceFinish {
@@ -125,42 +113,15 @@ impl SurfaceFinish {
     pub const LAST: u32 = 2;
 
     // The finish of document 01's number, if there is one.
-    pub fn numbered(number: u32, rho: f64) -> NumberedFinish
-        ensures { as_finish result ≡ numbered_finish_of number rho }
+    #[tactic(auto, unfolding(crate::specs::Media::numbered_finish_of))]
+    pub fn numbered(number: u32, rho: f64) -> Option<SurfaceFinish>
+        ensures { result ≡ numbered_finish_of number rho }
     {
-        if number == 0 {
-            return NumberedFinish::Finish(SurfaceFinish::Specular);
-        }
-        if number == 1 {
-            return NumberedFinish::Finish(SurfaceFinish::Mirror { reflectance: rho });
-        }
-        if number == 2 {
-            return NumberedFinish::Finish(SurfaceFinish::Absorber);
-        }
-        NumberedFinish::Nothing
-    }
-}
-
-impl NumberedFinish {
-    // Clear where there is none.
-    pub fn or_clear(self) -> SurfaceFinish
-        ensures { result ≡ or_clear_of (as_finish self) }
-    {
-        match self {
-            NumberedFinish::Finish(finish) => finish,
-            NumberedFinish::Nothing => SurfaceFinish::Specular,
-        }
-    }
-}
-
-impl NumberedMedium {
-    // Air where there is none.
-    pub fn or_air(self) -> OpticalMedium
-        ensures { result ≡ or_air_of (as_medium self) }
-    {
-        match self {
-            NumberedMedium::Medium(medium) => medium,
-            NumberedMedium::Nothing => OpticalMedium::Air,
+        match number {
+            0 => Some(SurfaceFinish::Specular),
+            1 => Some(SurfaceFinish::Mirror { reflectance: rho }),
+            2 => Some(SurfaceFinish::Absorber),
+            _ => None,
         }
     }
 }
@@ -170,58 +131,63 @@ impl OpticalMedium {
     pub const LAST: u32 = 3;
 
     // The medium of document 01's number, if there is one, with as many of the coefficients as it takes.
-    pub fn numbered(number: u32, a: f64, b: f64, c: f64, d: f64, e: f64, f: f64) -> NumberedMedium
-        ensures { as_medium result ≡ numbered_medium_of number a b c d e f }
+    #[tactic(auto, unfolding(crate::specs::Media::numbered_medium_of))]
+    pub fn numbered(
+        number: u32,
+        a: f64,
+        b: f64,
+        c: f64,
+        d: f64,
+        e: f64,
+        f: f64,
+    ) -> Option<OpticalMedium>
+        ensures { result ≡ numbered_medium_of number a b c d e f }
     {
-        if number == 0 {
-            return NumberedMedium::Medium(OpticalMedium::Air);
-        }
-        if number == 1 {
-            return NumberedMedium::Medium(OpticalMedium::Constant { n: a });
-        }
-        if number == 2 {
-            return NumberedMedium::Medium(OpticalMedium::Sellmeier1 {
+        match number {
+            0 => Some(OpticalMedium::Air),
+            1 => Some(OpticalMedium::Constant { n: a }),
+            2 => Some(OpticalMedium::Sellmeier1 {
                 b1: a,
                 c1: b,
                 b2: c,
                 c2: d,
                 b3: e,
                 c3: f,
-            });
-        }
-        if number == 3 {
-            return NumberedMedium::Medium(OpticalMedium::Schott {
+            }),
+            3 => Some(OpticalMedium::Schott {
                 a0: a,
                 a1: b,
                 a2: c,
                 a3: d,
                 a4: e,
                 a5: f,
-            });
+            }),
+            _ => None,
         }
-        NumberedMedium::Nothing
     }
 
     // The refractive index at a wavelength in nanometres. A wavelength at most 0 or not finite is
     // refused first (14), then an index outside the medium's rule (15).
-    pub fn refractive_index(self, wavelength: f64) -> RefractiveIndex
-        ensures { as_index result ≡ refractive_index_of self wavelength }
+    #[tactic(auto, unfolding(crate::specs::Media::refractive_index_of))]
+    pub fn refractive_index(self, wavelength: f64) -> Result<f64, NonSeqError>
+        ensures { as_answer result ≡ refractive_index_of self wavelength }
     {
         if wavelength <= 0.0 {
-            return RefractiveIndex::Refused(NonSeqError::InvalidWavelength);
+            return Err(NonSeqError::InvalidWavelength);
         }
         if doubles::is_finite(wavelength) {
             return self.index_at(wavelength);
         }
-        RefractiveIndex::Refused(NonSeqError::InvalidWavelength)
+        Err(NonSeqError::InvalidWavelength)
     }
 
     // The same at a wavelength that is not refused.
-    fn index_at(self, wavelength: f64) -> RefractiveIndex
-        ensures { as_index result ≡ index_at_of self wavelength }
+    #[tactic(auto, unfolding(crate::specs::Media::index_at_of))]
+    fn index_at(self, wavelength: f64) -> Result<f64, NonSeqError>
+        ensures { as_answer result ≡ index_at_of self wavelength }
     {
         match self {
-            OpticalMedium::Air => RefractiveIndex::Index(1.0),
+            OpticalMedium::Air => Ok(1.0),
             OpticalMedium::Constant { n } => constant(n),
             OpticalMedium::Sellmeier1 {
                 b1,

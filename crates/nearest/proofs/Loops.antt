@@ -1,26 +1,26 @@
 -- The search as code makes it: one offer, one turn of a loop, its end. Assumes nothing.
+use Rattle.std.specs.Prelude.{Option, None, Some}
 use Prim.Native.Nat.{ℕ, suc, ◌+◌, ◌-◌, ◌≤◌, ◌<◌}
 use mathlib.Core.Path.{◌≡◌, refl}
 use mathlib.Core.Bool.{true, false}
-use mathlib.Core.Option.{Option, none, some}
 use native.Mathlib.Nat.{sub-zero}
 use native.Mathlib.Omega.{arith}
 use lib.Ieee.{Float}
 use Rattle.nearest.specs.Nearest.{is_nearer_of, distance_of, nearer_of, nearest_from, nearest_among}
 
-pub nearer_nothing : (A : Type 0) (d : A → Float) (b : Option A) → nearer_of A d b none ≡ b
+pub nearer_nothing : (A : Type 0) (d : A → Float) (b : Option A) → nearer_of A d b None ≡ b
 unfolding nearer_of
 nearer_nothing A d b = refl
 
-pub nearer_taken : (A : Type 0) (d : A → Float) (b : Option A) (h : A) → is_nearer_of (d h) (distance_of A d b) ≡ true → nearer_of A d b (some h) ≡ some h
+pub nearer_taken : (A : Type 0) (d : A → Float) (b : Option A) (h : A) → is_nearer_of (d h) (distance_of A d b) ≡ true → nearer_of A d b (Some h) ≡ Some h
 unfolding nearer_of
 nearer_taken A d b h e = rw e
 
-pub nearer_kept : (A : Type 0) (d : A → Float) (b : Option A) (h : A) → is_nearer_of (d h) (distance_of A d b) ≡ false → nearer_of A d b (some h) ≡ b
+pub nearer_kept : (A : Type 0) (d : A → Float) (b : Option A) (h : A) → is_nearer_of (d h) (distance_of A d b) ≡ false → nearer_of A d b (Some h) ≡ b
 unfolding nearer_of
 nearer_kept A d b h e = rw e
 
-pub nearest_start : (A : Type 0) (d : A → Float) (f : ℕ → Option A) (n : ℕ) → nearest_from A d f (n - 0) 0 none ≡ nearest_among A d f n
+pub nearest_start : (A : Type 0) (d : A → Float) (f : ℕ → Option A) (n : ℕ) → nearest_from A d f (n - 0) 0 None ≡ nearest_among A d f n
 unfolding nearest_among
 nearest_start A d f n = rw sub-zero
 

@@ -8,6 +8,7 @@ ghost use Rattle.nearest.specs.Nearest.{is_nearer_of};
 use rays::Ray;
 
 // Whether a distance counts and is below the nearest so far, which is infinite at first.
+#[tactic(auto, unfolding(crate::specs::Nearest::is_nearer_of))]
 pub fn is_nearer(t: f64, nearest: f64) -> bool
     ensures { result ≡ is_nearer_of t nearest }
 {

@@ -3,11 +3,9 @@ use Rattle.std.specs.Prelude.{Bool, cond, ◌&&◌, Float}
 use Rattle.std.specs.Float.{binary64}
 use Rattle.std.specs.Float.Ieee.{of_bits, sub, le}
 use Rattle.doubles.specs.Doubles.{abs_of, is_finite_of}
-use Rattle.error.specs.Refusals.{number_of, Answer, value, refusal}
+use Rattle.error.specs.Refusals.{Answer, value, refusal}
 use Rattle.rays.specs.declared.vector.Vec3.{Vec3}
 use Rattle.rays.specs.declared.Ray.{Ray}
-use Rattle.rays.specs.declared.NewRay.{NewRay}
-use Rattle.rays.specs.declared.NewRay.TheVariants.{Made, Refused}
 use Rattle.rays.specs.Vectors.{dot_of, plus_of, scale_of, is_finite_vec_of}
 
 -- 1e-9, 1e-8 and 1e-6 as doubles
@@ -41,8 +39,3 @@ unfoldable pub new_ray_of : Vec3 → Vec3 → Float → Float → Answer Ray
 new_ray_of o d w p =
     let r : Ray = record { origin = o; direction = d; wavelength_nm = w; energy = p } in
     cond (is_finite_ray_of r) (value r) (refusal 16)
-
--- what the code's answer says
-abbrev pub as_ray : NewRay → Answer Ray
-as_ray (Made r) = value r
-as_ray (Refused e) = refusal (number_of e)

@@ -6,7 +6,8 @@ mod matrix;
 mod vector;
 
 ghost use Rattle.std.specs.Prelude.{◌≡◌};
-ghost use Rattle.rays.specs.Rays.{at_of, is_finite_ray_of, is_valid_ray_of, new_ray_of, as_ray};
+ghost use Rattle.error.specs.Refusals.{as_answer};
+ghost use Rattle.rays.specs.Rays.{at_of, is_finite_ray_of, is_valid_ray_of, new_ray_of};
 
 use error::NonSeqError;
 pub use matrix::{Mat4, Row};
@@ -22,12 +23,6 @@ pub struct Ray {
     pub energy: f64,
 }
 
-#[derive(Clone, Copy)]
-pub enum NewRay {
-    Made(Ray),
-    Refused(NonSeqError),
-}
-
 impl Ray {
     // A crossing counts from beyond this distance in a shape's own coordinates.
     pub const MIN_LOCAL_DISTANCE: f64 = 1e-9;
@@ -39,8 +34,14 @@ impl Ray {
     pub const OFFSET: f64 = 1e-6;
 
     // Refuses a part that is not finite (16).
-    pub fn new(origin: Vec3, direction: Vec3, wavelength: f64, power: f64) -> NewRay
-        ensures { as_ray result ≡ new_ray_of origin direction wavelength power }
+    #[tactic(auto, unfolding(crate::specs::Rays::new_ray_of))]
+    pub fn new(
+        origin: Vec3,
+        direction: Vec3,
+        wavelength: f64,
+        power: f64,
+    ) -> Result<Ray, NonSeqError>
+        ensures { as_answer result ≡ new_ray_of origin direction wavelength power }
     {
         let ray = Ray {
             origin,
@@ -49,12 +50,13 @@ impl Ray {
             energy: power,
         };
         if ray.is_finite() {
-            return NewRay::Made(ray);
+            return Ok(ray);
         }
-        NewRay::Refused(NonSeqError::RayNotFinite)
+        Err(NonSeqError::RayNotFinite)
     }
 
     // Whether all eight parts are finite, by one test.
+    #[tactic(auto, using(crate::proofs::Finite::eight_finite), unfolding(crate::specs::Rays::is_finite_ray_of))]
     pub fn is_finite(self) -> bool
         ensures { result ≡ is_finite_ray_of self }
     {
@@ -69,6 +71,7 @@ impl Ray {
 
     // Whether this is a ray that a caller may give: all parts finite, a power that is not below 0, and a
     // direction dotted with itself within 1e-9 of 1. Any other is refused by 10.
+    #[tactic(auto, unfolding(crate::specs::Rays::is_valid_ray_of))]
     pub fn is_valid(self) -> bool
         ensures { result ≡ is_valid_ray_of self }
     {
@@ -82,6 +85,7 @@ impl Ray {
     }
 
     // The point at a distance: origin plus direction times distance.
+    #[tactic(auto, unfolding(crate::specs::Rays::at_of))]
     pub fn at(self, t: f64) -> Vec3
         ensures { result ≡ at_of self t }
     {

@@ -23,6 +23,7 @@ pub struct Mat4 {
 
 impl Row {
     // The row times (v, last), the fourth column included.
+    #[tactic(auto, unfolding(crate::specs::Matrices::row_times_of))]
     pub fn times(self, v: Vec3, last: f64) -> f64
         ensures { result ≡ row_times_of self v last }
     {
@@ -32,6 +33,7 @@ impl Row {
 
 impl Mat4 {
     // The first three rows times (v, last).
+    #[tactic(auto, unfolding(crate::specs::Matrices::times_of))]
     pub fn times(self, v: Vec3, last: f64) -> Vec3
         ensures { result ≡ times_of self v last }
     {
@@ -42,6 +44,7 @@ impl Mat4 {
         }
     }
 
+    #[tactic(auto, unfolding(crate::specs::Matrices::transpose_of))]
     pub fn transpose(self) -> Mat4
         ensures { result ≡ transpose_of self }
     {
@@ -77,12 +80,14 @@ impl Mat4 {
         }
     }
 
+    #[tactic(auto, unfolding(crate::specs::Matrices::transform_point_of))]
     pub fn transform_point(self, p: Vec3) -> Vec3
         ensures { result ≡ transform_point_of self p }
     {
         self.times(p, 1.0)
     }
 
+    #[tactic(auto, unfolding(crate::specs::Matrices::transform_direction_of))]
     pub fn transform_direction(self, d: Vec3) -> Vec3
         ensures { result ≡ transform_direction_of self d }
     {
@@ -90,6 +95,7 @@ impl Mat4 {
     }
 
     // Of an inverse matrix: the product of its transpose with a normal, not made a unit vector.
+    #[tactic(auto, unfolding(crate::specs::Matrices::transform_normal_of))]
     pub fn transform_normal(self, n: Vec3) -> Vec3
         ensures { result ≡ transform_normal_of self n }
     {

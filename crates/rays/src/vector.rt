@@ -14,12 +14,14 @@ impl Vec3 {
     // A vector of at most this length has no direction.
     pub const MIN_LENGTH: f64 = 1e-15;
 
+    #[tactic(auto, unfolding(crate::specs::Vectors::dot_of))]
     pub fn dot(self, b: Vec3) -> f64
         ensures { result ≡ dot_of self b }
     {
         self.x * b.x + self.y * b.y + self.z * b.z
     }
 
+    #[tactic(auto, unfolding(crate::specs::Vectors::cross_of))]
     pub fn cross(self, b: Vec3) -> Vec3
         ensures { result ≡ cross_of self b }
     {
@@ -30,6 +32,7 @@ impl Vec3 {
         }
     }
 
+    #[tactic(auto, unfolding(crate::specs::Vectors::plus_of))]
     pub fn plus(self, b: Vec3) -> Vec3
         ensures { result ≡ plus_of self b }
     {
@@ -40,6 +43,7 @@ impl Vec3 {
         }
     }
 
+    #[tactic(auto, unfolding(crate::specs::Vectors::minus_of))]
     pub fn minus(self, b: Vec3) -> Vec3
         ensures { result ≡ minus_of self b }
     {
@@ -51,6 +55,7 @@ impl Vec3 {
     }
 
     // Each part times k.
+    #[tactic(auto, unfolding(crate::specs::Vectors::scale_of))]
     pub fn scale(self, k: f64) -> Vec3
         ensures { result ≡ scale_of self k }
     {
@@ -62,6 +67,7 @@ impl Vec3 {
     }
 
     // Each part divided by k.
+    #[tactic(auto, unfolding(crate::specs::Vectors::divide_of))]
     pub fn divide(self, k: f64) -> Vec3
         ensures { result ≡ divide_of self k }
     {
@@ -72,6 +78,7 @@ impl Vec3 {
         }
     }
 
+    #[tactic(auto, unfolding(crate::specs::Vectors::negate_of))]
     pub fn negate(self) -> Vec3
         ensures { result ≡ negate_of self }
     {
@@ -83,6 +90,7 @@ impl Vec3 {
     }
 
     // The length.
+    #[tactic(auto, unfolding(crate::specs::Vectors::norm_of))]
     pub fn norm(self) -> f64
         ensures { result ≡ norm_of self }
     {
@@ -90,6 +98,7 @@ impl Vec3 {
     }
 
     // Whether the length is above 1e-15 and finite.
+    #[tactic(auto, unfolding(crate::specs::Vectors::has_direction_of))]
     pub fn has_direction(self) -> bool
         ensures { result ≡ has_direction_of self }
     {
@@ -101,6 +110,7 @@ impl Vec3 {
     }
 
     // Each part divided by the length.
+    #[tactic(auto, unfolding(crate::specs::Vectors::normalize_of))]
     pub fn normalize(self) -> Vec3
         ensures { result ≡ normalize_of self }
     {
@@ -108,6 +118,7 @@ impl Vec3 {
     }
 
     // Whether all three parts are finite. A part less itself is 0 if it is, and else not a number.
+    #[tactic(auto, using(crate::proofs::Finite::all_finite), unfolding(crate::specs::Vectors::is_finite_vec_of))]
     pub fn is_finite(self) -> bool
         ensures { result ≡ is_finite_vec_of self }
     {
@@ -115,6 +126,7 @@ impl Vec3 {
     }
 
     // Whether all three parts and two numbers are finite, by one test.
+    #[tactic(auto, using(crate::proofs::Finite::five_finite))]
     pub fn is_finite_with(self, a: f64, b: f64) -> bool
         ensures { result ≡ is_finite_with_of self a b }
     {
