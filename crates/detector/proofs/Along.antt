@@ -72,13 +72,13 @@ cancel p q a b de dd some h e =
     le_of_mul-le-mul_right (le_trans (le_of_eq first) (le_trans (mul-le-mul_right b h) (le_of_eq (second ∙ ap (λ (x : ℕ). x * de) e ∙ third)))) some
   where
     first : p * b * dd ≡ p * dd * b
-    first = simp (mul_assoc, mul_comm, mul_left_comm) refl
+    first = simp (mul_assoc, mul_comm) refl
 
     second : q * de * b ≡ q * b * de
-    second = simp (mul_assoc, mul_comm, mul_left_comm) refl
+    second = simp (mul_assoc, mul_comm) refl
 
     third : a * dd * de ≡ a * de * dd
-    third = simp (mul_assoc, mul_comm, mul_left_comm) refl
+    third = simp (mul_assoc, mul_comm) refl
 
 -- ---- at most a fraction, and so cut to at most its whole part
 

@@ -4,12 +4,10 @@ use Rattle.std.specs.Prelude.{ℕ, Bool, cond, ◌&&◌, ◌||◌, eqb, leb, Flo
 use Rattle.std.specs.Float.{binary64}
 use Rattle.std.specs.Float.Ieee.{of_bits, lt}
 use Rattle.doubles.specs.Doubles.{abs_of, is_finite_of}
-use Rattle.error.specs.Refusals.{number_of, Checked, passed, refused_at, after}
+use Rattle.error.specs.Refusals.{Checked, passed, refused_at, after}
 use Rattle.rays.specs.declared.vector.Vec3.{Vec3}
 use Rattle.rays.specs.Vectors.{dot_of, has_direction_of, normalize_of, is_finite_vec_of}
 use Rattle.detector.specs.declared.Detector2D.{Detector2D}
-use Rattle.detector.specs.declared.checks.NewDetector.{NewDetector}
-use Rattle.detector.specs.declared.checks.NewDetector.TheVariants.{Made, Refused}
 
 -- above 0 and finite
 unfoldable pub is_size_of : Float → Bool
@@ -59,8 +57,3 @@ new_detector_of c n u w h resx resy =
       total_rays_hit = 0;
     } in
     after (check_detector_of d 0) (passed d)
-
--- what the code's answer says
-abbrev pub as_detector : NewDetector → Checked Detector2D
-as_detector (Made d) = passed d
-as_detector (Refused e place) = refused_at (number_of e) place

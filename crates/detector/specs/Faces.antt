@@ -1,10 +1,9 @@
 -- A detector's face, and where a ray crosses it.
-use Rattle.std.specs.Prelude.{cond, ◌&&◌, Float}
-use Rattle.std.proofs.Math.Option.{Option, none, some}
+use Rattle.std.specs.Prelude.{cond, ◌&&◌, Float, Option, None, Some}
 use Rattle.std.specs.Float.{binary64}
 use Rattle.std.specs.Float.Ieee.{of_bits, mul, div, lt, le}
 use Rattle.doubles.specs.Doubles.{abs_of}
-use Rattle.error.specs.Refusals.{number_of, Checked, passed, refused_at, after}
+use Rattle.error.specs.Refusals.{Checked, passed, refused_at, after}
 use Rattle.rays.specs.declared.vector.Vec3.{Vec3}
 use Rattle.rays.specs.declared.Ray.{Ray}
 use Rattle.rays.specs.Vectors.{dot_of, cross_of, minus_of, scale_of, normalize_of}
@@ -12,10 +11,6 @@ use Rattle.rays.specs.Rays.{min_local_distance, at_of, is_valid_ray_of}
 use Rattle.detector.specs.declared.Detector2D.{Detector2D}
 use Rattle.detector.specs.declared.face.Face.{Face}
 use Rattle.detector.specs.declared.face.Crossing.{Crossing}
-use Rattle.detector.specs.declared.face.Crossed.{Crossed}
-use Rattle.detector.specs.declared.face.Crossed.TheVariants.{At, Miss}
-use Rattle.detector.specs.declared.face.RayCrossing.{RayCrossing}
-use Rattle.detector.specs.declared.face.RayCrossing.TheVariants.{Found, Refused}
 use Rattle.detector.specs.Checks.{check_detector_of}
 
 -- unit up less its part along the unit normal, made a unit vector
@@ -46,7 +41,7 @@ across_of f r t =
     let x = dot_of o f.right in
     let y = dot_of o f.up in
     cond (le (abs_of x) f.half_width && le (abs_of y) f.half_height)
-    (some (record { t = t; local_x = x; local_y = y })) none
+    (Some (record { t = t; local_x = x; local_y = y })) None
 
 -- 1e-12: a direction whose part along the normal is below it in size is parallel to the face
 abbrev parallel : Float
@@ -57,18 +52,9 @@ unfoldable pub face_intersect_ray_of : Face → Ray → Option Crossing
 face_intersect_ray_of f r =
     let along = dot_of r.direction f.normal in
     let t = div binary64 (dot_of (minus_of f.center r.origin) f.normal) along in
-    cond (lt (abs_of along) parallel) none (cond (le t min_local_distance) none (across_of f r t))
-
--- what the code's answer says
-abbrev pub as_crossing : Crossed → Option Crossing
-as_crossing (At c) = some c
-as_crossing Miss = none
+    cond (lt (abs_of along) parallel) None (cond (le t min_local_distance) None (across_of f r t))
 
 -- 5 to 8 and 18, then 10, then the crossing
 unfoldable pub intersect_ray_of : Detector2D → Ray → Checked (Option Crossing)
 intersect_ray_of d r =
     after (check_detector_of d 0) (cond (is_valid_ray_of r) (passed (face_intersect_ray_of (face_of d) r)) (refused_at 10 0))
-
-abbrev pub as_ray_crossing : RayCrossing → Checked (Option Crossing)
-as_ray_crossing (Found c) = passed (as_crossing c)
-as_ray_crossing (Refused e place) = refused_at (number_of e) place

@@ -3,10 +3,8 @@ use Rattle.std.specs.Prelude.{ℕ, ◌+◌, ◌*◌, cond, ◌&&◌, leb, pos, F
 use Rattle.std.specs.Float.{binary64}
 use Rattle.std.specs.Float.Ieee.{of_bits, of_int, to_unsigned, add, mul, div, le}
 use Rattle.doubles.specs.Doubles.{clamp_of, #0}
-use Rattle.error.specs.Refusals.{number_of, Checked, passed, refused_at, after}
+use Rattle.error.specs.Refusals.{Checked, passed, after}
 use Rattle.detector.specs.declared.Detector2D.{Detector2D}
-use Rattle.detector.specs.declared.pixels.Reading.{Reading}
-use Rattle.detector.specs.declared.pixels.Reading.TheVariants.{Value, Refused}
 use Rattle.detector.specs.Checks.{max_res, check_detector_of}
 
 -- the largest count
@@ -48,8 +46,3 @@ pixel_area_m2_of d = after (check_detector_of d 0) (passed (area_of d))
 -- flux by area, or 0 where the area is at most 0
 unfoldable pub irradiance_of : Detector2D → Float → Float
 irradiance_of d flux = cond (le (area_of d) #0) #0 (div binary64 flux (area_of d))
-
--- what the code's answer says
-abbrev pub as_reading : Reading → Checked Float
-as_reading (Value x) = passed x
-as_reading (Refused e place) = refused_at (number_of e) place

@@ -1,40 +1,34 @@
 // What a detector is refused for (5, 6, 7, 18, 8 in this order), and the constructor.
 ghost use Rattle.std.specs.Prelude.{◌≡◌};
 ghost use Rattle.error.specs.Refusals.{as_checked};
-ghost use Rattle.detector.specs.Checks.{is_size_of, is_pose_of, is_parallel_of, check_pose_of, check_grid_of, check_detector_of, new_detector_of, as_detector};
+ghost use Rattle.detector.specs.Checks.{is_size_of, is_pose_of, is_parallel_of, check_pose_of, check_grid_of, check_detector_of, new_detector_of};
 
 use crate::Detector2D;
-use error::{Check, NonSeqError};
+use error::{NonSeqError, Refusal};
 use rays::Vec3;
 
-#[derive(Clone, Copy)]
-pub enum NewDetector {
-    Made(Detector2D),
-    Refused { error: NonSeqError, place: u32 },
-}
-
 // Above 0 and finite.
+#[tactic(auto, unfolding(crate::specs::Checks::is_size_of))]
 fn is_size(x: f64) -> bool
     ensures { result ≡ is_size_of x }
 {
-    if x > 0.0 {
-        return doubles::is_finite(x);
-    }
-    false
+    x > 0.0 && doubles::is_finite(x)
 }
 
 // Whether all parts are finite, and normal and up have a direction.
+#[tactic(auto, unfolding(crate::specs::Checks::is_pose_of))]
 fn is_pose(center: Vec3, normal: Vec3, up: Vec3) -> bool
     ensures { result ≡ is_pose_of center normal up }
 {
     center.is_finite()
-        & normal.is_finite()
-        & up.is_finite()
-        & normal.has_direction()
-        & up.has_direction()
+        && normal.is_finite()
+        && up.is_finite()
+        && normal.has_direction()
+        && up.has_direction()
 }
 
 // Whether the unit vectors' dot product is beyond 0.9999 in size.
+#[tactic(auto, unfolding(crate::specs::Checks::is_parallel_of))]
 fn is_parallel(normal: Vec3, up: Vec3) -> bool
     ensures { result ≡ is_parallel_of normal up }
 {
@@ -43,67 +37,61 @@ fn is_parallel(normal: Vec3, up: Vec3) -> bool
 
 impl Detector2D {
     // 18, then 8, after the grid.
-    fn check_pose(self, place: u32) -> Check
+    #[tactic(auto, unfolding(crate::specs::Checks::check_pose_of))]
+    fn check_pose(self, place: u32) -> Result<(), Refusal>
         ensures { as_checked result ≡ check_pose_of self place }
     {
-        if is_pose(self.center, self.normal, self.up) {
-            if is_parallel(self.normal, self.up) {
-                return Check::Refused {
-                    error: NonSeqError::ParallelUp,
-                    place,
-                };
-            }
-            return Check::Passed;
+        if !is_pose(self.center, self.normal, self.up) {
+            return Err(Refusal {
+                error: NonSeqError::InvalidDetectorPose,
+                place,
+            });
         }
-        Check::Refused {
-            error: NonSeqError::InvalidDetectorPose,
-            place,
+        if is_parallel(self.normal, self.up) {
+            return Err(Refusal {
+                error: NonSeqError::ParallelUp,
+                place,
+            });
         }
+        Ok(())
     }
 
     // 6 and 7, after the sizes, then the pose.
-    fn check_grid(self, place: u32) -> Check
+    #[tactic(auto, unfolding(crate::specs::Checks::check_grid_of))]
+    fn check_grid(self, place: u32) -> Result<(), Refusal>
         ensures { as_checked result ≡ check_grid_of self place }
     {
-        if self.res_x == 0 {
-            return Check::Refused {
+        if self.res_x == 0 || self.res_y == 0 {
+            return Err(Refusal {
                 error: NonSeqError::ZeroResolution,
                 place,
-            };
+            });
         }
-        if self.res_y == 0 {
-            return Check::Refused {
-                error: NonSeqError::ZeroResolution,
+        if self.res_x > Detector2D::MAX_RES || self.res_y > Detector2D::MAX_RES {
+            return Err(Refusal {
+                error: NonSeqError::ResolutionTooLarge,
                 place,
-            };
+            });
         }
-        if self.res_x <= Detector2D::MAX_RES {
-            if self.res_y <= Detector2D::MAX_RES {
-                return self.check_pose(place);
-            }
-        }
-        Check::Refused {
-            error: NonSeqError::ResolutionTooLarge,
-            place,
-        }
+        self.check_pose(place)
     }
 
     // Whether this is a detector, as the one at a place in a list: 5, 6, 7, 18, 8 in this order.
-    pub fn check(self, place: u32) -> Check
+    #[tactic(auto, unfolding(crate::specs::Checks::check_detector_of))]
+    pub fn check(self, place: u32) -> Result<(), Refusal>
         ensures { as_checked result ≡ check_detector_of self place }
     {
-        if is_size(self.width_mm) {
-            if is_size(self.height_mm) {
-                return self.check_grid(place);
-            }
+        if !is_size(self.width_mm) || !is_size(self.height_mm) {
+            return Err(Refusal {
+                error: NonSeqError::InvalidDetectorSize,
+                place,
+            });
         }
-        Check::Refused {
-            error: NonSeqError::InvalidDetectorSize,
-            place,
-        }
+        self.check_grid(place)
     }
 
     // A detector that has caught nothing yet.
+    #[tactic(auto, unfolding(crate::specs::Checks::new_detector_of))]
     pub fn new(
         center: Vec3,
         normal: Vec3,
@@ -112,8 +100,8 @@ impl Detector2D {
         height_mm: f64,
         res_x: u32,
         res_y: u32,
-    ) -> NewDetector
-        ensures { as_detector result ≡ new_detector_of center normal up width_mm height_mm res_x res_y }
+    ) -> Result<Detector2D, Refusal>
+        ensures { as_checked result ≡ new_detector_of center normal up width_mm height_mm res_x res_y }
     {
         let d = Detector2D {
             center,
@@ -126,9 +114,7 @@ impl Detector2D {
             total_flux_watts: 0.0,
             total_rays_hit: 0,
         };
-        match d.check(0) {
-            Check::Refused { error, place } => NewDetector::Refused { error, place },
-            Check::Passed => NewDetector::Made(d),
-        }
+        d.check(0)?;
+        Ok(d)
     }
 }

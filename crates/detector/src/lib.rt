@@ -6,9 +6,8 @@ mod checks;
 mod face;
 mod pixels;
 
-pub use checks::NewDetector;
-pub use face::{Crossed, Crossing, Face, RayCrossing};
-pub use pixels::{Reading, index_along};
+pub use face::{Crossing, Face};
+pub use pixels::index_along;
 use rays::Vec3;
 
 // A detector's number, its place in the list of detectors. Never a solid's.
@@ -48,7 +47,7 @@ pub struct DetectorHit {
 }
 
 // The largest count: none is raised past it (13).
-pub const MAX_COUNT: u32 = 4294967295;
+pub const MAX_COUNT: u32 = u32::MAX;
 
 impl Detector2D {
     // The largest resolution.

@@ -1,19 +1,14 @@
 // The pixels of a detector: how many, which one a point lies in, how large one is.
 ghost use Rattle.std.specs.Prelude.{◌≡◌, ◌*◌, ◌≤◌};
-ghost use Rattle.detector.specs.Pixels.{index_along_of, pixel_at_of, pixels_of, area_of, as_reading, pixel_area_m2_of, irradiance_of};
+ghost use Rattle.error.specs.Refusals.{as_checked};
+ghost use Rattle.detector.specs.Pixels.{index_along_of, pixel_at_of, pixels_of, area_of, pixel_area_m2_of, irradiance_of};
 
 use crate::Detector2D;
-use error::{Check, NonSeqError};
-
-// A double that was asked for, or the refusal and its place.
-#[derive(Clone, Copy)]
-pub enum Reading {
-    Value(f64),
-    Refused { error: NonSeqError, place: u32 },
-}
+use error::Refusal;
 
 // Which of n equal steps along a size a place lies in, counted from the negative end. What lies outside
 // goes to the first or last step, NaN to the first.
+#[tactic(auto, unfolding(crate::specs::Pixels::index_along_of))]
 pub fn index_along(local: f64, size: f64, n: u32) -> usize
     ensures { result ≡ index_along_of local size n }
 {
@@ -23,15 +18,15 @@ pub fn index_along(local: f64, size: f64, n: u32) -> usize
 
 impl Detector2D {
     // How many pixels; none for a resolution that is refused (7).
+    #[tactic(auto, unfolding(crate::specs::Pixels::pixels_of))]
     pub fn pixels(self) -> usize
         ensures { result ≡ pixels_of self }
     {
-        if self.res_x <= Detector2D::MAX_RES {
-            if self.res_y <= Detector2D::MAX_RES {
-                return self.res_x as usize * self.res_y as usize;
-            }
+        if self.res_x <= Detector2D::MAX_RES && self.res_y <= Detector2D::MAX_RES {
+            self.res_x as usize * self.res_y as usize
+        } else {
+            0
         }
-        0
     }
 
     // The place of a point's pixel, row by row.
@@ -44,6 +39,7 @@ impl Detector2D {
     }
 
     // The area of a pixel of any record.
+    #[tactic(auto, unfolding(crate::specs::Pixels::area_of))]
     fn area(self) -> f64
         ensures { result ≡ area_of self }
     {
@@ -53,17 +49,17 @@ impl Detector2D {
     }
 
     // The area of a pixel in square metres. The detector is refused by 5 to 8 and 18.
-    pub fn pixel_area_m2(self) -> Reading
-        ensures { as_reading result ≡ pixel_area_m2_of self }
+    #[tactic(auto, unfolding(crate::specs::Pixels::pixel_area_m2_of))]
+    pub fn pixel_area_m2(self) -> Result<f64, Refusal>
+        ensures { as_checked result ≡ pixel_area_m2_of self }
     {
-        match self.check(0) {
-            Check::Refused { error, place } => Reading::Refused { error, place },
-            Check::Passed => Reading::Value(self.area()),
-        }
+        self.check(0)?;
+        Ok(self.area())
     }
 
     // The irradiance of a pixel that has caught a flux, in watts a square metre; 0 where the area is at
     // most 0.
+    #[tactic(auto, unfolding(crate::specs::Pixels::irradiance_of))]
     pub fn irradiance(self, flux: f64) -> f64
         ensures { result ≡ irradiance_of self flux }
     {

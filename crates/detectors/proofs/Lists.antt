@@ -1,17 +1,15 @@
 -- A list of detectors: its check turn by turn, and where pixels start. Assumes nothing.
+use Rattle.std.specs.Prelude.{None, Some}
+use Rattle.std.proofs.lemmas.Option.{cond_some, none-some}
 use Prim.Native.Nat.{ℕ, zero, suc, ◌+◌, ◌-◌, ◌*◌, ◌^◌, ◌≤◌, ◌<◌}
-use mathlib.Core.Path.{◌≡◌, refl, sym, ap, subst, ◌∙◌}
+use mathlib.Core.Path.{◌≡◌, refl, sym, ap, ◌∙◌}
 use mathlib.Core.Bool.{Bool, true, false, cond}
 use mathlib.Core.List.{List}
-use mathlib.Core.Option.{Option, none, some}
 use native.Mathlib.Omega.{arith}
 use native.Mathlib.Numerals.{add-one}
 use lib.Dec.{ltb}
 use borrow.Author.Tests.{ltb-true}
-use Rattle.error.specs.declared.Check.{Check}
-use Rattle.error.specs.declared.Check.TheVariants.{Passed, Refused}
-use Rattle.error.specs.declared.NonSeqError.{NonSeqError}
-use Rattle.error.specs.Refusals.{number_of, Checked, passed, refused_at, as_checked, after}
+use Rattle.error.specs.Refusals.{Checked, passed, refused_at, after}
 use Rattle.detector.specs.declared.DetectorNo.{DetectorNo}
 use Rattle.detector.specs.declared.Detector2D.{Detector2D}
 use Rattle.detector.specs.Checks.{check_detector_of}
@@ -19,21 +17,20 @@ use Rattle.detector.specs.Pixels.{pixels_of}
 use Rattle.detector.proofs.Grid.{pixels_most}
 use Rattle.detectors.specs.declared.Detectors.{Detectors}
 use Rattle.detectors.specs.declared.Placed.{Placed}
-use Rattle.detectors.specs.declared.Spot.{Spot}
-use Rattle.detectors.specs.Detectors.{detector_at, first_pixel_of, placed_of, at_of, as_spot, check_count_of, check_list_of, check_each_of, check_detectors_of}
+use Rattle.detectors.specs.Detectors.{detector_at, first_pixel_of, placed_of, at_of, check_count_of, check_list_of, check_each_of, check_detectors_of}
 
--- ---- the check; r is what the check of detector i answered
+-- ---- the check, turn by turn
 
-module _ (l : List Detector2D) (n i : ℕ) (r : Check) (z : Checked Unit) (p : i < n) (f : as_checked r ≡ check_detector_of (detector_at l i) i) (e : check_list_of l (n - i) i ≡ z) where
-  one : after (as_checked r) (check_list_of l (n - (i + 1)) (i + 1)) ≡ z
+module _ (l : List Detector2D) (n i : ℕ) (z : Checked Unit) (p : i < n) (e : check_list_of l (n - i) i ≡ z) where
+  one : after (check_detector_of (detector_at l i) i) (check_list_of l (n - (i + 1)) (i + 1)) ≡ z
   unfolding check_list_of
-  one = let q : n - i ≡ suc (n - (i + 1)) = omega arith in rw f (rw q at e)
+  one = let q : n - i ≡ suc (n - (i + 1)) = omega arith in rw q at e
 
-  pub check_again : r ≡ Passed → check_list_of l (n - (i + 1)) (i + 1) ≡ z
-  check_again g = rw g at one
+  pub check_again : passed tt ≡ check_detector_of (detector_at l i) i → check_list_of l (n - (i + 1)) (i + 1) ≡ z
+  check_again f = rw (sym f) at one
 
-  pub check_refused : (x : NonSeqError) (place : ℕ) → r ≡ Refused x place → refused_at (number_of x) place ≡ z
-  check_refused x place g = rw g at one
+  pub check_refused : (number place : ℕ) → refused_at number place ≡ check_detector_of (detector_at l i) i → refused_at number place ≡ z
+  check_refused number place f = rw (sym f) at one
 
 pub check_end : (l : List Detector2D) (n i : ℕ) (z : Checked Unit) → n ≤ i → check_list_of l (n - i) i ≡ z → passed tt ≡ z
 unfolding check_list_of
@@ -61,9 +58,6 @@ pub first_more : (l : List Detector2D) (i : ℕ) → first_pixel_of l (i + 1) �
 unfolding first_pixel_of
 first_more l i = ap (first_pixel_of l) (add-one i)
 
-pub first_again : (l : List Detector2D) (i m sum : ℕ) → sum ≡ first_pixel_of l i → m ≡ pixels_of (detector_at l i) → sum + m ≡ first_pixel_of l (i + 1)
-first_again l i m sum e f = rw (e, f) (sym (first_more l i))
-
 -- at most 2 ^ 24 each
 pub first_most : (l : List Detector2D) (i sum : ℕ) → sum ≡ first_pixel_of l i → sum ≤ i * 2 ^ 24
 unfolding first_pixel_of
@@ -73,41 +67,26 @@ first_most l (suc i) sum e = omega (arith, e, first_most l i _ refl, pixels_most
 pub turn_most : (d : Detector2D) (m : ℕ) → m ≡ pixels_of d → m ≤ 2 ^ 24
 turn_most d m e = omega (arith, e, pixels_most d)
 
-pub first_end : (l : List Detector2D) (n i sum : ℕ) → i ≤ n → n ≤ i → sum ≡ first_pixel_of l i → sum ≡ first_pixel_of l n
-first_end l n i sum a b e = let q : i ≡ n = omega arith in rw q at e
-
 -- ---- detector d of the list
 
-abbrev within : {A : Type 0} → Option A → Type 0
-within (some a) = Unit {0}
-within none = ⊥
-
-abbrev held : {A : Type 0} → A → Option A → A
-held z (some a) = a
-held z none = z
-
-pub there : (ds : Detectors) (d : DetectorNo) (p : Placed) → at_of ds d ≡ some p → (d.0 < 8) × (p ≡ placed_of ds.list d.0)
+pub there : (ds : Detectors) (d : DetectorNo) (p : Placed) → at_of ds d ≡ Some p → (d.0 < 8) × (p ≡ placed_of ds.list d.0)
 unfolding at_of
-there ds d p e = go (ltb d.0 8) refl e
-  where
-    go : (b : Bool) → ltb d.0 8 ≡ b → cond b (some (placed_of ds.list d.0)) none ≡ some p → (d.0 < 8) × (p ≡ placed_of ds.list d.0)
-    go true t e = (ltb-true _ _ t, sym (ap (λ x. held p x) e))
-    go false t e = absurd (subst (λ x. within x) (sym e) tt)
+there ds d p e = let c = cond_some (ltb d.0 8) (placed_of ds.list d.0) p e in (ltb-true _ _ c.0, sym c.1)
 
-pub nowhere : (ds : Detectors) (d : DetectorNo) → at_of ds d ≡ none → ltb d.0 8 ≡ false
+pub nowhere : (ds : Detectors) (d : DetectorNo) → at_of ds d ≡ None → ltb d.0 8 ≡ false
 unfolding at_of
 nowhere ds d e = go (ltb d.0 8) e
   where
-    go : (b : Bool) → cond b (some (placed_of ds.list d.0)) none ≡ none → b ≡ false
-    go true e = absurd (subst (λ x. within x) e tt)
+    go : (b : Bool) → cond b (Some (placed_of ds.list d.0)) None ≡ None → b ≡ false
+    go true e = absurd (none-some _ (sym e))
     go false e = refl
 
 -- its first pixel is not far
-pub there_first : (ds : Detectors) (d : DetectorNo) (p : Placed) (r : Spot) → as_spot r ≡ at_of ds d → r ≡ Spot.There p → p.first ≤ 8 * 2 ^ 24
+pub there_first : (ds : Detectors) (d : DetectorNo) (p : Placed) → at_of ds d ≡ Some p → p.first ≤ 8 * 2 ^ 24
 unfolding placed_of
-there_first ds d p r e k =
-    let t = there ds d p (sym e ∙ ap as_spot k) in
+there_first ds d p e =
+    let t = there ds d p e in
     omega (arith, first_most ds.list d.0 p.first (ap (λ x. x.first) t.1), t.0)
 
-pub there_below : (ds : Detectors) (d : DetectorNo) (p : Placed) (r : Spot) → as_spot r ≡ at_of ds d → r ≡ Spot.There p → d.0 < 8
-there_below ds d p r e k = (there ds d p (sym e ∙ ap as_spot k)).0
+pub there_below : (ds : Detectors) (d : DetectorNo) (p : Placed) → at_of ds d ≡ Some p → d.0 < 8
+there_below ds d p e = (there ds d p e).0

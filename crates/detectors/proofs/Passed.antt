@@ -10,14 +10,12 @@ use native.Mathlib.Nat.{add-zero, zero-add}
 use native.Mathlib.Decide.{ℕ_discrete, dec_le}
 use lib.Dec.{leb, ltb}
 use borrow.Author.Tests.{leb-true, ltb-true, le-leb}
-use Rattle.error.specs.declared.Check.{Check}
-use Rattle.error.specs.declared.Check.TheVariants.{Passed}
-use Rattle.error.specs.Refusals.{Checked, passed, refused_at, as_checked, after}
+use Rattle.error.specs.Refusals.{Checked, passed, refused_at, after}
 use Rattle.detector.specs.declared.DetectorNo.{DetectorNo}
 use Rattle.detector.specs.declared.Detector2D.{Detector2D}
 use Rattle.detector.specs.Checks.{check_detector_of}
 use Rattle.detector.specs.Pixels.{pixels_of}
-use Rattle.detector.proofs.Grid.{never, Gridded, passed_grid, pixels_are, in_grid_lem}
+use Rattle.detector.proofs.Grid.{never, Gridded, passed_grid, pixels_are}
 use Rattle.detectors.specs.declared.Detectors.{Detectors}
 use Rattle.detectors.specs.declared.Placed.{Placed}
 use Rattle.detectors.specs.Detectors.{max_detectors, detector_at, first_pixel_of, all_pixels_of, check_count_of, check_list_of, check_each_of, check_detectors_of, check_asked, placed_of, find_of}
@@ -58,8 +56,8 @@ pub each_is : (ds : Detectors) → ds.count ≤ max_detectors → check_each_of 
 unfolding check_each_of
 each_is ds k = rw (le-leb ds.count max_detectors k)
 
-pub count_most : (ds : Detectors) (r : Check) → as_checked r ≡ check_detectors_of ds → r ≡ Passed → ds.count ≤ 8
-count_most ds r f g = (pieces ds (sym f ∙ ap as_checked g)).0
+pub count_most : (ds : Detectors) → passed tt ≡ check_detectors_of ds → ds.count ≤ 8
+count_most ds e = (pieces ds (sym e)).0
 
 each_passed : (l : List Detector2D) (n i j : ℕ) → check_list_of l n i ≡ passed tt → j < n → Gridded (detector_at l (i + j))
 unfolding check_list_of
@@ -126,13 +124,9 @@ part_in ds d n s k e = omega (arith, e, all_are ds s, first_part ds.list d ds.co
 
 -- ---- what `irradiance_at` needs
 
-module _ (ds : Detectors) (d : DetectorNo) (p : Placed) (r : Checked Placed) (n m : ℕ) where
-  pub grid_in : r ≡ find_of ds d → r ≡ passed p → m ≡ all_pixels_of ds → n ≡ m → p.first + p.detector.res_x * p.detector.res_y ≤ n
-  unfolding placed_of
-  grid_in e f g h =
-      let t = asked_there ds d p (sym e ∙ f) in
-      rw t.2
-      (omega (arith, part_in ds d.0 n t.0 t.1 (h ∙ g), pixels_are _ (t.0.each d.0 t.1)))
-
-pub pixel_at : (first px py nx ny n : ℕ) → px < nx → py < ny → first + nx * ny ≤ n → first + (py * nx + px) < n
-pixel_at first px py nx ny n a b c = omega (arith, in_grid_lem px py nx ny a b)
+pub grid_in : (ds : Detectors) (d : DetectorNo) (p : Placed) (n m : ℕ) → passed p ≡ find_of ds d → m ≡ all_pixels_of ds → n ≡ m → p.first + p.detector.res_x * p.detector.res_y ≤ n
+unfolding placed_of
+grid_in ds d p n m e g h =
+    let t = asked_there ds d p (sym e) in
+    rw t.2
+    (omega (arith, part_in ds d.0 n t.0 t.1 (h ∙ g), pixels_are _ (t.0.each d.0 t.1)))

@@ -1,9 +1,8 @@
 -- Up to 8 detectors: which of them, where its pixels start, and the refusals 3, 5 to 8 and 18 of the list and 4 of an
 -- asked one.
-use Rattle.std.specs.Prelude.{ℕ, zero, suc, ◌+◌, cond, List, leb, ltb, get_or}
-use Rattle.std.proofs.Math.Option.{Option, none, some}
+use Rattle.std.specs.Prelude.{ℕ, zero, suc, ◌+◌, cond, List, leb, ltb, get_or, Option, None, Some}
 use Rattle.std.specs.Float.{nan}
-use Rattle.error.specs.Refusals.{number_of, Checked, passed, refused_at, after}
+use Rattle.error.specs.Refusals.{Checked, passed, refused_at, after}
 use Rattle.rays.specs.Vectors.{vec3}
 use Rattle.detector.specs.declared.DetectorNo.{DetectorNo}
 use Rattle.detector.specs.declared.Detector2D.{Detector2D}
@@ -11,9 +10,6 @@ use Rattle.detector.specs.Checks.{check_detector_of}
 use Rattle.detector.specs.Pixels.{pixels_of}
 use Rattle.detectors.specs.declared.Detectors.{Detectors}
 use Rattle.detectors.specs.declared.Placed.{Placed}
-use Rattle.detectors.specs.declared.Found.{Found}
-use Rattle.detectors.specs.declared.Spot.{Spot}
-use Rattle.detectors.specs.declared.Spot.TheVariants.{There, Nowhere}
 
 abbrev pub max_detectors : ℕ
 max_detectors = 8
@@ -72,17 +68,8 @@ placed_of l d = record { detector = detector_at l d; first = first_pixel_of l d 
 
 -- detector d, whatever the count
 unfoldable pub at_of : Detectors → DetectorNo → Option Placed
-at_of ds d = cond (ltb d.0 max_detectors) (some (placed_of ds.list d.0)) none
+at_of ds d = cond (ltb d.0 max_detectors) (Some (placed_of ds.list d.0)) None
 
 -- the asked one
 unfoldable pub find_of : Detectors → DetectorNo → Checked Placed
 find_of ds d = after (check_asked ds d) (passed (placed_of ds.list d.0))
-
--- what the code's answer says
-abbrev pub as_found : Found → Checked Placed
-as_found (Found.There p) = passed p
-as_found (Found.Refused e place) = refused_at (number_of e) place
-
-abbrev pub as_spot : Spot → Option Placed
-as_spot (There p) = some p
-as_spot Nowhere = none

@@ -6,15 +6,16 @@ mod reading;
 
 ghost use Rattle.std.specs.Prelude.{◌≡◌, ◌≤◌, ◌<◌};
 ghost use Rattle.error.specs.Refusals.{as_checked};
-ghost use Rattle.detectors.specs.Detectors.{first_pixel_of, all_pixels_of, placed_of, check_count_of, check_list_of, check_each_of, check_detectors_of, find_of, as_found, at_of, as_spot, max_detectors};
+ghost use Rattle.detectors.specs.Detectors.{first_pixel_of, all_pixels_of, placed_of, check_count_of, check_each_of, check_detectors_of, find_of, at_of, max_detectors};
 
 use detector::{Detector2D, DetectorNo};
-use error::{Check, NonSeqError};
+use error::{NonSeqError, Refusal};
 pub use reading::irradiance_at;
 
 // Places of a list of detectors.
 pub const MAX_DETECTORS: usize = 8;
 
+// An array and a count, as C hosts hand them over.
 #[repr(C)]
 #[derive(Clone, Copy)]
 pub struct Detectors {
@@ -29,50 +30,15 @@ pub struct Placed {
     pub first: usize,
 }
 
-#[derive(Clone, Copy)]
-pub enum Found {
-    There(Placed),
-    Refused { error: NonSeqError, place: u32 },
-}
-
-// Detector d of the list, if d is below 8.
-#[derive(Clone, Copy)]
-pub enum Spot {
-    There(Placed),
-    Nowhere,
-}
-
-// The first detector that is refused, by 5 to 8 and 18.
-fn check_list(list: [Detector2D; MAX_DETECTORS], count: u32) -> Check
-    requires { count ≤ max_detectors }
-    ensures { as_checked result ≡ check_list_of list count 0 }
-{
-    let mut i: u32 = 0;
-    while i < count {
-        let d = list[i as usize];
-        match d.check(i) {
-            Check::Passed => {
-                i += 1;
-            }
-            Check::Refused { error, place } => {
-                return Check::Refused { error, place };
-            }
-        }
-    }
-    Check::Passed
-}
-
 // The pixels of the first n detectors, which is the place of the first pixel of detector n.
-fn first_pixel(list: [Detector2D; MAX_DETECTORS], n: usize) -> usize
+#[tactic(auto, unfolding(crate::specs::Detectors::first_pixel_of))]
+fn first_pixel(list: &[Detector2D; MAX_DETECTORS], n: usize) -> usize
     requires { n ≤ max_detectors }
-    ensures { result ≡ first_pixel_of list n }
+    ensures { result ≡ first_pixel_of list.now n }
 {
-    let mut sum: usize = 0;
-    let mut i: usize = 0;
-    while i < n {
-        let d = list[i];
+    let mut sum = 0;
+    for d in &list[..n] {
         sum += d.pixels();
-        i += 1;
     }
     sum
 }
@@ -82,87 +48,86 @@ impl Detectors {
     pub const MAX: u32 = MAX_DETECTORS as u32;
 
     // 3 for more than 8.
-    pub fn check_count(count: u32) -> Check
+    #[tactic(auto, unfolding(crate::specs::Detectors::check_count_of))]
+    pub fn check_count(count: u32) -> Result<(), Refusal>
         ensures { as_checked result ≡ check_count_of count }
     {
-        if count <= Detectors::MAX {
-            return Check::Passed;
+        if count > Detectors::MAX {
+            return Err(Refusal {
+                error: NonSeqError::ListTooLong,
+                place: 0,
+            });
         }
-        Check::Refused {
-            error: NonSeqError::ListTooLong,
-            place: 0,
-        }
+        Ok(())
     }
 
     // 5 to 8 and 18 of each in list order; none of a list that is refused by 3.
-    pub fn check_each(self) -> Check
+    #[tactic(auto, unfolding(crate::specs::Detectors::check_each_of))]
+    pub fn check_each(self) -> Result<(), Refusal>
         ensures { as_checked result ≡ check_each_of self }
     {
         if self.count <= Detectors::MAX {
-            let list = self.list;
-            return check_list(list, self.count);
+            for i in 0..self.count {
+                self.list[i as usize].check(i)?;
+            }
         }
-        Check::Passed
+        Ok(())
     }
 
     // 3, then 5 to 8 and 18 of each.
-    pub fn check(self) -> Check
+    #[tactic(auto, unfolding(crate::specs::Detectors::check_detectors_of))]
+    pub fn check(self) -> Result<(), Refusal>
         ensures { as_checked result ≡ check_detectors_of self }
     {
-        match Detectors::check_count(self.count) {
-            Check::Passed => self.check_each(),
-            Check::Refused { error, place } => Check::Refused { error, place },
-        }
+        Detectors::check_count(self.count)?;
+        self.check_each()
     }
 
     // The asked detector: the same checks, then 4 for one that is not there.
-    pub fn find(self, asked: DetectorNo) -> Found
-        ensures { as_found result ≡ find_of self asked }
+    #[tactic(auto, unfolding(crate::specs::Detectors::find_of, crate::specs::Detectors::check_asked))]
+    pub fn find(self, asked: DetectorNo) -> Result<Placed, Refusal>
+        ensures { as_checked result ≡ find_of self asked }
     {
-        match self.check() {
-            Check::Refused { error, place } => Found::Refused { error, place },
-            Check::Passed => {
-                if asked.0 < self.count {
-                    return Found::There(self.placed(asked.0 as usize));
-                }
-                Found::Refused {
-                    error: NonSeqError::NoSuchDetector,
-                    place: 0,
-                }
-            }
+        self.check()?;
+        if asked.0 >= self.count {
+            return Err(Refusal {
+                error: NonSeqError::NoSuchDetector,
+                place: 0,
+            });
         }
+        Ok(self.placed(asked.0 as usize))
     }
 
     // Detector d with the place of its first pixel.
+    #[tactic(auto, unfolding(crate::specs::Detectors::placed_of))]
     fn placed(self, d: usize) -> Placed
         requires { d < max_detectors }
         ensures { result ≡ placed_of self.list d }
     {
-        let list = self.list;
-        let first = first_pixel(list, d);
         Placed {
-            detector: list[d],
-            first,
+            detector: self.list[d],
+            first: first_pixel(&self.list, d),
         }
     }
 
     // Detector d with the place of its first pixel, whatever the count: for callers that have checked.
-    pub fn at(self, d: DetectorNo) -> Spot
-        ensures { as_spot result ≡ at_of self d }
+    #[tactic(auto, unfolding(crate::specs::Detectors::at_of))]
+    pub fn at(self, d: DetectorNo) -> Option<Placed>
+        ensures { result ≡ at_of self d }
     {
         if d.0 < Detectors::MAX {
-            return Spot::There(self.placed(d.0 as usize));
+            return Some(self.placed(d.0 as usize));
         }
-        Spot::Nowhere
+        None
     }
 
     // How many pixels all have together; none for a list that is refused by 3.
+    #[tactic(auto, unfolding(crate::specs::Detectors::all_pixels_of))]
     pub fn all_pixels(self) -> usize
         ensures { result ≡ all_pixels_of self }
     {
         if self.count <= Detectors::MAX {
-            let list = self.list;
-            return first_pixel(list, self.count as usize);
+            return first_pixel(&self.list, self.count as usize);
         }
         0
     }

@@ -1,6 +1,5 @@
 -- The faces of up to 8 detectors, worked out once a call, and the nearest that a ray crosses.
-use Rattle.std.specs.Prelude.{ℕ, cond, List, [], ◌∷◌, leb, ltb, Float, get_or}
-use Rattle.std.proofs.Math.Option.{Option, none, some}
+use Rattle.std.specs.Prelude.{ℕ, cond, List, [], ◌∷◌, leb, ltb, Float, get_or, Option, None, Some}
 use Rattle.std.specs.Float.{nan}
 use Rattle.rays.specs.declared.Ray.{Ray}
 use Rattle.rays.specs.Vectors.{vec3}
@@ -13,8 +12,6 @@ use Rattle.detectors.specs.declared.Detectors.{Detectors}
 use Rattle.detectors.specs.Detectors.{max_detectors, detector_at}
 use Rattle.faces.specs.declared.Faces.{Faces}
 use Rattle.faces.specs.declared.Sight.{Sight}
-use Rattle.faces.specs.declared.Sighting.{Sighting}
-use Rattle.faces.specs.declared.Sighting.TheVariants.{Seen, Nothing}
 
 -- what stands for a face that is not there
 abbrev pub no_face : Face
@@ -44,8 +41,8 @@ sight_distance s = s.crossing.t
 
 -- a crossing of detector i
 unfoldable pub sight_from : ℕ → Option Crossing → Option Sight
-sight_from i (some c) = some (record { detector = record { 0 = i }; crossing = c })
-sight_from i none = none
+sight_from i (Some c) = Some (record { detector = record { 0 = i }; crossing = c })
+sight_from i None = None
 
 abbrev pub sights : List Face → Ray → ℕ → Option Sight
 sights l r i = sight_from i (face_intersect_ray_of (get_or l i no_face) r)
@@ -60,8 +57,3 @@ face_count_of n = cond (leb n max_detectors) n max_detectors
 
 unfoldable pub nearest_detector_of : Faces → Ray → Option Sight
 nearest_detector_of fs r = nearest_among Sight sight_distance (sights fs.list r) (face_count_of fs.count)
-
--- what the code's answer says
-abbrev pub as_sight : Sighting → Option Sight
-as_sight (Seen s) = some s
-as_sight Nothing = none

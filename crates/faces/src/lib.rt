@@ -6,13 +6,14 @@ ghost use Rattle.std.specs.Prelude.{◌≡◌, ◌≤◌};
 ghost use Rattle.nearest.specs.Nearest.{distance_of, nearer_of};
 ghost use Rattle.detector.specs.Faces.{face_intersect_ray_of};
 ghost use Rattle.faces.specs.declared.Sight.{Sight};
-ghost use Rattle.faces.specs.Faces.{new_faces_of, sight_distance, sight_from, seen_of, face_count_of, nearest_detector_of, as_sight};
+ghost use Rattle.faces.specs.Faces.{new_faces_of, sight_distance, sight_from, seen_of, face_count_of, nearest_detector_of};
 ghost use Rattle.detectors.specs.Detectors.{max_detectors};
 
-use detector::{Crossed, Crossing, DetectorNo, Face};
+use detector::{Crossing, DetectorNo, Face};
 use detectors::{Detectors, MAX_DETECTORS};
 use rays::Ray;
 
+// An array and a count, since nothing is on the heap.
 #[derive(Clone, Copy)]
 pub struct Faces {
     pub list: [Face; MAX_DETECTORS],
@@ -26,43 +27,36 @@ pub struct Sight {
     pub crossing: Crossing,
 }
 
-#[derive(Clone, Copy)]
-pub enum Sighting {
-    Seen(Sight),
-    Nothing,
-}
-
 // Infinite for nothing.
-fn distance(best: Sighting) -> f64
-    ensures { result ≡ distance_of Sight sight_distance (as_sight best) }
+fn distance(best: Option<Sight>) -> f64
+    ensures { result ≡ distance_of Sight sight_distance best }
 {
     match best {
-        Sighting::Seen(s) => s.crossing.t,
-        Sighting::Nothing => doubles::infinity(),
+        Some(s) => s.crossing.t,
+        None => doubles::infinity(),
     }
 }
 
 // The best so far, or the crossing of detector i.
-fn nearer(face: Face, i: u32, ray: Ray, best: Sighting) -> Sighting
-    ensures { as_sight result ≡ nearer_of Sight sight_distance (as_sight best) (sight_from i (face_intersect_ray_of face ray)) }
+#[tactic(auto, using(crate::proofs::Sights::missed, crate::proofs::Sights::nearer_seen, crate::proofs::Sights::farther))]
+fn nearer(face: Face, i: u32, ray: Ray, best: Option<Sight>) -> Option<Sight>
+    ensures { result ≡ nearer_of Sight sight_distance best (sight_from i (face_intersect_ray_of face ray)) }
 {
-    match face.intersect_ray(ray) {
-        Crossed::At(crossing) => {
-            if nearest::is_nearer(crossing.t, distance(best)) {
-                return Sighting::Seen(Sight {
-                    detector: DetectorNo(i),
-                    crossing,
-                });
-            }
-            best
+    if let Some(crossing) = face.intersect_ray(ray) {
+        if nearest::is_nearer(crossing.t, distance(best)) {
+            return Some(Sight {
+                detector: DetectorNo(i),
+                crossing,
+            });
         }
-        Crossed::Miss => best,
     }
+    best
 }
 
 // The best so far, or the crossing of detector i if that is one of the first n.
-fn seen(face: Face, i: u32, n: u32, ray: Ray, best: Sighting) -> Sighting
-    ensures { as_sight result ≡ seen_of i n (as_sight best) (sight_from i (face_intersect_ray_of face ray)) }
+#[tactic(auto, unfolding(crate::specs::Faces::seen_of, crate::specs::Faces::sight_from))]
+fn seen(face: Face, i: u32, n: u32, ray: Ray, best: Option<Sight>) -> Option<Sight>
+    ensures { result ≡ seen_of i n best (sight_from i (face_intersect_ray_of face ray)) }
 {
     if i < n {
         return nearer(face, i, ray, best);
@@ -71,6 +65,7 @@ fn seen(face: Face, i: u32, n: u32, ray: Ray, best: Sighting) -> Sighting
 }
 
 // At most the 8 that the list has.
+#[tactic(auto, unfolding(crate::specs::Faces::face_count_of))]
 fn face_count(count: u32) -> u32
     ensures { (result ≡ face_count_of count) × (result ≤ max_detectors) }
 {
@@ -81,6 +76,7 @@ fn face_count(count: u32) -> u32
 }
 
 impl Faces {
+    #[tactic(auto, unfolding(crate::specs::Faces::new_faces_of))]
     pub fn new(detectors: Detectors) -> Faces
         ensures { result ≡ new_faces_of detectors }
     {
@@ -109,9 +105,10 @@ impl Faces {
     }
 
     // The nearest detector that a ray crosses; the first listed wins ties. Written out eight times, so that
-    // each face is read where it stands: an index that is worked out would have the list copied first.
-    pub fn nearest_detector(self, ray: Ray) -> Sighting
-        ensures { as_sight result ≡ nearest_detector_of self ray }
+    // each face is read where it stands: as a loop, by value or by reference, a tracing had 3 in 100 more instructions.
+    #[tactic(auto, using(crate::proofs::Written::written_out), unfolding(crate::specs::Faces::nearest_detector_of))]
+    pub fn nearest_detector(self, ray: Ray) -> Option<Sight>
+        ensures { result ≡ nearest_detector_of self ray }
     {
         let list = self.list;
         let n = face_count(self.count);
@@ -123,8 +120,7 @@ impl Faces {
         let f5 = list[5];
         let f6 = list[6];
         let f7 = list[7];
-        let nothing = Sighting::Nothing;
-        let s0 = seen(f0, 0, n, ray, nothing);
+        let s0 = seen(f0, 0, n, ray, None);
         let s1 = seen(f1, 1, n, ray, s0);
         let s2 = seen(f2, 2, n, ray, s1);
         let s3 = seen(f3, 3, n, ray, s2);

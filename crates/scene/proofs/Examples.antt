@@ -1,9 +1,9 @@
 -- Small scenes, worked out by the definitions.
+use Rattle.std.specs.Prelude.{None, Some}
 use Prim.Native.Nat.{ℕ, zero, suc}
 use mathlib.Core.Path.{◌≡◌, refl}
 use mathlib.Core.Bool.{true}
 use mathlib.Core.List.{List, [], ◌∷◌}
-use mathlib.Core.Option.{none, some}
 use lib.Ieee.{Float, binary64, add, sub, mul, div, neg, lt, le, of_bits, to_bits}
 use Rattle.doubles.specs.Doubles.{abs_of, is_finite_of, #0, #½, #1, #2, #5, #10}
 use Rattle.doubles.specs.Root.{sqrt_of}
@@ -52,7 +52,7 @@ too_many r = refl
 abbrev along : Float → Ray
 along l = record { origin = vec3 #0 #0 #0; direction = vec3 #0 #0 l; wavelength_nm = #1; energy = #1 }
 
-pub no_hit : intersect_closest_object_of [] [] 0 (along #1) ≡ passed none
+pub no_hit : intersect_closest_object_of [] [] 0 (along #1) ≡ passed None
 unfolding intersect_closest_object_of check_solids_of check_tags_of closest_object_of nearest_among nearest_from is_valid_ray_of is_finite_ray_of is_finite_vec_of is_finite_of abs_of dot_of add sub mul lt le of_bits
 no_hit = refl
 
@@ -81,6 +81,6 @@ long_sphere =
       is_active = true;
     }
 
-pub world_distance : intersect_of long_sphere (along #1) ≡ some (record { t = #8; point = vec3 #0 #0 #8; normal = vec3 #0 #0 (neg #1); geometric_normal = vec3 #0 #0 (neg #1); object_id = record { 0 = 3 }; entering = true })
+pub world_distance : intersect_of long_sphere (along #1) ≡ Some (record { t = #8; point = vec3 #0 #0 #8; normal = vec3 #0 #0 (neg #1); geometric_normal = vec3 #0 #0 (neg #1); object_id = record { 0 = 3 }; entering = true })
 unfolding intersect_of arrive_from arrive_of arrive_with turned_of facing_of approach_of approach_from approach_along approach_by approach_point inverse_transform_ray_of ray_along unit_of made_ray world_normal_of intersect_local_of intersect_sphere_of sphere_among_of sphere_at_of solve_of first_there row_times_of times_of transpose_of transform_point_of transform_direction_of transform_normal_of at_of new_ray_of is_finite_ray_of dot_of plus_of minus_of scale_of divide_of negate_of norm_of is_finite_vec_of sqrt_of abs_of is_finite_of add sub mul div neg lt le of_bits to_bits
 world_distance = refl

@@ -1,9 +1,9 @@
 -- After the check every solid of the count is there, and refusals in small scenes. Assumes nothing.
+use Rattle.std.specs.Prelude.{Some}
 use Prim.Native.Nat.{ℕ, zero, suc, ◌+◌, ◌*◌, ◌≤◌, ◌<◌}
 use mathlib.Core.Path.{◌≡◌, refl, sym, ap, subst}
 use mathlib.Core.Bool.{Bool, true, false, cond, ◌&&◌}
 use mathlib.Core.List.{List}
-use mathlib.Core.Option.{some}
 use native.Mathlib.Omega.{arith}
 use native.Mathlib.Decide.{dec_lt}
 use lib.Dec.{T, leb, eqb, eqb→eq}
@@ -71,18 +71,18 @@ in_range a b c d e =
     )
 
 -- so its finish and its medium are there
-pub checked_finish : (x : List Float) (k : List ℕ) (n i : ℕ) (rho : Float) → check_solids_of x k n ≡ passed tt → i < n → (f : SurfaceFinish) × (numbered_finish_of (get_or k (i * 4 + 2) 0) rho ≡ some f)
+pub checked_finish : (x : List Float) (k : List ℕ) (n i : ℕ) (rho : Float) → check_solids_of x k n ≡ passed tt → i < n → (f : SurfaceFinish) × (numbered_finish_of (get_or k (i * 4 + 2) 0) rho ≡ Some f)
 checked_finish x k n i rho e l = finish_there _ rho (in_range _ _ _ _ (checked_fit x k n i e l)).1.0
 
-pub checked_medium : (x : List Float) (k : List ℕ) (n i : ℕ) (a b c d p q : Float) → check_solids_of x k n ≡ passed tt → i < n → (m : OpticalMedium) × (numbered_medium_of (get_or k (i * 4 + 3) 0) a b c d p q ≡ some m)
+pub checked_medium : (x : List Float) (k : List ℕ) (n i : ℕ) (a b c d p q : Float) → check_solids_of x k n ≡ passed tt → i < n → (m : OpticalMedium) × (numbered_medium_of (get_or k (i * 4 + 3) 0) a b c d p q ≡ Some m)
 checked_medium x k n i a b c d p q e l = medium_there _ a b c d p q (in_range _ _ _ _ (checked_fit x k n i e l)).1.1
 
-checked_shape : (x : List Float) (k : List ℕ) (n i : ℕ) → check_solids_of x k n ≡ passed tt → i < n → (g : PrimitiveGeometry) × (shape_in_of x k i ≡ some g)
+checked_shape : (x : List Float) (k : List ℕ) (n i : ℕ) → check_solids_of x k n ≡ passed tt → i < n → (g : PrimitiveGeometry) × (shape_in_of x k i ≡ Some g)
 unfolding shape_in_of
 checked_shape x k n i e l = shape_there _ _ _ _ (in_range _ _ _ _ (checked_fit x k n i e l)).0
 
 -- and the search looks at every solid of the count, with its shape
-pub checked_there : (x : List Float) (k : List ℕ) (n i : ℕ) → check_solids_of x k n ≡ passed tt → i < n → (g : PrimitiveGeometry) × ((shape_in_of x k i ≡ some g) × (object_at_of x k i ≡ some (solid_with x k i g)))
+pub checked_there : (x : List Float) (k : List ℕ) (n i : ℕ) → check_solids_of x k n ≡ passed tt → i < n → (g : PrimitiveGeometry) × ((shape_in_of x k i ≡ Some g) × (object_at_of x k i ≡ Some (solid_with x k i g)))
 unfolding object_at_of read_object_of object_with holds
 checked_there x k n i e l =
     let u = lengths x k n e in

@@ -1,7 +1,6 @@
 -- The solids of a scene as two lists of numbers, as they stand in the scene text: of each solid the doubles p q r, rho,
 -- a to f, m (16) and w (16), and the whole numbers shape, active, finish, medium.
-use Rattle.std.specs.Prelude.{ℕ, zero, suc, ◌+◌, ◌*◌, Bool, cond, ◌&&◌, List, eqb, leb, Float, length, get_or}
-use Rattle.std.proofs.Math.Option.{Option, none, some}
+use Rattle.std.specs.Prelude.{ℕ, zero, suc, ◌+◌, ◌*◌, Bool, cond, ◌&&◌, List, eqb, leb, Float, length, get_or, Option, None, Some}
 use Rattle.std.specs.Float.{nan}
 use Rattle.error.specs.Refusals.{Checked, passed, refused_at}
 use Rattle.rays.specs.declared.matrix.Row.{Row}
@@ -12,9 +11,8 @@ use Rattle.material.specs.Media.{last_finish, numbered_finish_of, or_clear_of, l
 use Rattle.geometry.specs.declared.PrimitiveGeometry.{PrimitiveGeometry}
 use Rattle.geometry.specs.Shapes.{last_shape, numbered_geometry_of}
 use Rattle.scene.specs.declared.SolidNo.{SolidNo}
+use Rattle.scene.specs.declared.solids.Solids as code
 use Rattle.scene.specs.declared.NonSeqObject.{NonSeqObject}
-use Rattle.scene.specs.declared.solids.Listed.{Listed}
-use Rattle.scene.specs.declared.solids.Listed.TheVariants.{Object, Nothing}
 
 -- doubles and whole numbers of a solid, and where its matrix and inverse start
 abbrev pub solid_doubles : ℕ
@@ -65,8 +63,8 @@ solid_with x k i g =
     }
 
 unfoldable pub object_with : List Float → List ℕ → ℕ → Option PrimitiveGeometry → Option NonSeqObject
-object_with x k i (some g) = some (solid_with x k i g)
-object_with x k i none = none
+object_with x k i (Some g) = Some (solid_with x k i g)
+object_with x k i None = None
 
 unfoldable pub read_object_of : List Float → List ℕ → ℕ → Option NonSeqObject
 read_object_of x k i = object_with x k i (shape_in_of x k i)
@@ -77,24 +75,23 @@ holds x k i = leb (i * solid_doubles + solid_doubles) (length x) && leb (i * sol
 
 -- solid i, where the lists hold it and there is a shape of its number
 unfoldable pub object_at_of : List Float → List ℕ → ℕ → Option NonSeqObject
-object_at_of x k i = cond (holds x k i) (read_object_of x k i) none
+object_at_of x k i = cond (holds x k i) (read_object_of x k i) None
 
--- what the code's answer says
-abbrev pub as_object : Listed → Option NonSeqObject
-as_object (Object o) = some o
-as_object Nothing = none
+-- the solids of the code's lists
+abbrev pub objects_in : code.Solids → ℕ → Option NonSeqObject
+objects_in s = object_at_of s.values.now s.tags.now
 
 -- a finish that the lists do not hold, or that is none, reads as clear, a medium as air
 unfoldable pub finish_at_of : List Float → List ℕ → SolidNo → SurfaceFinish
 finish_at_of x k s =
     let i = s.0 in
-    or_clear_of (cond (holds x k i) (numbered_finish_of (tag_at k i 2) (value_at x i 3)) none)
+    or_clear_of (cond (holds x k i) (numbered_finish_of (tag_at k i 2) (value_at x i 3)) None)
 
 unfoldable pub medium_at_of : List Float → List ℕ → SolidNo → OpticalMedium
 medium_at_of x k s =
     let i = s.0 in
     or_air_of (cond (holds x k i) (numbered_medium_of (tag_at k i 3) (value_at x i 4) (value_at x i 5) (value_at x i 6)
-    (value_at x i 7) (value_at x i 8) (value_at x i 9)) none)
+    (value_at x i 7) (value_at x i 8) (value_at x i 9)) None)
 
 -- shape 0 to 5, active 0 or 1, finish 0 to 2, medium 0 to 3
 unfoldable pub tags_fit_of : ℕ → ℕ → ℕ → ℕ → Bool

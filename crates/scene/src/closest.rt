@@ -1,23 +1,16 @@
 // The nearest solid of a list along a ray.
 ghost use Rattle.std.specs.Prelude.{◌≡◌};
+ghost use Rattle.error.specs.Refusals.{as_checked};
 ghost use Rattle.nearest.specs.Nearest.{distance_of, nearer_of, nearest_among};
-ghost use Rattle.scene.specs.Objects.{as_hit};
-ghost use Rattle.scene.specs.Solids.{object_at_of};
+ghost use Rattle.scene.specs.Solids.{objects_in};
 ghost use Rattle.scene.specs.declared.closest.Candidate.{Candidate};
-ghost use Rattle.scene.specs.Closest.{closest_object_of, as_closest, intersect_closest_object_of, arrive_at_of, is_kept_of, candidate_distance, candidates_in, as_candidate};
+ghost use Rattle.scene.specs.Closest.{closest_object_of, intersect_closest_object_of, arrive_at_of, is_kept_of, candidate_distance, candidates_in};
 
-use crate::object::{Approach, Approached};
-use crate::solids::Listed;
-use crate::{Intersection, MAX_SOLIDS, solids};
-use error::{Check, NonSeqError};
+use crate::object::Approach;
+use crate::solids::Solids;
+use crate::{MAX_SOLIDS, NonSeqHit};
+use error::{NonSeqError, Refusal};
 use rays::Ray;
-
-// The nearest solid or none, or the refusal and its place.
-#[derive(Clone, Copy)]
-pub enum Closest {
-    Found(Intersection),
-    Refused { error: NonSeqError, place: u32 },
-}
 
 // An approach, and the place of the solid.
 #[derive(Clone, Copy)]
@@ -26,163 +19,108 @@ pub struct Candidate {
     pub approach: Approach,
 }
 
-#[derive(Clone, Copy)]
-pub enum Nearest {
-    At(Candidate),
-    Nothing,
-}
-
 // Infinite for nothing.
-fn distance(best: Nearest) -> f64
-    ensures { result ≡ distance_of Candidate candidate_distance (as_candidate best) }
+fn distance(best: Option<Candidate>) -> f64
+    ensures { result ≡ distance_of Candidate candidate_distance best }
 {
     match best {
-        Nearest::At(c) => c.approach.t,
-        Nearest::Nothing => doubles::infinity(),
+        Some(c) => c.approach.t,
+        None => doubles::infinity(),
     }
 }
 
-// The hit of an approach to the solid at a place, if its normal can be made.
-fn arrive_at(
-    solid_values: &[f64],
-    solid_tags: &[u32],
-    place: u32,
-    ray: Ray,
-    approach: Approach,
-) -> Intersection
-    ensures { as_hit result ≡ arrive_at_of (object_at_of solid_values.now solid_tags.now place) ray approach }
-{
-    match solids::object_at(solid_values, solid_tags, place) {
-        Listed::Object(object) => object.arrive(ray, approach),
-        Listed::Nothing => Intersection::Miss,
+impl Solids<'_> {
+    // The hit of an approach to the solid at a place, if its normal can be made.
+    #[tactic(auto, unfolding(crate::specs::Closest::arrive_at_of, crate::specs::Solids::holds, crate::specs::Solids::object_at_of))]
+    fn arrive_at(self, place: u32, ray: Ray, approach: Approach) -> Option<NonSeqHit>
+        ensures { result ≡ arrive_at_of (objects_in self.entry place) ray approach }
+    {
+        self.object_at(place)?.arrive(ray, approach)
     }
-}
 
-// Whether an approach to solid i is kept: in a strict search only if its normal can be made.
-fn is_kept(
-    solid_values: &[f64],
-    solid_tags: &[u32],
-    i: u32,
-    ray: Ray,
-    strict: bool,
-    approach: Approach,
-) -> bool
-    ensures { result ≡ is_kept_of strict (arrive_at_of (object_at_of solid_values.now solid_tags.now i) ray approach) }
-{
-    if strict {
-        return match arrive_at(solid_values, solid_tags, i, ray, approach) {
-            Intersection::Hit(_) => true,
-            Intersection::Miss => false,
-        };
+    // Whether an approach to solid i is kept: in a strict search only if its normal can be made.
+    #[tactic(auto, unfolding(crate::specs::Closest::arrive_at_of, crate::specs::Solids::holds, crate::specs::Closest::is_kept_of, crate::specs::Solids::object_at_of))]
+    fn is_kept(self, i: u32, ray: Ray, strict: bool, approach: Approach) -> bool
+        ensures { result ≡ is_kept_of strict (arrive_at_of (objects_in self.entry i) ray approach) }
+    {
+        if strict {
+            return self.arrive_at(i, ray, approach).is_some();
+        }
+        true
     }
-    true
-}
 
-// The nearest approach so far, or that of solid i.
-fn nearer_candidate(
-    solid_values: &[f64],
-    solid_tags: &[u32],
-    i: u32,
-    ray: Ray,
-    strict: bool,
-    best: Nearest,
-) -> Nearest
-    ensures { as_candidate result ≡ nearer_of Candidate candidate_distance (as_candidate best) (candidates_in strict (object_at_of solid_values.now solid_tags.now) ray i) }
-{
-    match solids::approach_at(solid_values, solid_tags, i, ray) {
-        Approached::At(approach) => {
+    // The nearest approach so far, or that of solid i.
+    #[tactic(auto, using(crate::proofs::Candidates::candidate_taken, crate::proofs::Candidates::candidate_dropped, crate::proofs::Candidates::candidate_far, crate::proofs::Candidates::candidate_missed))]
+    fn nearer_candidate(
+        self,
+        i: u32,
+        ray: Ray,
+        strict: bool,
+        best: Option<Candidate>,
+    ) -> Option<Candidate>
+        ensures { result ≡ nearer_of Candidate candidate_distance best (candidates_in strict (objects_in self.entry) ray i) }
+    {
+        if let Some(approach) = self.approach_at(i, ray) {
             if nearest::is_nearer(approach.t, distance(best)) {
-                if is_kept(solid_values, solid_tags, i, ray, strict, approach) {
-                    return Nearest::At(Candidate { place: i, approach });
+                if self.is_kept(i, ray, strict, approach) {
+                    return Some(Candidate { place: i, approach });
                 }
-                return best;
-            }
-            best
-        }
-        Approached::Miss => best,
-    }
-}
-
-// The nearest approach of the first `count` solids.
-fn nearest_candidate(
-    solid_values: &[f64],
-    solid_tags: &[u32],
-    count: u32,
-    ray: Ray,
-    strict: bool,
-) -> Nearest
-    ensures { as_candidate result ≡ nearest_among Candidate candidate_distance (candidates_in strict (object_at_of solid_values.now solid_tags.now) ray) count }
-{
-    let mut best = Nearest::Nothing;
-    let mut i: u32 = 0;
-    while i < count {
-        best = nearer_candidate(solid_values, solid_tags, i, ray, strict, best);
-        i += 1;
-    }
-    best
-}
-
-// With a normal for each approach that is nearer than those before it.
-fn closest_strictly(solid_values: &[f64], solid_tags: &[u32], count: u32, ray: Ray) -> Intersection
-    ensures { as_hit result ≡ closest_object_of (object_at_of solid_values.now solid_tags.now) count ray }
-{
-    match nearest_candidate(solid_values, solid_tags, count, ray, true) {
-        Nearest::At(c) => {
-            let approach = c.approach;
-            arrive_at(solid_values, solid_tags, c.place, ray, approach)
-        }
-        Nearest::Nothing => Intersection::Miss,
-    }
-}
-
-// The nearest of the first `count` solids along any ray, passing over what is no solid of these lists: for
-// callers that have checked them. Only the nearest approach gets a normal; where that can't be made, the search is
-// made again.
-pub fn closest_object(
-    solid_values: &[f64],
-    solid_tags: &[u32],
-    count: u32,
-    ray: Ray,
-) -> Intersection
-    ensures { as_hit result ≡ closest_object_of (object_at_of solid_values.now solid_tags.now) count ray }
-{
-    match nearest_candidate(solid_values, solid_tags, count, ray, false) {
-        Nearest::At(c) => {
-            let approach = c.approach;
-            match arrive_at(solid_values, solid_tags, c.place, ray, approach) {
-                Intersection::Hit(h) => Intersection::Hit(h),
-                Intersection::Miss => closest_strictly(solid_values, solid_tags, count, ray),
             }
         }
-        Nearest::Nothing => Intersection::Miss,
+        best
     }
-}
 
-// The nearest solid. Lists that do not fit are refused (17), then more than 32 solids (3), then the ray (10).
-pub fn intersect_closest_object(
-    solid_values: &[f64],
-    solid_tags: &[u32],
-    count: u32,
-    ray: Ray,
-) -> Closest
-    ensures { as_closest result ≡ intersect_closest_object_of solid_values.now solid_tags.now count ray }
-{
-    match solids::check_solids(solid_values, solid_tags, count) {
-        Check::Refused { error, place } => Closest::Refused { error, place },
-        Check::Passed => {
-            if count <= MAX_SOLIDS {
-                if ray.is_valid() {
-                    return Closest::Found(closest_object(solid_values, solid_tags, count, ray));
-                }
-                return Closest::Refused {
-                    error: NonSeqError::InvalidRay,
-                    place: 0,
-                };
+    // The nearest approach of all solids.
+    fn nearest_candidate(self, ray: Ray, strict: bool) -> Option<Candidate>
+        ensures { result ≡ nearest_among Candidate candidate_distance (candidates_in strict (objects_in self.entry) ray) self.entry.count }
+    {
+        let mut best = None;
+        for i in 0..self.count {
+            best = self.nearer_candidate(i, ray, strict, best);
+        }
+        best
+    }
+
+    // With a normal for each approach that is nearer than those before it.
+    #[tactic(auto, using(crate::proofs::Candidates::closest_strictly, crate::proofs::Candidates::closest_nothing))]
+    fn closest_strictly(self, ray: Ray) -> Option<NonSeqHit>
+        ensures { result ≡ closest_object_of (objects_in self.entry) self.entry.count ray }
+    {
+        let Candidate { place, approach } = self.nearest_candidate(ray, true)?;
+        self.arrive_at(place, ray, approach)
+    }
+
+    // The nearest of the solids along any ray, passing over what is none: for callers that have checked them. Only
+    // the nearest approach gets a normal; where that can't be made, the search is made again.
+    pub fn closest_object(self, ray: Ray) -> Option<NonSeqHit>
+        ensures { result ≡ closest_object_of (objects_in self.entry) self.entry.count ray }
+    {
+        let Candidate { place, approach } = self.nearest_candidate(ray, false)?;
+        // not `or_else`: a closure that holds lent slices in a struct promises nothing
+        match self.arrive_at(place, ray, approach) {
+            Some(hit) => Some(hit),
+            None => self.closest_strictly(ray),
+        }
+    }
+
+    // The nearest solid. Lists that do not fit are refused (17), then more than 32 solids (3), then the ray (10).
+    #[tactic(auto, unfolding(crate::specs::Closest::intersect_closest_object_of))]
+    pub fn intersect_closest_object(self, ray: Ray) -> Result<Option<NonSeqHit>, Refusal>
+        ensures { as_checked result ≡ intersect_closest_object_of self.entry.values.now self.entry.tags.now self.entry.count ray }
+    {
+        self.check()?;
+        if self.count <= MAX_SOLIDS {
+            if ray.is_valid() {
+                return Ok(self.closest_object(ray));
             }
-            Closest::Refused {
-                error: NonSeqError::ListTooLong,
+            return Err(Refusal {
+                error: NonSeqError::InvalidRay,
                 place: 0,
-            }
+            });
         }
+        Err(Refusal {
+            error: NonSeqError::ListTooLong,
+            place: 0,
+        })
     }
 }

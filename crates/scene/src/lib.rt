@@ -6,10 +6,9 @@ mod closest;
 mod object;
 mod solids;
 
-pub use closest::{Closest, closest_object, intersect_closest_object};
 use geometry::{PrimitiveGeometry, Transform3D};
 use rays::Vec3;
-pub use solids::{Listed, check_solids, finish_at, medium_at, object_at};
+pub use solids::Solids;
 
 // Doubles and whole numbers of each solid in the two lists of solids.
 pub const SOLID_DOUBLES: usize = 42;
@@ -45,10 +44,4 @@ pub struct NonSeqHit {
     pub object_id: SolidNo,
     // whether the ray comes from outside
     pub entering: bool,
-}
-
-#[derive(Clone, Copy)]
-pub enum Intersection {
-    Hit(NonSeqHit),
-    Miss,
 }

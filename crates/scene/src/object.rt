@@ -1,9 +1,9 @@
 // Where a ray meets one solid.
 ghost use Rattle.std.specs.Prelude.{◌≡◌};
-ghost use Rattle.scene.specs.Objects.{as_hit, as_approach, facing_of, reached_of, approach_of, turned_of, arrive_of, intersect_of};
+ghost use Rattle.scene.specs.Objects.{facing_of, reached_of, approach_of, turned_of, arrive_of, intersect_of};
 
-use crate::{Intersection, NonSeqHit, NonSeqObject};
-use geometry::{LocalContact, LocalHit, UnitVector};
+use crate::{NonSeqHit, NonSeqObject};
+use geometry::{Contact, LocalHit};
 use rays::{Mat4, Ray, Vec3};
 
 // Where a ray meets a solid, with the hit in the solid's own coordinates.
@@ -14,13 +14,8 @@ pub struct Approach {
     pub local: LocalHit,
 }
 
-#[derive(Clone, Copy)]
-pub enum Approached {
-    At(Approach),
-    Miss,
-}
-
 // The side of a surface that a ray comes from.
+#[tactic(auto, unfolding(crate::specs::Objects::facing_of))]
 fn facing(n: Vec3, entering: bool) -> Vec3
     ensures { result ≡ facing_of n entering }
 {
@@ -32,15 +27,16 @@ fn facing(n: Vec3, entering: bool) -> Vec3
 
 // A point and a hit in a solid's coordinates, brought into the world by the solid's matrix. The distance is
 // along the world's ray, whatever the scale of the solid's coordinates.
-pub(crate) fn reached(matrix: Mat4, ray: Ray, point: Vec3, local: LocalHit) -> Approached
-    ensures { as_approach result ≡ reached_of matrix ray point local }
+#[tactic(auto, unfolding(crate::specs::Objects::reached_of))]
+pub(crate) fn reached(matrix: Mat4, ray: Ray, point: Vec3, local: LocalHit) -> Option<Approach>
+    ensures { result ≡ reached_of matrix ray point local }
 {
     let met = matrix.transform_point(point);
     let t = met.minus(ray.origin).dot(ray.direction);
     if t <= Ray::MIN_WORLD_DISTANCE {
-        return Approached::Miss;
+        return None;
     }
-    Approached::At(Approach {
+    Some(Approach {
         t,
         point: met,
         local,
@@ -49,24 +45,20 @@ pub(crate) fn reached(matrix: Mat4, ray: Ray, point: Vec3, local: LocalHit) -> A
 
 impl NonSeqObject {
     // Where the ray meets the solid, its normal not yet looked at.
-    pub fn approach(self, ray: Ray) -> Approached
-        ensures { as_approach result ≡ approach_of self ray }
+    pub fn approach(self, ray: Ray) -> Option<Approach>
+        ensures { result ≡ approach_of self ray }
     {
         let geometry = self.geometry;
         let transform = self.transform;
         if self.is_active {
-            return match geometry.meet(transform.inverse, ray) {
-                LocalContact::At(m) => {
-                    let hit = m.hit;
-                    reached(transform.matrix, ray, m.point, hit)
-                }
-                LocalContact::Miss => Approached::Miss,
-            };
+            let Contact { point, hit } = geometry.meet(transform.inverse, ray)?;
+            return reached(transform.matrix, ray, point, hit);
         }
-        Approached::Miss
+        None
     }
 
     // The hit with an outward normal.
+    #[tactic(auto, unfolding(crate::specs::Objects::turned_of))]
     fn turned(self, ray: Ray, a: Approach, n: Vec3) -> NonSeqHit
         ensures { result ≡ turned_of self ray a n }
     {
@@ -85,25 +77,23 @@ impl NonSeqObject {
     }
 
     // The hit, if its normal can be made.
-    pub fn arrive(self, ray: Ray, a: Approach) -> Intersection
-        ensures { as_hit result ≡ arrive_of self ray a }
+    #[tactic(auto, unfolding(crate::specs::Objects::arrive_of, crate::specs::Objects::arrive_with))]
+    pub fn arrive(self, ray: Ray, a: Approach) -> Option<NonSeqHit>
+        ensures { result ≡ arrive_of self ray a }
     {
         let transform = self.transform;
         let local = a.local;
-        match transform.transform_normal(local.normal) {
-            UnitVector::Made(n) => Intersection::Hit(self.turned(ray, a, n)),
-            UnitVector::Nothing => Intersection::Miss,
-        }
+        let n = transform.transform_normal(local.normal)?;
+        Some(self.turned(ray, a, n))
     }
 
     // Where a ray in the world meets the solid. An inactive solid, or a local ray or normal that can't
     // be made, is a miss.
-    pub fn intersect(self, ray: Ray) -> Intersection
-        ensures { as_hit result ≡ intersect_of self ray }
+    #[tactic(auto, unfolding(crate::specs::Objects::arrive_from, crate::specs::Objects::intersect_of))]
+    pub fn intersect(self, ray: Ray) -> Option<NonSeqHit>
+        ensures { result ≡ intersect_of self ray }
     {
-        match self.approach(ray) {
-            Approached::At(a) => self.arrive(ray, a),
-            Approached::Miss => Intersection::Miss,
-        }
+        let approach = self.approach(ray)?;
+        self.arrive(ray, approach)
     }
 }

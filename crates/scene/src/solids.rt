@@ -1,31 +1,31 @@
-// The solids of a scene as two lent lists of numbers, as they stand in the scene text. Of each solid 42
-// doubles: sizes p, q, r, reflectance rho, coefficients a to f, matrix and inverse row by row. Of each
-// solid 4 whole numbers: shape, active, finish, medium.
+// The solids of a scene as two lent lists of numbers, as they stand in the scene text.
 ghost use Rattle.std.specs.Prelude.{◌≡◌, ◌+◌, ◌*◌, ◌≤◌, length};
 ghost use Rattle.error.specs.Refusals.{as_checked};
-ghost use Rattle.geometry.specs.Shapes.{as_shape};
-ghost use Rattle.scene.specs.Objects.{as_approach};
 ghost use Rattle.scene.specs.Closest.{approach_at_of};
-ghost use Rattle.scene.specs.Solids.{row_at_of, mat_at_of, shape_in_of, read_object_of, as_object, object_at_of, finish_at_of, medium_at_of, tags_fit_of, check_tags_of, check_solids_of, solid_doubles, solid_wholes};
+ghost use Rattle.scene.specs.Solids.{row_at_of, mat_at_of, shape_in_of, read_object_of, objects_in, finish_at_of, medium_at_of, tags_fit_of, check_tags_of, check_solids_of, solid_doubles, solid_wholes};
 
-use crate::object::Approached;
+use crate::object::Approach;
 use crate::{NonSeqObject, SOLID_DOUBLES, SOLID_WHOLES, SolidNo, object};
-use error::{Check, NonSeqError};
-use geometry::{LocalContact, NumberedGeometry, PrimitiveGeometry, Transform3D};
+use error::{NonSeqError, Refusal};
+use geometry::{Contact, PrimitiveGeometry, Transform3D};
 use material::{OpticalMedium, SurfaceFinish};
 use rays::{Mat4, Ray, Row};
+
+// The solids of a scene, lent. Of each 42 doubles: sizes p, q, r, reflectance rho, coefficients a to f, matrix and
+// inverse row by row. Of each 4 whole numbers: shape, active, finish, medium.
+#[derive(Clone, Copy)]
+pub struct Solids<'a> {
+    pub values: &'a [f64],
+    pub tags: &'a [u32],
+    pub count: u32,
+}
 
 // Where the matrix and the inverse start among a solid's doubles.
 const MATRIX_AT: usize = 10;
 
 const INVERSE_AT: usize = 26;
 
-#[derive(Clone, Copy)]
-pub enum Listed {
-    Object(NonSeqObject),
-    Nothing,
-}
-
+#[tactic(auto, unfolding(crate::specs::Solids::row_at_of))]
 fn row_at(solid_values: &[f64], i: usize) -> Row
     requires { i + 4 ≤ length solid_values.now }
     ensures { result ≡ row_at_of solid_values.now i }
@@ -38,6 +38,7 @@ fn row_at(solid_values: &[f64], i: usize) -> Row
     }
 }
 
+#[tactic(auto, unfolding(crate::specs::Solids::mat_at_of))]
 fn mat_at(solid_values: &[f64], i: usize) -> Mat4
     requires { i + 16 ≤ length solid_values.now }
     ensures { result ≡ mat_at_of solid_values.now i }
@@ -50,129 +51,8 @@ fn mat_at(solid_values: &[f64], i: usize) -> Mat4
     }
 }
 
-// The shape of solid i of lists that hold it, if there is one of its number.
-fn shape_in(solid_values: &[f64], solid_tags: &[u32], i: u32) -> NumberedGeometry
-    requires { (i * solid_doubles + solid_doubles ≤ length solid_values.now) × (i * solid_wholes + solid_wholes ≤ length solid_tags.now) }
-    ensures { as_shape result ≡ shape_in_of solid_values.now solid_tags.now i }
-{
-    let a = i as usize * SOLID_DOUBLES;
-    PrimitiveGeometry::numbered(
-        solid_tags[i as usize * SOLID_WHOLES],
-        solid_values[a],
-        solid_values[a + 1],
-        solid_values[a + 2],
-    )
-}
-
-// Solid i of lists that hold it, if there is a shape of its number.
-fn read_object(solid_values: &[f64], solid_tags: &[u32], i: u32) -> Listed
-    requires { (i * solid_doubles + solid_doubles ≤ length solid_values.now) × (i * solid_wholes + solid_wholes ≤ length solid_tags.now) }
-    ensures { as_object result ≡ read_object_of solid_values.now solid_tags.now i }
-{
-    let a = i as usize * SOLID_DOUBLES;
-    let b = i as usize * SOLID_WHOLES;
-    match shape_in(solid_values, solid_tags, i) {
-        NumberedGeometry::Shape(geometry) => {
-            let matrix = mat_at(solid_values, a + MATRIX_AT);
-            let inverse = mat_at(solid_values, a + INVERSE_AT);
-            Listed::Object(NonSeqObject {
-                id: SolidNo(i),
-                geometry,
-                transform: Transform3D { matrix, inverse },
-                is_active: solid_tags[b + 1] == 1,
-            })
-        }
-        NumberedGeometry::Nothing => Listed::Nothing,
-    }
-}
-
-// Solid i, if the lists hold it and there is a shape of its number.
-pub fn object_at(solid_values: &[f64], solid_tags: &[u32], i: u32) -> Listed
-    ensures { as_object result ≡ object_at_of solid_values.now solid_tags.now i }
-{
-    if i as usize * SOLID_DOUBLES + SOLID_DOUBLES <= solid_values.len() {
-        if i as usize * SOLID_WHOLES + SOLID_WHOLES <= solid_tags.len() {
-            return read_object(solid_values, solid_tags, i);
-        }
-    }
-    Listed::Nothing
-}
-
-// Where a ray meets solid i of lists that hold it. The solid's matrix is read only where its shape is met.
-fn approach_in(solid_values: &[f64], solid_tags: &[u32], i: u32, ray: Ray) -> Approached
-    requires { (i * solid_doubles + solid_doubles ≤ length solid_values.now) × (i * solid_wholes + solid_wholes ≤ length solid_tags.now) }
-    ensures { as_approach result ≡ approach_at_of (read_object_of solid_values.now solid_tags.now i) ray }
-{
-    let a = i as usize * SOLID_DOUBLES;
-    let b = i as usize * SOLID_WHOLES;
-    if solid_tags[b + 1] == 1 {
-        let inverse = mat_at(solid_values, a + INVERSE_AT);
-        return match shape_in(solid_values, solid_tags, i) {
-            NumberedGeometry::Shape(geometry) => match geometry.meet(inverse, ray) {
-                LocalContact::At(m) => {
-                    let hit = m.hit;
-                    object::reached(mat_at(solid_values, a + MATRIX_AT), ray, m.point, hit)
-                }
-                LocalContact::Miss => Approached::Miss,
-            },
-            NumberedGeometry::Nothing => Approached::Miss,
-        };
-    }
-    Approached::Miss
-}
-
-// Where a ray meets solid i, if there is such a solid.
-pub(crate) fn approach_at(solid_values: &[f64], solid_tags: &[u32], i: u32, ray: Ray) -> Approached
-    ensures { as_approach result ≡ approach_at_of (object_at_of solid_values.now solid_tags.now i) ray }
-{
-    if i as usize * SOLID_DOUBLES + SOLID_DOUBLES <= solid_values.len() {
-        if i as usize * SOLID_WHOLES + SOLID_WHOLES <= solid_tags.len() {
-            return approach_in(solid_values, solid_tags, i, ray);
-        }
-    }
-    Approached::Miss
-}
-
-// The finish of a solid; clear where the lists hold none.
-pub fn finish_at(solid_values: &[f64], solid_tags: &[u32], solid: SolidNo) -> SurfaceFinish
-    ensures { result ≡ finish_at_of solid_values.now solid_tags.now solid }
-{
-    let i = solid.0;
-    let a = i as usize * SOLID_DOUBLES;
-    let b = i as usize * SOLID_WHOLES;
-    if a + SOLID_DOUBLES <= solid_values.len() {
-        if b + SOLID_WHOLES <= solid_tags.len() {
-            return SurfaceFinish::numbered(solid_tags[b + 2], solid_values[a + 3]).or_clear();
-        }
-    }
-    SurfaceFinish::Specular
-}
-
-// The medium of a solid; air where the lists hold none.
-pub fn medium_at(solid_values: &[f64], solid_tags: &[u32], solid: SolidNo) -> OpticalMedium
-    ensures { result ≡ medium_at_of solid_values.now solid_tags.now solid }
-{
-    let i = solid.0;
-    let a = i as usize * SOLID_DOUBLES;
-    let b = i as usize * SOLID_WHOLES;
-    if a + SOLID_DOUBLES <= solid_values.len() {
-        if b + SOLID_WHOLES <= solid_tags.len() {
-            return OpticalMedium::numbered(
-                solid_tags[b + 3],
-                solid_values[a + 4],
-                solid_values[a + 5],
-                solid_values[a + 6],
-                solid_values[a + 7],
-                solid_values[a + 8],
-                solid_values[a + 9],
-            )
-            .or_air();
-        }
-    }
-    OpticalMedium::Air
-}
-
 // Whether a solid's four whole numbers are in range.
+#[tactic(auto, unfolding(crate::specs::Solids::tags_fit_of))]
 fn tags_fit(shape: u32, active: u32, finish: u32, medium: u32) -> bool
     ensures { result ≡ tags_fit_of shape active finish medium }
 {
@@ -186,42 +66,163 @@ fn tags_fit(shape: u32, active: u32, finish: u32, medium: u32) -> bool
     false
 }
 
-// The first solid whose whole numbers are not in range is refused (17).
-fn check_tags(solid_tags: &[u32], count: u32) -> Check
-    requires { count * solid_wholes ≤ length solid_tags.now }
-    ensures { as_checked result ≡ check_tags_of solid_tags.now count 0 }
-{
-    let mut i: u32 = 0;
-    while i < count {
-        let b = i as usize * SOLID_WHOLES;
-        if tags_fit(
-            solid_tags[b],
-            solid_tags[b + 1],
-            solid_tags[b + 2],
-            solid_tags[b + 3],
-        ) {
-            i += 1;
-        } else {
-            return Check::Refused {
-                error: NonSeqError::InvalidSceneText,
-                place: i,
-            };
-        }
+impl Solids<'_> {
+    // The shape of solid i of lists that hold it, if there is one of its number.
+    #[tactic(auto, unfolding(crate::specs::Solids::shape_in_of))]
+    fn shape_in(self, i: u32) -> Option<PrimitiveGeometry>
+        requires { (i * solid_doubles + solid_doubles ≤ length self.values.now) × (i * solid_wholes + solid_wholes ≤ length self.tags.now) }
+        ensures { result ≡ shape_in_of self.entry.values.now self.entry.tags.now i }
+    {
+        let a = i as usize * SOLID_DOUBLES;
+        PrimitiveGeometry::numbered(
+            self.tags[i as usize * SOLID_WHOLES],
+            self.values[a],
+            self.values[a + 1],
+            self.values[a + 2],
+        )
     }
-    Check::Passed
-}
 
-// Whether the lists are those of so many solids, each with whole numbers in range (17).
-pub fn check_solids(solid_values: &[f64], solid_tags: &[u32], count: u32) -> Check
-    ensures { as_checked result ≡ check_solids_of solid_values.now solid_tags.now count }
-{
-    if solid_values.len() == count as usize * SOLID_DOUBLES {
-        if solid_tags.len() == count as usize * SOLID_WHOLES {
-            return check_tags(solid_tags, count);
-        }
+    // Solid i of lists that hold it, if there is a shape of its number.
+    #[tactic(auto, unfolding(crate::specs::Solids::object_with, crate::specs::Solids::read_object_of, crate::specs::Solids::solid_with))]
+    fn read_object(self, i: u32) -> Option<NonSeqObject>
+        requires { (i * solid_doubles + solid_doubles ≤ length self.values.now) × (i * solid_wholes + solid_wholes ≤ length self.tags.now) }
+        ensures { result ≡ read_object_of self.entry.values.now self.entry.tags.now i }
+    {
+        let a = i as usize * SOLID_DOUBLES;
+        let b = i as usize * SOLID_WHOLES;
+        let geometry = self.shape_in(i)?;
+        let matrix = mat_at(self.values, a + MATRIX_AT);
+        let inverse = mat_at(self.values, a + INVERSE_AT);
+        Some(NonSeqObject {
+            id: SolidNo(i),
+            geometry,
+            transform: Transform3D { matrix, inverse },
+            is_active: self.tags[b + 1] == 1,
+        })
     }
-    Check::Refused {
-        error: NonSeqError::InvalidSceneText,
-        place: 0,
+
+    // Solid i, if the lists hold it and there is a shape of its number.
+    #[tactic(auto, unfolding(crate::specs::Solids::holds, crate::specs::Solids::object_at_of))]
+    pub fn object_at(self, i: u32) -> Option<NonSeqObject>
+        ensures { result ≡ objects_in self.entry i }
+    {
+        if i as usize * SOLID_DOUBLES + SOLID_DOUBLES <= self.values.len() {
+            if i as usize * SOLID_WHOLES + SOLID_WHOLES <= self.tags.len() {
+                return self.read_object(i);
+            }
+        }
+        None
+    }
+
+    // Where a ray meets solid i of lists that hold it. The solid's matrix is read only where its shape is met.
+    #[tactic(auto, using(crate::proofs::Parts::approach_met, crate::proofs::Parts::approach_missed, crate::proofs::Parts::none_inactive), unfolding(crate::specs::Closest::approach_at_of, crate::specs::Solids::object_with, crate::specs::Solids::read_object_of, crate::specs::Solids::solid_with))]
+    fn approach_in(self, i: u32, ray: Ray) -> Option<Approach>
+        requires { (i * solid_doubles + solid_doubles ≤ length self.values.now) × (i * solid_wholes + solid_wholes ≤ length self.tags.now) }
+        ensures { result ≡ approach_at_of (read_object_of self.entry.values.now self.entry.tags.now i) ray }
+    {
+        let a = i as usize * SOLID_DOUBLES;
+        let b = i as usize * SOLID_WHOLES;
+        if self.tags[b + 1] == 1 {
+            let inverse = mat_at(self.values, a + INVERSE_AT);
+            let geometry = self.shape_in(i)?;
+            let Contact { point, hit } = geometry.meet(inverse, ray)?;
+            return object::reached(mat_at(self.values, a + MATRIX_AT), ray, point, hit);
+        }
+        None
+    }
+
+    // Where a ray meets solid i, if there is such a solid.
+    #[tactic(auto, unfolding(crate::specs::Closest::approach_at_of, crate::specs::Solids::holds, crate::specs::Solids::object_at_of))]
+    pub(crate) fn approach_at(self, i: u32, ray: Ray) -> Option<Approach>
+        ensures { result ≡ approach_at_of (objects_in self.entry i) ray }
+    {
+        if i as usize * SOLID_DOUBLES + SOLID_DOUBLES <= self.values.len() {
+            if i as usize * SOLID_WHOLES + SOLID_WHOLES <= self.tags.len() {
+                return self.approach_in(i, ray);
+            }
+        }
+        None
+    }
+
+    // The finish of a solid; clear where the lists hold none.
+    #[tactic(auto, unfolding(crate::specs::Solids::finish_at_of, crate::specs::Solids::holds))]
+    pub fn finish_at(self, solid: SolidNo) -> SurfaceFinish
+        ensures { result ≡ finish_at_of self.entry.values.now self.entry.tags.now solid }
+    {
+        let i = solid.0;
+        let a = i as usize * SOLID_DOUBLES;
+        let b = i as usize * SOLID_WHOLES;
+        if a + SOLID_DOUBLES <= self.values.len() {
+            if b + SOLID_WHOLES <= self.tags.len() {
+                return SurfaceFinish::numbered(self.tags[b + 2], self.values[a + 3]).unwrap_or(
+                    SurfaceFinish::Specular,
+                );
+            }
+        }
+        SurfaceFinish::Specular
+    }
+
+    // The medium of a solid; air where the lists hold none.
+    #[tactic(auto, unfolding(crate::specs::Solids::holds, crate::specs::Solids::medium_at_of))]
+    pub fn medium_at(self, solid: SolidNo) -> OpticalMedium
+        ensures { result ≡ medium_at_of self.entry.values.now self.entry.tags.now solid }
+    {
+        let i = solid.0;
+        let a = i as usize * SOLID_DOUBLES;
+        let b = i as usize * SOLID_WHOLES;
+        if a + SOLID_DOUBLES <= self.values.len() {
+            if b + SOLID_WHOLES <= self.tags.len() {
+                return OpticalMedium::numbered(
+                    self.tags[b + 3],
+                    self.values[a + 4],
+                    self.values[a + 5],
+                    self.values[a + 6],
+                    self.values[a + 7],
+                    self.values[a + 8],
+                    self.values[a + 9],
+                )
+                .unwrap_or(OpticalMedium::Air);
+            }
+        }
+        OpticalMedium::Air
+    }
+
+    // The first solid whose whole numbers are not in range is refused (17).
+    fn check_tags(self) -> Result<(), Refusal>
+        requires { self.count * solid_wholes ≤ length self.tags.now }
+        ensures { as_checked result ≡ check_tags_of self.entry.tags.now self.entry.count 0 }
+    {
+        for i in 0..self.count {
+            let b = i as usize * SOLID_WHOLES;
+            let fit = tags_fit(
+                self.tags[b],
+                self.tags[b + 1],
+                self.tags[b + 2],
+                self.tags[b + 3],
+            );
+            if !fit {
+                return Err(Refusal {
+                    error: NonSeqError::InvalidSceneText,
+                    place: i,
+                });
+            }
+        }
+        Ok(())
+    }
+
+    // Whether the lists are those of so many solids, each with whole numbers in range (17).
+    #[tactic(auto, unfolding(crate::specs::Solids::check_solids_of))]
+    pub fn check(self) -> Result<(), Refusal>
+        ensures { as_checked result ≡ check_solids_of self.entry.values.now self.entry.tags.now self.entry.count }
+    {
+        if self.values.len() == self.count as usize * SOLID_DOUBLES {
+            if self.tags.len() == self.count as usize * SOLID_WHOLES {
+                return self.check_tags();
+            }
+        }
+        Err(Refusal {
+            error: NonSeqError::InvalidSceneText,
+            place: 0,
+        })
     }
 }
