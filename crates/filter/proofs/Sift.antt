@@ -1,41 +1,23 @@
--- A map cleared from the front, and refilled hit by hit. Assumes nothing.
-use Prim.Native.Nat.{ℕ, zero, suc, ◌+◌, ◌-◌, ◌≤◌, ◌<◌}
+-- A map of zeros, refilled hit by hit. Assumes nothing.
+use Prim.Native.Nat.{ℕ, suc, ◌+◌, ◌-◌, ◌≤◌, ◌<◌}
 use mathlib.Core.Path.{◌≡◌, refl, ap, sym, ◌∙◌}
 use mathlib.Core.Bool.{Bool, true, false, cond}
-use mathlib.Core.List.{List, [], ◌∷◌, ◌++◌}
-use native.Mathlib.Nat.{not-suc-le-zero, le_of_suc-le-suc}
-use native.Mathlib.Numerals.{add-one}
+use mathlib.Core.List.{List, ◌∷◌}
 use native.Mathlib.Omega.{arith}
-use lib.Ieee.{Float, binary64, add}
-use lib.ListN.{length, set, drop, replicate, length-replicate}
+use lib.Ieee.{Float}
+use lib.ListN.{length, replicate, length-replicate}
 use lib.Seq.{set_out}
 use Rattle.detector.specs.declared.Detector2D.{Detector2D}
-use Rattle.detector.specs.Pixels.{pixel_at_of}
 use Rattle.detector.specs.declared.DetectorHit.{DetectorHit}
 use Rattle.memory.specs.Memory.{hit_at_of, hits_from}
 use Rattle.filter.specs.Filters.{Map, add_at_of, add_hit_of, plus_each, passing, sift_hit_of, refill_of}
 use Rattle.doubles.specs.Doubles.{#0}
-
--- ---- clearing
-
-fill_suc : {A : Type 0} (n : ℕ) (v : A) (d : List A) → n < length d → set (replicate n v ++ drop n d) n v ≡ replicate (suc n) v ++ drop (suc n) d
-fill_suc n v [] l = absurd (not-suc-le-zero l)
-fill_suc zero v (x ∷ d) l = refl
-fill_suc (suc n) v (x ∷ d) l = ap (λ t. v ∷ t) (fill_suc n v d (le_of_suc-le-suc l))
-
-pub fill_more : {A : Type 0} (n : ℕ) (v : A) (d : List A) → n < length d → set (replicate n v ++ drop n d) n v ≡ replicate (n + 1) v ++ drop (n + 1) d
-fill_more n v d l = rw add-one (fill_suc n v d l)
 
 -- ---- adding where there is no pixel
 
 pub added_beyond : (m : List Float) (p : ℕ) (x : Float) → length m ≤ p → m ≡ add_at_of m p x
 unfolding add_at_of
 added_beyond m p x k = sym (set_out m p _ k)
-
-pub plus_is : (d : Detector2D) (m : Map) (h : DetectorHit) (p : ℕ) (w : List Float) → p ≡ pixel_at_of d h.local_x h.local_y → w ≡ add_at_of m.flux p h.flux_watts
-    → record { flux = w; total = add binary64 m.total h.flux_watts; count = m.count + 1 } ≡ add_hit_of d m h
-unfolding add_hit_of
-plus_is d m h p w e f = rw (f, e)
 
 -- ---- the loop over the listed hits, whichever of them are wanted
 

@@ -1,6 +1,5 @@
 -- Which hits a filter lets through, and the map that they make.
-use Rattle.std.specs.Prelude.{ℕ, ◌+◌, Bool, true, false, cond, ◌&&◌, ◌||◌, List, [], ◌∷◌, leb, ltb, eqb, Float, get_or, set, replicate}
-use Rattle.std.proofs.Math.Option.{Option, none, some}
+use Rattle.std.specs.Prelude.{ℕ, ◌+◌, Bool, true, false, cond, ◌&&◌, ◌||◌, List, [], ◌∷◌, leb, ltb, eqb, Float, get_or, set, replicate, Option, None, Some}
 use Rattle.std.specs.Float.{nan, binary64}
 use Rattle.std.specs.Float.Ieee.{add}
 use Rattle.detector.specs.declared.DetectorNo.{DetectorNo}
@@ -9,21 +8,14 @@ use Rattle.detector.specs.Pixels.{pixel_at_of}
 use Rattle.detector.specs.declared.DetectorHit.{DetectorHit}
 use Rattle.filter.specs.declared.RayPathFilter.{RayPathFilter}
 use Rattle.filter.specs.declared.RayPathFilter.TheVariants.{All, SignalOnly, GhostsOnly, TirOnly, StrayLight}
-use Rattle.filter.specs.declared.NumberedFilter.{NumberedFilter}
-use Rattle.filter.specs.declared.NumberedFilter.TheVariants.{Filter, Nothing}
 use Rattle.filter.specs.declared.sifting.Tally.{Tally}
 use Rattle.doubles.specs.Doubles.{#0}
 
 -- numbers 0 to 4 in this order; no other number is a filter's
 unfoldable pub numbered_filter_of : ℕ → Option RayPathFilter
 numbered_filter_of n =
-    cond (eqb n 0) (some All) (cond (eqb n 1) (some SignalOnly) (cond (eqb n 2) (some GhostsOnly)
-    (cond (eqb n 3) (some TirOnly) (cond (eqb n 4) (some StrayLight) none))))
-
--- what the code's answer says
-abbrev pub as_filter : NumberedFilter → Option RayPathFilter
-as_filter (Filter f) = some f
-as_filter Nothing = none
+    cond (eqb n 0) (Some All) (cond (eqb n 1) (Some SignalOnly) (cond (eqb n 2) (Some GhostsOnly)
+    (cond (eqb n 3) (Some TirOnly) (cond (eqb n 4) (Some StrayLight) None))))
 
 abbrev pub is_all_of : RayPathFilter → Bool
 is_all_of All = true

@@ -1,6 +1,7 @@
 -- What a filter hands back: document 01, "Maps and lists".
-use Rattle.std.specs.Prelude.{ℕ, ◌+◌, ◌*◌, cond, ◌&&◌, List, [], eqb, Float, length, take, drop}
-use Rattle.error.specs.Refusals.{Checked, passed, refused_at, as_checked}
+use Rattle.std.specs.Prelude.{ℕ, ◌+◌, ◌*◌, cond, ◌&&◌, List, [], eqb, Float, length, take, drop, Result, Ok, Err}
+use Rattle.error.specs.declared.Refusal.{Refusal}
+use Rattle.error.specs.Refusals.{number_of, Checked, passed, refused_at}
 use Rattle.detector.specs.declared.DetectorNo.{DetectorNo}
 use Rattle.detector.specs.Pixels.{pixels_of}
 use Rattle.detectors.specs.declared.Detectors.{Detectors}
@@ -9,7 +10,7 @@ use Rattle.detector.specs.declared.DetectorHit.{DetectorHit}
 use Rattle.detectors.specs.Detectors.{all_pixels_of, find_of}
 use Rattle.memory.specs.Memory.{hits_from, is_hit_list_of}
 use Rattle.filter.specs.declared.RayPathFilter.{RayPathFilter}
-use Rattle.filter.specs.declared.calls.Filtered.{Filtered}
+use Rattle.filter.specs.declared.sifting.Tally.{Tally}
 use Rattle.filter.specs.Filters.{Map, is_all_of, passes_of, refill_of}
 use Rattle.doubles.specs.Doubles.{#0}
 
@@ -90,6 +91,7 @@ unfoldable pub lies_placed : RayPathFilter → ℕ × ℕ → ℕ × ℕ → Che
 lies_placed f stored work (passed p) = cond (is_all_of f) (doubles_on p.first stored) work
 lies_placed f stored work (refused_at n place) = stored
 
--- what the code's answer says
-abbrev pub as_handed : Filtered → List Float → Handed
-as_handed r m = handed (as_checked r.check) m r.total_flux_watts r.hit_count
+-- what the code's answer says, with the work map that it leaves
+abbrev pub as_handed : Result Tally Refusal → List Float → Handed
+as_handed (Ok t) m = handed (passed tt) m t.total t.count
+as_handed (Err r) m = handed (refused_at (number_of r.error) r.place) m #0 0

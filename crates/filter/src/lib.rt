@@ -13,12 +13,12 @@ mod calls;
 mod sifting;
 
 ghost use Rattle.std.specs.Prelude.{◌≡◌};
-ghost use Rattle.filter.specs.Filters.{as_filter, numbered_filter_of, is_all_of, lets_of};
+ghost use Rattle.filter.specs.Filters.{numbered_filter_of, is_all_of, lets_of};
 
-pub use calls::{Filtered, filtered_pixel_flux, refilter};
+pub use calls::Held;
 pub use sifting::{Tally, refill};
 
-#[derive(Clone, Copy)]
+#[derive(Clone, Copy, PartialEq, Eq)]
 pub enum RayPathFilter {
     All,
     SignalOnly,
@@ -27,45 +27,25 @@ pub enum RayPathFilter {
     StrayLight,
 }
 
-// The filter of a number, if it is one's.
-#[derive(Clone, Copy)]
-pub enum NumberedFilter {
-    Filter(RayPathFilter),
-    Nothing,
-}
-
 impl RayPathFilter {
-    pub fn numbered(number: u32) -> NumberedFilter
-        ensures { as_filter result ≡ numbered_filter_of number }
+    #[tactic(auto, unfolding(crate::specs::Filters::numbered_filter_of))]
+    pub fn numbered(number: u32) -> Option<RayPathFilter>
+        ensures { result ≡ numbered_filter_of number }
     {
-        if number == 0 {
-            return NumberedFilter::Filter(RayPathFilter::All);
+        match number {
+            0 => Some(RayPathFilter::All),
+            1 => Some(RayPathFilter::SignalOnly),
+            2 => Some(RayPathFilter::GhostsOnly),
+            3 => Some(RayPathFilter::TirOnly),
+            4 => Some(RayPathFilter::StrayLight),
+            _ => None,
         }
-        if number == 1 {
-            return NumberedFilter::Filter(RayPathFilter::SignalOnly);
-        }
-        if number == 2 {
-            return NumberedFilter::Filter(RayPathFilter::GhostsOnly);
-        }
-        if number == 3 {
-            return NumberedFilter::Filter(RayPathFilter::TirOnly);
-        }
-        if number == 4 {
-            return NumberedFilter::Filter(RayPathFilter::StrayLight);
-        }
-        NumberedFilter::Nothing
     }
 
     pub fn is_all(self) -> bool
         ensures { result ≡ is_all_of self }
     {
-        match self {
-            RayPathFilter::All => true,
-            RayPathFilter::SignalOnly => false,
-            RayPathFilter::GhostsOnly => false,
-            RayPathFilter::TirOnly => false,
-            RayPathFilter::StrayLight => false,
-        }
+        self == RayPathFilter::All
     }
 
     // Whether it lets a hit with so many reflections and total reflections through.
@@ -74,20 +54,10 @@ impl RayPathFilter {
     {
         match self {
             RayPathFilter::All => true,
-            RayPathFilter::SignalOnly => {
-                if reflections == 0 {
-                    return tirs == 0;
-                }
-                false
-            }
+            RayPathFilter::SignalOnly => reflections == 0 && tirs == 0,
             RayPathFilter::GhostsOnly => reflections >= 1,
             RayPathFilter::TirOnly => tirs > 0,
-            RayPathFilter::StrayLight => {
-                if reflections > 0 {
-                    return true;
-                }
-                tirs > 0
-            }
+            RayPathFilter::StrayLight => reflections > 0 || tirs > 0,
         }
     }
 }

@@ -15,37 +15,26 @@ pub struct Tally {
     pub count: usize,
 }
 
-fn clear(work: &mut [f64])
-    ensures { work.new ≡ replicate (length work.old) #0 }
-{
-    let mut p: usize = 0;
-    while p < work.len() {
-        work[p] = 0.0;
-        p += 1;
-    }
-}
-
 // Whether a hit is the asked detector's, and the filter lets it through.
+#[tactic(auto, unfolding(crate::specs::Filters::passes_of))]
 fn passes(filter: RayPathFilter, asked: DetectorNo, h: DetectorHit) -> bool
     ensures { result ≡ passes_of filter asked h }
 {
-    if h.detector.0 == asked.0 {
-        return filter.lets(h.reflection_count, h.tir_count);
-    }
-    false
+    h.detector.0 == asked.0 && filter.lets(h.reflection_count, h.tir_count)
 }
 
 // A flux added to the pixel at a place, if the map has one there.
+#[tactic(auto, using(crate::proofs::Sift::added_beyond), unfolding(crate::specs::Filters::add_at_of))]
 fn add_at(work: &mut [f64], p: usize, flux: f64)
     ensures { work.new ≡ add_at_of work.old p flux }
 {
     if p < work.len() {
-        work[p] = work[p] + flux;
-        return;
+        work[p] += flux;
     }
 }
 
 // One hit added to its pixel, to the total and to the count.
+#[tactic(auto, unfolding(crate::specs::Filters::add_hit_of))]
 fn add_hit(d: Detector2D, work: &mut [f64], t: Tally, h: DetectorHit) -> Tally
     requires { t.count + 1 < 2 ^ 64 }
     ensures { as_map result work.new ≡ add_hit_of d (as_map t work.old) h }
@@ -58,6 +47,7 @@ fn add_hit(d: Detector2D, work: &mut [f64], t: Tally, h: DetectorHit) -> Tally
 }
 
 // The same, if the hit passes.
+#[tactic(auto, unfolding(crate::specs::Filters::sift_hit_of))]
 fn sift_hit(
     filter: RayPathFilter,
     asked: DetectorNo,
@@ -88,17 +78,14 @@ pub fn refill(
     ensures { as_map result work.new
         ≡ refill_of (passes_of filter asked) d (length work.old) (hits_from hit_values.now hit_tags.now used 0) }
 {
-    clear(work);
+    work.fill(0.0);
     let mut t = Tally {
         total: 0.0,
         count: 0,
     };
-    let mut i: usize = 0;
-    while i < used {
+    for i in 0..used {
         let h = hit_at(hit_values, hit_tags, i);
-        let n = sift_hit(filter, asked, d, work, t, h);
-        t = n;
-        i += 1;
+        t = sift_hit(filter, asked, d, work, t, h);
     }
     t
 }

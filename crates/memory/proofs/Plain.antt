@@ -95,7 +95,7 @@ pub held : (s : Memory) (h : DetectorHit) → has_pixel s h ≡ true
 unfolding has_pixel
 held s h e =
     let f = both (ltb h.detector.0 8) _ e in
-    let l = told_lengths _ _ _ _ _ true (sym f.1) refl in
+    let l = told_lengths _ _ _ _ _ (sym f.1) in
     (ltb-true _ _ f.0, l.0, l.1, l.2)
 
 module _ (s : Memory) (eight : length s.detectors.list ≡ 8) (empty : Empty s) where

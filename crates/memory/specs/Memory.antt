@@ -1,11 +1,9 @@
 -- The memory that maps are made of, as one value, and what recording a hit makes of it.
-use Rattle.std.specs.Prelude.{ℕ, zero, suc, ◌+◌, ◌*◌, ◌/◌, ◌%◌, Bool, cond, ◌&&◌, ◌||◌, List, [], ◌∷◌, leb, ltb, eqb, Float, length, get_or, set, take, drop}
+use Rattle.std.specs.Prelude.{◌≡◌, ℕ, zero, suc, ◌+◌, ◌*◌, ◌/◌, ◌%◌, Bool, cond, ◌&&◌, ◌||◌, List, [], ◌∷◌, leb, ltb, eqb, Float, length, get_or, set, take, drop, Result, Ok, Err}
 use Rattle.std.specs.Float.{nan, binary64}
 use Rattle.std.specs.Float.Ieee.{add}
 use Rattle.std.proofs.lemmas.List.Edits.{sets}
-use Rattle.error.specs.declared.Check.{Check}
-use Rattle.error.specs.declared.Check.TheVariants.{Passed, Refused}
-use Rattle.error.specs.declared.NonSeqError.{NonSeqError}
+use Rattle.error.specs.declared.Refusal.{Refusal}
 use Rattle.error.specs.Refusals.{number_of, Checked, passed, refused_at}
 use Rattle.detector.specs.declared.Detector2D.{Detector2D}
 use Rattle.detector.specs.Pixels.{pixel_at_of, max_count}
@@ -13,7 +11,7 @@ use Rattle.detectors.specs.declared.Detectors.{Detectors}
 use Rattle.detectors.specs.declared.Placed.{Placed}
 use Rattle.detectors.specs.Detectors.{max_detectors, detector_at, all_pixels_of, placed_of, find_of}
 use Rattle.detector.specs.declared.DetectorHit.{DetectorHit}
-use Rattle.memory.specs.declared.recording.Recorded.{Recorded}
+use Rattle.memory.specs.declared.recording.Memory as code
 
 -- detectors, flux and hits of all pixels, the doubles and the whole numbers of the hit list, how many hits are used
 pub record Memory : Type 0 where
@@ -26,6 +24,14 @@ pub record Memory : Type 0 where
 
 abbrev pub lent_memory : Detectors → List Float → List ℕ → List Float → List ℕ → ℕ → Memory
 lent_memory ds f h v t n = record { detectors = ds; flux = f; hits = h; hit_values = v; hit_tags = t; used = n }
+
+abbrev pub as_memory : code.Memory → Memory
+as_memory m = lent_memory m.detectors m.flux.now m.hits.now m.hit_values.now m.hit_tags.now m.used
+
+abbrev pub SameSlices : code.Memory → code.Memory → Type 0
+SameSlices a b =
+    (b.flux.ghost_name ≡ a.flux.ghost_name) × (b.hits.ghost_name ≡ a.hits.ghost_name)
+    × (b.hit_values.ghost_name ≡ a.hit_values.ghost_name) × (b.hit_tags.ghost_name ≡ a.hit_tags.ghost_name)
 
 -- what a call leaves: done, or the number and the place of the refusal
 pub data Outcome (M : Type 0) : Type 0 where
@@ -131,10 +137,6 @@ raised d f =
       total_rays_hit = d.total_rays_hit + 1;
     }
 
--- the records with a flux more caught by detector d
-abbrev pub raise_of : List Detector2D → ℕ → Float → List Detector2D
-raise_of l d f = set l d (raised (detector_at l d) f)
-
 -- the hit added to its pixel, at place p, and to its detector, and written behind the list
 unfoldable pub written_at : Memory → ℕ → DetectorHit → Memory
 written_at s p h =
@@ -201,12 +203,6 @@ record_hit_classified_of s h =
 
 -- ---- what the code's answers say
 
-abbrev pub as_outcome : {M : Type 0} → Check → M → Outcome M
-as_outcome Passed m = done m
-as_outcome (Refused e place) m = refused (number_of e) place m
-
-abbrev pub as_recorded : Recorded → List Float → List ℕ → List Float → List ℕ → Outcome Memory
-as_recorded r f h v t = as_outcome r.check (lent_memory r.detectors f h v t r.used)
-
-abbrev pub refused_of : NonSeqError → Detectors → ℕ → Recorded
-refused_of e ds used = record { check = Refused e 0; detectors = ds; used = used }
+abbrev pub as_outcome : {M : Type 0} → Result Unit Refusal → M → Outcome M
+as_outcome (Ok u) m = done m
+as_outcome (Err r) m = refused (number_of r.error) r.place m

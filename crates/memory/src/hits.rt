@@ -7,18 +7,17 @@ use crate::{HIT_DOUBLES, HIT_WHOLES};
 use detector::{DetectorHit, DetectorNo};
 
 // Whether slices of these lengths hold whole rows, and of as many hits.
+#[tactic(auto, unfolding(crate::specs::Memory::are_hits_of))]
 pub(crate) fn are_hits(hit_values: usize, hit_tags: usize) -> bool
     ensures { result ≡ are_hits_of hit_values hit_tags }
 {
-    if hit_values % HIT_DOUBLES == 0 {
-        if hit_tags % HIT_WHOLES == 0 {
-            return hit_values / HIT_DOUBLES == hit_tags / HIT_WHOLES;
-        }
-    }
-    false
+    hit_values % HIT_DOUBLES == 0
+        && hit_tags % HIT_WHOLES == 0
+        && hit_values / HIT_DOUBLES == hit_tags / HIT_WHOLES
 }
 
 // Hit i of slices that hold it.
+#[tactic(auto, using(crate::proofs::Rows::row_at_lem), unfolding(crate::specs::Memory::hit_from, crate::specs::Memory::read_hit_of))]
 fn read_hit(hit_values: &[f64], hit_tags: &[u32], i: usize) -> DetectorHit
     requires { (hit_doubles * i + hit_doubles ≤ length hit_values.now) × (hit_wholes * i + hit_wholes ≤ length hit_tags.now) }
     ensures { result ≡ read_hit_of hit_values.now hit_tags.now i }
@@ -38,15 +37,15 @@ fn read_hit(hit_values: &[f64], hit_tags: &[u32], i: usize) -> DetectorHit
 }
 
 // What stands for a hit that the slices do not hold: NaN and 0.
+#[tactic(auto, unfolding(crate::specs::Memory::hit_from))]
 fn no_hit() -> DetectorHit
     ensures { result ≡ no_hit_of }
 {
-    let nan = 0.0 / 0.0;
     DetectorHit {
-        local_x: nan,
-        local_y: nan,
-        flux_watts: nan,
-        wavelength_nm: nan,
+        local_x: f64::NAN,
+        local_y: f64::NAN,
+        flux_watts: f64::NAN,
+        wavelength_nm: f64::NAN,
         detector: DetectorNo(0),
         bounce_count: 0,
         reflection_count: 0,
@@ -55,18 +54,17 @@ fn no_hit() -> DetectorHit
 }
 
 // Hit i of the list.
+#[tactic(auto, unfolding(crate::specs::Memory::hit_at_of))]
 pub fn hit_at(hit_values: &[f64], hit_tags: &[u32], i: usize) -> DetectorHit
     ensures { result ≡ hit_at_of hit_values.now hit_tags.now i }
 {
-    let none = no_hit();
-    if i < hit_values.len() / HIT_DOUBLES {
-        if i < hit_tags.len() / HIT_WHOLES {
-            return read_hit(hit_values, hit_tags, i);
-        }
+    if i < hit_values.len() / HIT_DOUBLES && i < hit_tags.len() / HIT_WHOLES {
+        return read_hit(hit_values, hit_tags, i);
     }
-    none
+    no_hit()
 }
 
+#[tactic(auto, unfolding(crate::specs::Memory::hit_values_row))]
 pub(crate) fn put_hit_values(hit_values: &mut [f64], at: usize, h: DetectorHit)
     requires { at + hit_doubles ≤ length hit_values.old }
     ensures { hit_values.new ≡ sets hit_values.old at (hit_values_row h) }
@@ -77,6 +75,7 @@ pub(crate) fn put_hit_values(hit_values: &mut [f64], at: usize, h: DetectorHit)
     hit_values[at + 3] = h.wavelength_nm;
 }
 
+#[tactic(auto, unfolding(crate::specs::Memory::hit_tags_row))]
 pub(crate) fn put_hit_tags(hit_tags: &mut [u32], at: usize, h: DetectorHit)
     requires { at + hit_wholes ≤ length hit_tags.old }
     ensures { hit_tags.new ≡ sets hit_tags.old at (hit_tags_row h) }

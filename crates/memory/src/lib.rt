@@ -7,7 +7,7 @@ mod hits;
 mod recording;
 
 pub use hits::hit_at;
-pub use recording::{Recorded, are_lengths, is_hit_list, record, record_hit_classified};
+pub use recording::{Memory, is_hit_list};
 
 // Doubles and whole numbers of each hit in the two slices of the hit list.
 pub const HIT_DOUBLES: usize = 4;
