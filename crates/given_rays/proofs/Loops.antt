@@ -7,9 +7,8 @@ use native.Mathlib.Nat.{sub-zero}
 use native.Mathlib.Omega.{arith}
 use lib.Ieee.{Float, binary64, of_bits, add}
 use borrow.Author.Tests.{lt-ltb, le-ltb}
-use Rattle.error.specs.declared.Check.{Check}
-use Rattle.error.specs.declared.Check.TheVariants.{Passed, Refused}
-use Rattle.error.specs.declared.NonSeqError.{NonSeqError}
+use Rattle.std.specs.Prelude.{Result, Ok, Err}
+use Rattle.error.specs.declared.Refusal.{Refusal}
 use Rattle.error.specs.Refusals.{number_of, Checked, passed, refused_at, after, as_checked}
 use Rattle.scene.specs.declared.SolidNo.{SolidNo}
 use Rattle.media.specs.Media.{solid_in}
@@ -62,13 +61,13 @@ module _ (given : ℕ → ActiveRay) where
       unfolding check_rays_of
       rays-end h p = rw (left_none n i h) at p
 
-      module _ (a : ActiveRay) (r : Check) (h : i < n) (e : a ≡ given i) (said : as_checked r ≡ check_ray_of a s i) (p : check_rays_of given s (n - i) i ≡ z) where
+      module _ (a : ActiveRay) (r : Result Unit Refusal) (h : i < n) (e : a ≡ given i) (said : as_checked r ≡ check_ray_of a s i) (p : check_rays_of given s (n - i) i ≡ z) where
         unfolded : after (as_checked r) (check_rays_of given s (n - (i + 1)) (i + 1)) ≡ z
         unfolding check_rays_of
         unfolded = rw (said, e) (rw (left_one n i h) at p)
 
-        pub rays-again : r ≡ Passed → check_rays_of given s (n - (i + 1)) (i + 1) ≡ z
+        pub rays-again : r ≡ Ok tt → check_rays_of given s (n - (i + 1)) (i + 1) ≡ z
         rays-again k = rw k at unfolded
 
-        pub rays-refused : (x : NonSeqError) (place : ℕ) → r ≡ Refused x place → refused_at (number_of x) place ≡ z
-        rays-refused x place k = rw k at unfolded
+        pub rays-refused : (x : Refusal) → r ≡ Err x → refused_at (number_of x.error) x.place ≡ z
+        rays-refused x k = rw k at unfolded

@@ -11,6 +11,7 @@ use Rattle.scene.specs.declared.SolidNo.{SolidNo}
 use Rattle.media.specs.declared.Media.{Media}
 use Rattle.media.specs.Media.{no_solid, solid_in, max_media}
 use Rattle.step.specs.declared.ActiveRay.{ActiveRay}
+use Rattle.given_rays.specs.declared.GivenRays as code
 
 -- doubles and whole numbers of a ray
 abbrev pub ray_doubles : ℕ
@@ -80,6 +81,10 @@ given_at_of v t i =
       media = read_media_of t i;
     })
     no_ray_of
+
+-- the given rays of the code's lists
+abbrev pub rays_given : code.GivenRays → ℕ → ActiveRay
+rays_given g = given_at_of g.values.now g.tags.now
 
 -- 17 for lists of another length than so many rays need
 unfoldable pub check_lists_of : ℕ → ℕ → ℕ → Checked Unit

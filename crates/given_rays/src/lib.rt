@@ -1,14 +1,13 @@
 // The given rays of a tracing, as two lent lists of numbers, as they stand in the scene text (document 01,
-// "Maps and lists"). Of each ray 8 doubles: origin, direction, wavelength, power. Of each ray 10 whole
-// numbers: bounce, number of media, 8 media.
+// "Maps and lists").
 #![tactic(auto)]
 
 ghost use Rattle.std.specs.Prelude.{◌≡◌, ◌+◌, ◌*◌, ◌≤◌, length};
 ghost use Rattle.error.specs.Refusals.{as_checked};
-ghost use Rattle.given_rays.specs.Given.{read_ray_of, read_media_of, no_ray_of, given_at_of, check_lists_of, all_solids_of, valid_media_of, check_ray_of, check_rays_of, launched_of, ray_doubles, ray_wholes};
+ghost use Rattle.given_rays.specs.Given.{read_ray_of, read_media_of, no_ray_of, rays_given, check_lists_of, all_solids_of, valid_media_of, check_ray_of, check_rays_of, launched_of, ray_doubles, ray_wholes};
 ghost use Rattle.media.specs.Media.{max_media};
 
-use error::{Check, NonSeqError};
+use error::{NonSeqError, Refusal};
 use media::{MAX_MEDIA, Media};
 use rays::{Ray, Vec3};
 use scene::SolidNo;
@@ -31,6 +30,16 @@ pub const RAY_ROOM_DOUBLES: usize = RAY_ROOM as usize * RAY_DOUBLES;
 
 pub const RAY_ROOM_WHOLES: usize = RAY_ROOM as usize * RAY_WHOLES;
 
+// The given rays, lent. Of each 8 doubles: origin, direction, wavelength, power. Of each 10 whole numbers: bounce,
+// number of media, 8 media.
+#[derive(Clone, Copy)]
+pub struct GivenRays<'a> {
+    pub values: &'a [f64],
+    pub tags: &'a [u32],
+    pub count: u32,
+}
+
+#[tactic(auto, unfolding(crate::specs::Given::read_ray_of))]
 fn read_ray(ray_values: &[f64], i: u32) -> Ray
     requires { i * ray_doubles + ray_doubles ≤ length ray_values.now }
     ensures { result ≡ read_ray_of ray_values.now i }
@@ -52,6 +61,7 @@ fn read_ray(ray_values: &[f64], i: u32) -> Ray
     }
 }
 
+#[tactic(auto, unfolding(crate::specs::Given::read_media_of))]
 fn read_media(ray_tags: &[u32], i: u32) -> Media
     requires { i * ray_wholes + ray_wholes ≤ length ray_tags.now }
     ensures { result ≡ read_media_of ray_tags.now i }
@@ -73,6 +83,7 @@ fn read_media(ray_tags: &[u32], i: u32) -> Media
 }
 
 // What stands for a ray that the lists do not hold: NaN and 0.
+#[tactic(auto, using(doubles::proofs::Floats::zero_by_zero), unfolding(crate::specs::Given::no_ray_of))]
 pub fn no_ray() -> ActiveRay
     ensures { result ≡ no_ray_of }
 {
@@ -97,51 +108,13 @@ pub fn no_ray() -> ActiveRay
     }
 }
 
-// Ray i, as it starts.
-pub fn given_at(ray_values: &[f64], ray_tags: &[u32], i: u32) -> ActiveRay
-    ensures { result ≡ given_at_of ray_values.now ray_tags.now i }
-{
-    let none = no_ray();
-    if i as usize * RAY_DOUBLES + RAY_DOUBLES <= ray_values.len() {
-        if i as usize * RAY_WHOLES + RAY_WHOLES <= ray_tags.len() {
-            return ActiveRay {
-                ray: read_ray(ray_values, i),
-                bounce_count: ray_tags[i as usize * RAY_WHOLES],
-                reflection_count: 0,
-                tir_count: 0,
-                media: read_media(ray_tags, i),
-            };
-        }
-    }
-    none
-}
-
-// Whether lists of these lengths are those of so many rays (17).
-pub fn check_lists(ray_values: usize, ray_tags: usize, rays: u32) -> Check
-    ensures { as_checked result ≡ check_lists_of ray_values ray_tags rays }
-{
-    if ray_values == rays as usize * RAY_DOUBLES {
-        if ray_tags == rays as usize * RAY_WHOLES {
-            return Check::Passed;
-        }
-    }
-    Check::Refused {
-        error: NonSeqError::InvalidSceneText,
-        place: 0,
-    }
-}
-
 // Whether the first n places hold solids.
 fn all_solids(list: [SolidNo; MAX_MEDIA], n: usize, solids: u32) -> bool
     requires { n ≤ max_media }
     ensures { result ≡ all_solids_of list solids n 0 }
 {
-    let mut i: usize = 0;
-    while i < n {
-        let s = list[i];
-        if s.0 < solids {
-            i += 1;
-        } else {
+    for i in 0..n {
+        if list[i].0 >= solids {
             return false;
         }
     }
@@ -149,64 +122,88 @@ fn all_solids(list: [SolidNo; MAX_MEDIA], n: usize, solids: u32) -> bool
 }
 
 // At most 8 media, each a solid.
+#[tactic(auto, unfolding(crate::specs::Given::valid_media_of))]
 fn valid_media(media: Media, solids: u32) -> bool
     ensures { result ≡ valid_media_of media solids }
 {
-    let list = media.list;
-    if media.depth <= MAX_GIVEN_MEDIA {
-        return all_solids(list, media.depth as usize, solids);
-    }
-    false
+    media.depth <= MAX_GIVEN_MEDIA && all_solids(media.list, media.depth as usize, solids)
 }
 
 // 10 for a ray that may not be given, then 11 for its media.
-fn check_ray(a: ActiveRay, solids: u32, place: u32) -> Check
+#[tactic(auto, unfolding(crate::specs::Given::check_ray_of))]
+fn check_ray(a: ActiveRay, solids: u32, place: u32) -> Result<(), Refusal>
     ensures { as_checked result ≡ check_ray_of a solids place }
 {
-    let ray = a.ray;
-    if ray.is_valid() {
-        if valid_media(a.media, solids) {
-            return Check::Passed;
-        }
-        return Check::Refused {
+    if !a.ray.is_valid() {
+        return Err(Refusal {
+            error: NonSeqError::InvalidRay,
+            place,
+        });
+    }
+    if !valid_media(a.media, solids) {
+        return Err(Refusal {
             error: NonSeqError::InvalidMedia,
             place,
-        };
+        });
     }
-    Check::Refused {
-        error: NonSeqError::InvalidRay,
-        place,
-    }
+    Ok(())
 }
 
-// The first of the rays that is refused, by 10 or 11.
-pub fn check_rays(ray_values: &[f64], ray_tags: &[u32], rays: u32, solids: u32) -> Check
-    ensures { as_checked result ≡ check_rays_of (given_at_of ray_values.now ray_tags.now) solids rays 0 }
-{
-    let mut i: u32 = 0;
-    while i < rays {
-        match check_ray(given_at(ray_values, ray_tags, i), solids, i) {
-            Check::Passed => {
-                i += 1;
-            }
-            Check::Refused { error, place } => {
-                return Check::Refused { error, place };
+impl GivenRays<'_> {
+    // Ray i, as it starts.
+    #[tactic(auto, unfolding(crate::specs::Given::given_at_of))]
+    pub fn at(self, i: u32) -> ActiveRay
+        ensures { result ≡ rays_given self.entry i }
+    {
+        let none = no_ray();
+        if i as usize * RAY_DOUBLES + RAY_DOUBLES <= self.values.len() {
+            if i as usize * RAY_WHOLES + RAY_WHOLES <= self.tags.len() {
+                return ActiveRay {
+                    ray: read_ray(self.values, i),
+                    bounce_count: self.tags[i as usize * RAY_WHOLES],
+                    reflection_count: 0,
+                    tir_count: 0,
+                    media: read_media(self.tags, i),
+                };
             }
         }
+        none
     }
-    Check::Passed
-}
 
-// The power launched, summed first to last.
-pub fn launched(ray_values: &[f64], ray_tags: &[u32], rays: u32) -> f64
-    ensures { result ≡ launched_of (given_at_of ray_values.now ray_tags.now) rays }
-{
-    let mut sum = 0.0;
-    let mut i: u32 = 0;
-    while i < rays {
-        let a = given_at(ray_values, ray_tags, i);
-        sum = sum + a.ray.energy;
-        i += 1;
+    // Whether the lists are those of so many rays (17).
+    #[tactic(auto, unfolding(crate::specs::Given::check_lists_of))]
+    pub fn check_lists(self) -> Result<(), Refusal>
+        ensures { as_checked result ≡ check_lists_of (length self.entry.values.now) (length self.entry.tags.now) self.entry.count }
+    {
+        if self.values.len() == self.count as usize * RAY_DOUBLES
+            && self.tags.len() == self.count as usize * RAY_WHOLES
+        {
+            return Ok(());
+        }
+        Err(Refusal {
+            error: NonSeqError::InvalidSceneText,
+            place: 0,
+        })
     }
-    sum
+
+    // The first of the rays that is refused, by 10 or 11.
+    pub fn check(self, solids: u32) -> Result<(), Refusal>
+        ensures { as_checked result ≡ check_rays_of (rays_given self.entry) solids self.entry.count 0 }
+    {
+        for i in 0..self.count {
+            check_ray(self.at(i), solids, i)?;
+        }
+        Ok(())
+    }
+
+    // The power launched, summed first to last.
+    pub fn launched(self) -> f64
+        ensures { result ≡ launched_of (rays_given self.entry) self.entry.count }
+    {
+        let mut sum = 0.0;
+        for i in 0..self.count {
+            sum += self.at(i).ray.energy;
+        }
+        sum
+    }
 }

@@ -3,47 +3,31 @@
 #![tactic(auto)]
 
 ghost use Rattle.std.specs.Prelude.{◌≡◌, ◌-◌, ◌≤◌, ◌<◌};
-ghost use Rattle.media.specs.Media.{newest_of, entered_of, last_place_of, move_down_of, left_of, as_medium, as_place, max_media};
+ghost use Rattle.media.specs.Media.{newest_of, entered_of, last_place_of, move_down_of, left_of, max_media};
 
 use scene::SolidNo;
 
 // Places for the media of a ray.
 pub const MAX_MEDIA: usize = 24;
 
-// The first `depth` of the places are used.
+// The first `depth` of the places are used: an array with a depth beside it, since nothing is on the heap.
 #[derive(Clone, Copy)]
 pub struct Media {
     pub list: [SolidNo; MAX_MEDIA],
     pub depth: u32,
 }
 
-#[derive(Clone, Copy)]
-pub enum Newest {
-    In(SolidNo),
-    Outside,
-}
-
-#[derive(Clone, Copy)]
-pub enum Place {
-    At(usize),
-    Nowhere,
-}
-
 // The last of the first `depth` places that holds a solid.
-fn last_place(list: [SolidNo; MAX_MEDIA], depth: usize, solid: SolidNo) -> Place
+fn last_place(list: [SolidNo; MAX_MEDIA], depth: usize, solid: SolidNo) -> Option<usize>
     requires { depth ≤ max_media }
-    ensures { as_place result ≡ last_place_of list depth solid }
+    ensures { result ≡ last_place_of list depth solid }
 {
-    let mut i = depth;
-    while 0 < i {
-        let j = i - 1;
-        let s = list[j];
-        if s.0 == solid.0 {
-            return Place::At(j);
+    for i in (0..depth).rev() {
+        if list[i].0 == solid.0 {
+            return Some(i);
         }
-        i = j;
     }
-    Place::Nowhere
+    None
 }
 
 // The places from `at` to `end`, each with what stood in the next.
@@ -52,11 +36,8 @@ fn move_down(list: [SolidNo; MAX_MEDIA], at: usize, end: usize) -> [SolidNo; MAX
     ensures { result ≡ move_down_of (end - at) at list }
 {
     let mut r = list;
-    let mut i = at;
-    while i < end {
-        let s = r[i + 1];
-        r[i] = s;
-        i += 1;
+    for i in at..end {
+        r[i] = r[i + 1];
     }
     r
 }
@@ -65,21 +46,23 @@ impl Media {
     // The most places.
     pub const MAX: u32 = MAX_MEDIA as u32;
 
-    pub fn newest(self) -> Newest
-        ensures { as_medium result ≡ newest_of self }
+    #[tactic(auto, unfolding(crate::specs::Media::newest_of))]
+    pub fn newest(self) -> Option<SolidNo>
+        ensures { result ≡ newest_of self }
     {
         let list = self.list;
         if 0 < self.depth {
             if self.depth <= Media::MAX {
                 let at = self.depth as usize - 1;
                 let s = list[at];
-                return Newest::In(s);
+                return Some(s);
             }
         }
-        Newest::Outside
+        None
     }
 
     // With a solid appended.
+    #[tactic(auto, unfolding(crate::specs::Media::entered_of))]
     pub fn entered(self, solid: SolidNo) -> Media
         ensures { result ≡ entered_of self solid }
     {
@@ -96,6 +79,7 @@ impl Media {
     }
 
     // Without the last place that holds a solid, if there is one.
+    #[tactic(auto, using(crate::proofs::Places::found_below), unfolding(crate::specs::Media::left_of, crate::specs::Media::without_place))]
     pub fn left(self, solid: SolidNo) -> Media
         ensures { result ≡ left_of self solid }
     {
@@ -103,11 +87,11 @@ impl Media {
             let list = self.list;
             let depth = self.depth as usize;
             return match last_place(list, depth, solid) {
-                Place::At(i) => Media {
+                Some(i) => Media {
                     list: move_down(list, i, depth - 1),
                     depth: self.depth - 1,
                 },
-                Place::Nowhere => self,
+                None => self,
             };
         }
         self

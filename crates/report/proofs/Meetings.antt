@@ -1,4 +1,5 @@
 -- What a step adds to the tallies at a surface, and to the lost power. Assumes nothing.
+use Rattle.std.specs.Prelude.{is_some}
 use mathlib.Core.Path.{◌≡◌, refl}
 use mathlib.Core.Bool.{Bool, false, true, cond}
 use lib.Ieee.{Float, binary64, add}
@@ -65,6 +66,6 @@ ledger_lost l power (caught h) made also = refl
 ledger_lost l power (met m) made also = met_lost l m made also
 ledger_lost l power (refusing n) made also = refl
 
-pub after_lost : (r : NonSeqTraceReport) (power : Float) (s : Step) → (report_after_of r power s).ledger.lost_flux_watts ≡ lost_after r.ledger.lost_flux_watts s.end s.«first»
+pub after_lost : (r : NonSeqTraceReport) (power : Float) (s : Step) → (report_after_of r power s).ledger.lost_flux_watts ≡ lost_after r.ledger.lost_flux_watts s.end (is_some s.reflected)
 unfolding report_after_of
-after_lost r power s = ledger_lost r.ledger power s.end s.«first» s.second
+after_lost r power s = ledger_lost r.ledger power s.end (is_some s.reflected) (is_some s.transmitted)

@@ -1,5 +1,5 @@
 -- What a step adds to the ledger and the tallies.
-use Rattle.std.specs.Prelude.{ℕ, Bool, true, false, cond, Float}
+use Rattle.std.specs.Prelude.{ℕ, Bool, true, false, cond, is_some, Float}
 use Rattle.std.specs.Float.{binary64}
 use Rattle.std.specs.Float.Ieee.{of_bits, add, div, le}
 use Rattle.step.specs.Rays.{Meeting, stopped, mirrored, parted, End, dim, spent, gone, caught, met, refusing, Step}
@@ -58,7 +58,7 @@ absorb_unless_of made l x = cond made l (absorb_of l x)
 unfoldable pub lose_unless_of : Bool → Ledger → Float → Ledger
 lose_unless_of made l x = cond made l (lose_of l x)
 
--- made and also are the step's two flags
+-- made and also say whether the step made its reflected ray and its transmitted one
 unfoldable pub ledger_met_of : Ledger → Meeting → Bool → Bool → Ledger
 ledger_met_of l (stopped x) made also = absorb_of l x
 ledger_met_of l (mirrored kept r) made also = lose_unless_of made (absorb_of l kept) r
@@ -170,10 +170,10 @@ is_interaction_of (refusing n) = true
 unfoldable pub report_after_of : NonSeqTraceReport → Float → Step → NonSeqTraceReport
 report_after_of r power s =
     record {
-      ledger = ledger_after_of r.ledger power s.end s.«first» s.second;
+      ledger = ledger_after_of r.ledger power s.end (is_some s.reflected) (is_some s.transmitted);
       total_rays_traced = r.total_rays_traced;
       total_interactions = more_if_of (is_interaction_of s.end) r.total_interactions;
-      tallies = tallies_after_of r.tallies s.end s.«first» s.second;
+      tallies = tallies_after_of r.tallies s.end (is_some s.reflected) (is_some s.transmitted);
     }
 
 -- a step that is refused: as it found the report, but its interaction is counted

@@ -24,21 +24,16 @@ pub struct NonSeqTraceReport {
 }
 
 // Whether what became of a ray is an interaction.
+#[tactic(auto, unfolding(crate::specs::Report::is_interaction_of))]
 fn is_interaction(end: End) -> bool
     ensures { result ≡ is_interaction_of (as_end end) }
 {
-    match end {
-        End::Dim => false,
-        End::Spent => false,
-        End::Gone => true,
-        End::Caught(_) => true,
-        End::Met(_) => true,
-        End::Refused(_) => true,
-    }
+    !matches!(end, End::Dim | End::Spent)
 }
 
 impl NonSeqTraceReport {
     // Before the first step.
+    #[tactic(auto, unfolding(crate::specs::Report::start_report_of))]
     pub fn start(rays: u32, launched: f64) -> NonSeqTraceReport
         ensures { result ≡ start_report_of rays launched }
     {
@@ -65,16 +60,19 @@ impl NonSeqTraceReport {
     }
 
     // After a step; one that refuses itself adds its interaction alone.
+    #[tactic(auto, unfolding(crate::specs::Report::report_after_of))]
     pub fn after(self, power: f64, step: Step) -> NonSeqTraceReport
         ensures { result ≡ report_after_of self power (as_step step) }
     {
         let ledger = self.ledger;
         let tallies = self.tallies;
         let end = step.end;
+        let first = step.reflected.is_some();
+        let second = step.transmitted.is_some();
         // the tallies before the ledger: it takes fewer instructions
-        let counted = tallies.after(end, step.first, step.second);
+        let counted = tallies.after(end, first, second);
         NonSeqTraceReport {
-            ledger: ledger.after(power, end, step.first, step.second),
+            ledger: ledger.after(power, end, first, second),
             total_rays_traced: self.total_rays_traced,
             total_interactions: more_if(is_interaction(end), self.total_interactions),
             tallies: counted,
@@ -82,6 +80,7 @@ impl NonSeqTraceReport {
     }
 
     // After a step that was refused: as it was, but the interaction is counted.
+    #[tactic(auto, unfolding(crate::specs::Report::counted_of))]
     pub fn counted(self) -> NonSeqTraceReport
         ensures { result ≡ counted_of self }
     {

@@ -1,9 +1,9 @@
 -- The ways that a step can go: what holds of each of them holds of every step. Assumes nothing.
+use Rattle.std.specs.Prelude.{Option, None, Some}
 use Prim.Native.Nat.{ℕ}
 use mathlib.Core.Path.{◌≡◌, refl}
 use mathlib.Core.Logic.{◌⊎◌, inl, inr}
 use mathlib.Core.Bool.{Bool, true, false, cond}
-use mathlib.Core.Option.{Option, none, some}
 use lib.Dec.{leb}
 use lib.Ieee.{Float, binary64, sub, lt, le}
 use Rattle.error.specs.Refusals.{Answer, value, refusal}
@@ -12,7 +12,8 @@ use Rattle.material.specs.declared.SurfaceFinish.{SurfaceFinish}
 use Rattle.material.specs.declared.SurfaceFinish.TheVariants.{Specular, Mirror, Absorber}
 use Rattle.scene.specs.declared.NonSeqHit.{NonSeqHit}
 use Rattle.scene.specs.Closest.{closest_object_of}
-use Rattle.surface.specs.Fresnel.{FresnelInteraction, compute_snell_fresnel_interaction_of, mirrored_power_of, mirrored_of}
+use Rattle.surface.specs.Fresnel.{compute_snell_fresnel_interaction_of, mirrored_power_of, mirrored_of}
+use Rattle.surface.specs.declared.FresnelInteraction.{FresnelInteraction}
 use Rattle.faces.specs.declared.Sight.{Sight}
 use Rattle.faces.specs.Faces.{nearest_detector_of}
 use Rattle.step.specs.declared.ActiveRay.{ActiveRay}
@@ -47,43 +48,43 @@ Refuses O a h n =
 module _ (Q : Step → Type 0) (a : ActiveRay) where
   -- by the tests of power and bounce
   module _ (S : Scene)
-      (dims : le a.ray.energy S.optics.config.min_power_threshold ≡ true → Q (ends_of a dim))
-      (spends : leb S.optics.config.max_bounces a.bounce_count ≡ true → Q (ends_of a spent))
+      (dims : le a.ray.energy S.optics.config.min_power_threshold ≡ true → Q (ends_of dim))
+      (spends : leb S.optics.config.max_bounces a.bounce_count ≡ true → Q (ends_of spent))
       (goes : le a.ray.energy S.optics.config.min_power_threshold ≡ false → leb S.optics.config.max_bounces a.bounce_count ≡ false → Q (interact_of S a)) where
     pub by_tests : Q (take_step_of S a)
     unfolding take_step_of
     by_tests = go (le a.ray.energy S.optics.config.min_power_threshold) (leb S.optics.config.max_bounces a.bounce_count) refl refl
       where
         go : (b c : Bool) → le a.ray.energy S.optics.config.min_power_threshold ≡ b → leb S.optics.config.max_bounces a.bounce_count ≡ c
-            → Q (cond b (ends_of a dim) (cond c (ends_of a spent) (interact_of S a)))
+            → Q (cond b (ends_of dim) (cond c (ends_of spent) (interact_of S a)))
         go true c e f = dims e
         go false true e f = spends f
         go false false e f = goes e f
 
   -- by what is ahead
   module _ (S : Scene)
-      (catches : (s : Sight) → nearest_detector_of S.faces a.ray ≡ some s → ahead_in S a ≡ detector s → Q (ends_of a (caught (caught_by_of a s))))
+      (catches : (s : Sight) → nearest_detector_of S.faces a.ray ≡ Some s → ahead_in S a ≡ detector s → Q (ends_of (caught (caught_by_of a s))))
       (meets : (h : NonSeqHit) → ahead_in S a ≡ solid h → Q (surface_of S.optics a h))
-      (goes : ahead_in S a ≡ nothing → Q (ends_of a gone)) where
+      (goes : ahead_in S a ≡ nothing → Q (ends_of gone)) where
     pub by-ahead : Q (interact_of S a)
     unfolding interact_of meets_with first_ahead_of nearer_of
     by-ahead = go (nearest_detector_of S.faces a.ray) (closest_object_of S.solid S.solids a.ray) refl refl
       where
-        nearer : (s : Sight) (h : NonSeqHit) (b : Bool) → nearest_detector_of S.faces a.ray ≡ some s → ahead_in S a ≡ cond b (detector s) (solid h) → Q (meets_with S a (cond b (detector s) (solid h)))
+        nearer : (s : Sight) (h : NonSeqHit) (b : Bool) → nearest_detector_of S.faces a.ray ≡ Some s → ahead_in S a ≡ cond b (detector s) (solid h) → Q (meets_with S a (cond b (detector s) (solid h)))
         nearer s h true e f = catches s e f
         nearer s h false e f = meets h f
 
         go : (o : Option Sight) (k : Option NonSeqHit) → nearest_detector_of S.faces a.ray ≡ o → closest_object_of S.solid S.solids a.ray ≡ k → Q (meets_with S a (first_ahead_of o k))
-        go none none e f = goes (rw (e, f))
-        go none (some h) e f = meets h (rw (e, f))
-        go (some s) none e f = catches s e (rw (e, f))
-        go (some s) (some h) e f = nearer s h (lt s.crossing.t h.t) e (rw (e, f))
+        go None None e f = goes (rw (e, f))
+        go None (Some h) e f = meets h (rw (e, f))
+        go (Some s) None e f = catches s e (rw (e, f))
+        go (Some s) (Some h) e f = nearer s h (lt s.crossing.t h.t) e (rw (e, f))
 
   -- by the finish of the surface that it meets
   module _ (O : Optics) (h : NonSeqHit)
-      (stops : O.finish h.object_id ≡ Absorber → Q (ends_of a (met (stopped a.ray.energy))))
-      (refuses : (n : ℕ) → Refuses O a h n → Q (ends_of a (refusing n)))
-      (drops : (rho : Float) → O.finish h.object_id ≡ Mirror rho → lt O.config.min_power_threshold (at_mirror a rho) ≡ false → Q (ends_of a (met (met_mirror a rho))))
+      (stops : O.finish h.object_id ≡ Absorber → Q (ends_of (met (stopped a.ray.energy))))
+      (refuses : (n : ℕ) → Refuses O a h n → Q (ends_of (refusing n)))
+      (drops : (rho : Float) → O.finish h.object_id ≡ Mirror rho → lt O.config.min_power_threshold (at_mirror a rho) ≡ false → Q (ends_of (met (met_mirror a rho))))
       (mirrors : (rho : Float) (r : Ray) → O.finish h.object_id ≡ Mirror rho → lt O.config.min_power_threshold (at_mirror a rho) ≡ true → mirrored_of a.ray h (at_mirror a rho) ≡ value r → Q (mirror_from_of a (met_mirror a rho) (value r)))
       (parts : (n1 n2 : Float) (p : FresnelInteraction) → O.finish h.object_id ≡ Specular → index_here O a ≡ value n1 → index_beyond O a h ≡ value n2 → compute_snell_fresnel_interaction_of a.ray h n1 n2 a.ray.energy ≡ value p → Q (parted_by O.config.min_power_threshold a (beyond_of a.media h) p)) where
     clear-way : O.finish h.object_id ≡ Specular → Q (clear_of O a h)
@@ -108,7 +109,7 @@ module _ (Q : Step → Type 0) (a : ActiveRay) where
         sends e (value r) g = mirrors rho r s e g
         sends e (refusal n) g = refuses n (inr (rho, (s, (e, g))))
 
-        go : (b : Bool) → lt O.config.min_power_threshold (at_mirror a rho) ≡ b → Q (cond b (mirror_from_of a (met_mirror a rho) (mirrored_of a.ray h (at_mirror a rho))) (ends_of a (met (met_mirror a rho))))
+        go : (b : Bool) → lt O.config.min_power_threshold (at_mirror a rho) ≡ b → Q (cond b (mirror_from_of a (met_mirror a rho) (mirrored_of a.ray h (at_mirror a rho))) (ends_of (met (met_mirror a rho))))
         go true e = sends e (mirrored_of a.ray h (at_mirror a rho)) refl
         go false e = drops rho s e
 
@@ -123,8 +124,8 @@ module _ (Q : Step → Type 0) (a : ActiveRay) where
 
   -- by what a surface makes of it, whatever its finish
   module _ (O : Optics) (h : NonSeqHit)
-      (stops : (m : Meeting) → Q (ends_of a (met m)))
-      (refuses : (n : ℕ) → Refuses O a h n → Q (ends_of a (refusing n)))
+      (stops : (m : Meeting) → Q (ends_of (met m)))
+      (refuses : (n : ℕ) → Refuses O a h n → Q (ends_of (refusing n)))
       (mirrors : (power : Float) (m : Meeting) (r : Ray) → mirrored_of a.ray h power ≡ value r → Q (mirror_from_of a m (value r)))
       (parts : (n1 n2 : Float) (p : FresnelInteraction) → compute_snell_fresnel_interaction_of a.ray h n1 n2 a.ray.energy ≡ value p → Q (parted_by O.config.min_power_threshold a (beyond_of a.media h) p)) where
     pub by-surface : Q (surface_of O a h)

@@ -1,12 +1,12 @@
 -- A ray on its way, the scene that it is in, and what one step makes of it.
-use Rattle.std.specs.Prelude.{ℕ, ◌+◌, Bool, false, cond, List, ltb, Float}
-use Rattle.std.proofs.Math.Option.{Option}
+use Rattle.std.specs.Prelude.{ℕ, ◌+◌, Bool, cond, List, ltb, Float, Option, None}
 use Rattle.error.specs.Refusals.{number_of}
 use Rattle.rays.specs.declared.Ray.{Ray}
 use Rattle.material.specs.declared.OpticalMedium.{OpticalMedium}
 use Rattle.material.specs.declared.SurfaceFinish.{SurfaceFinish}
 use Rattle.scene.specs.declared.SolidNo.{SolidNo}
 use Rattle.scene.specs.declared.NonSeqObject.{NonSeqObject}
+use Rattle.scene.specs.declared.solids.Solids as code
 use Rattle.scene.specs.Solids.{object_at_of, finish_at_of, medium_at_of}
 use Rattle.media.specs.declared.Media.{Media}
 use Rattle.detector.specs.declared.DetectorHit.{DetectorHit}
@@ -38,6 +38,13 @@ listed_optics x k g = record { finish = finish_at_of x k; medium = medium_at_of 
 abbrev pub listed_scene : List Float → List ℕ → ℕ → Faces → NonSeqTraceConfig → Scene
 listed_scene x k n fs g = record { solids = n; solid = object_at_of x k; faces = fs; optics = listed_optics x k g }
 
+-- the same of the code's lists
+abbrev pub lent_optics : code.Solids → NonSeqTraceConfig → Optics
+lent_optics s g = listed_optics s.values.now s.tags.now g
+
+abbrev pub lent_scene : code.Solids → Faces → NonSeqTraceConfig → Scene
+lent_scene s fs g = listed_scene s.values.now s.tags.now s.count fs g
+
 -- what a solid makes of a ray's power: an absorber stops it; a mirror keeps some and reflects some; a clear surface
 -- reflects some and transmits some, and the flag says whether the radicand was at most 0
 pub data Meeting : Type 0 where
@@ -58,14 +65,12 @@ pub data End : Type 0 where
 -- one step: what becomes of the ray, and the rays that come of it, if they are made
 pub record Step : Type 0 where
   pub end : End
-  pub «first» : Bool
-  pub reflected : ActiveRay
-  pub second : Bool
-  pub transmitted : ActiveRay
+  pub reflected : Option ActiveRay
+  pub transmitted : Option ActiveRay
 
--- no ray comes of a
-abbrev pub ends_of : ActiveRay → End → Step
-ends_of a e = record { end = e; «first» = false; reflected = a; second = false; transmitted = a }
+-- no ray comes of it
+abbrev pub ends_of : End → Step
+ends_of e = record { end = e; reflected = None; transmitted = None }
 
 -- a count raised by 1; no traced ray comes near the largest
 unfoldable pub more_of : ℕ → ℕ
@@ -108,11 +113,4 @@ as_end (ends.TheVariants.Met m) = met (as_meeting m)
 as_end (ends.TheVariants.Refused e) = refusing (number_of e)
 
 abbrev pub as_step : steps.Step → Step
-as_step e =
-    record {
-      end = as_end e.end;
-      «first» = e.«first»;
-      reflected = e.reflected;
-      second = e.second;
-      transmitted = e.transmitted;
-    }
+as_step e = record { end = as_end e.end; reflected = e.reflected; transmitted = e.transmitted }

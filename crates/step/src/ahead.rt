@@ -1,12 +1,11 @@
 // What is first ahead of a ray.
 ghost use Rattle.std.specs.Prelude.{◌≡◌};
-ghost use Rattle.scene.specs.Objects.{as_hit};
-ghost use Rattle.faces.specs.Faces.{as_sight};
 ghost use Rattle.step.specs.Steps.{nearer_of, first_ahead_of, as_ahead};
 
-use faces::{Sight, Sighting};
-use scene::{Intersection, NonSeqHit};
+use faces::Sight;
+use scene::NonSeqHit;
 
+// Three ways on, each with its own end in `interact`: an Option of the other two would be matched twice.
 #[derive(Clone, Copy)]
 pub enum Ahead {
     Detector(Sight),
@@ -15,6 +14,7 @@ pub enum Ahead {
 }
 
 // A detector wins only if it is strictly nearer than the solid.
+#[tactic(auto, unfolding(crate::specs::Steps::nearer_of))]
 fn nearer(sight: Sight, hit: NonSeqHit) -> Ahead
     ensures { as_ahead result ≡ nearer_of sight hit }
 {
@@ -24,17 +24,14 @@ fn nearer(sight: Sight, hit: NonSeqHit) -> Ahead
     Ahead::Solid(hit)
 }
 
-pub fn first_ahead(seen: Sighting, met: Intersection) -> Ahead
-    ensures { as_ahead result ≡ first_ahead_of (as_sight seen) (as_hit met) }
+#[tactic(auto, unfolding(crate::specs::Steps::first_ahead_of))]
+pub fn first_ahead(seen: Option<Sight>, met: Option<NonSeqHit>) -> Ahead
+    ensures { as_ahead result ≡ first_ahead_of seen met }
 {
-    match seen {
-        Sighting::Seen(sight) => match met {
-            Intersection::Hit(hit) => nearer(sight, hit),
-            Intersection::Miss => Ahead::Detector(sight),
-        },
-        Sighting::Nothing => match met {
-            Intersection::Hit(hit) => Ahead::Solid(hit),
-            Intersection::Miss => Ahead::Nothing,
-        },
+    match (seen, met) {
+        (Some(sight), Some(hit)) => nearer(sight, hit),
+        (Some(sight), None) => Ahead::Detector(sight),
+        (None, Some(hit)) => Ahead::Solid(hit),
+        (None, None) => Ahead::Nothing,
     }
 }

@@ -1,38 +1,35 @@
 // A ray at a clear surface.
 ghost use Rattle.std.specs.Prelude.{◌≡◌};
-ghost use Rattle.material.specs.Media.{as_index};
-ghost use Rattle.surface.specs.Fresnel.{total, as_interaction};
-ghost use Rattle.step.specs.Rays.{listed_optics, as_step};
+ghost use Rattle.error.specs.Refusals.{as_answer};
+ghost use Rattle.step.specs.Rays.{lent_optics, as_step};
 ghost use Rattle.step.specs.Steps.{index_in_of, beyond_of, parted_of, between_of, clear_of, all_reflected_of, both_made_of};
 
 use crate::{ActiveRay, End, Meeting, NonSeqTraceConfig, Step};
-use material::RefractiveIndex;
-use media::{Media, Newest};
+use error::NonSeqError;
+use media::Media;
 use rays::Ray;
-use scene::NonSeqHit;
+use scene::{NonSeqHit, Solids};
 use surface::FresnelInteraction;
 
 // The index of the newest medium, else of the ambient.
+#[tactic(auto, unfolding(crate::specs::Steps::index_in_of, crate::specs::Steps::medium_from))]
 fn index_in(
     config: NonSeqTraceConfig,
-    solid_values: &[f64],
-    solid_tags: &[u32],
+    solids: Solids<'_>,
     media: Media,
     wavelength: f64,
-) -> RefractiveIndex
-    ensures { as_index result ≡ index_in_of (listed_optics solid_values.now solid_tags.now config) media wavelength }
+) -> Result<f64, NonSeqError>
+    ensures { as_answer result ≡ index_in_of (lent_optics solids.entry config) media wavelength }
 {
     let ambient = config.ambient_medium;
     match media.newest() {
-        Newest::In(solid) => {
-            let medium = scene::medium_at(solid_values, solid_tags, solid);
-            medium.refractive_index(wavelength)
-        }
-        Newest::Outside => ambient.refractive_index(wavelength),
+        Some(solid) => { solids.medium_at(solid).refractive_index(wavelength) }
+        None => ambient.refractive_index(wavelength),
     }
 }
 
 // The media beyond the surface.
+#[tactic(auto, unfolding(crate::specs::Steps::beyond_of))]
 fn beyond(media: Media, hit: NonSeqHit) -> Media
     ensures { result ≡ beyond_of media hit }
 {
@@ -43,6 +40,7 @@ fn beyond(media: Media, hit: NonSeqHit) -> Media
     media.left(solid)
 }
 
+#[tactic(auto, unfolding(crate::specs::Steps::parted_by))]
 fn all_reflected(threshold: f64, a: ActiveRay, media: Media, ray: Ray) -> Step
     ensures { as_step result ≡ all_reflected_of threshold a media ray }
 {
@@ -52,14 +50,13 @@ fn all_reflected(threshold: f64, a: ActiveRay, media: Media, ray: Ray) -> Step
             transmitted: 0.0,
             total: true,
         }),
-        first: ray.energy > threshold,
-        reflected: a.reflected(true, ray),
-        second: false,
-        transmitted: a,
+        reflected: (ray.energy > threshold).then(|| a.reflected(true, ray)),
+        transmitted: None,
     }
 }
 
 // Transmitted power at most 0 counts as total reflection.
+#[tactic(auto, unfolding(crate::specs::Steps::parted_by))]
 fn both_made(threshold: f64, a: ActiveRay, media: Media, reflected: Ray, transmitted: Ray) -> Step
     ensures { as_step result ≡ both_made_of threshold a media reflected transmitted }
 {
@@ -70,63 +67,68 @@ fn both_made(threshold: f64, a: ActiveRay, media: Media, reflected: Ray, transmi
             transmitted: transmitted.energy,
             total: false,
         }),
-        first: reflected.energy > threshold,
-        reflected: a.reflected(tir, reflected),
-        second: transmitted.energy > threshold,
-        transmitted: a.transmitted(transmitted, media),
+        reflected: (reflected.energy > threshold).then(|| a.reflected(tir, reflected)),
+        transmitted: (transmitted.energy > threshold).then(|| a.transmitted(transmitted, media)),
     }
 }
 
-fn parted(threshold: f64, a: ActiveRay, media: Media, rays: FresnelInteraction) -> Step
-    ensures { as_step result ≡ parted_of threshold a media (as_interaction rays) }
+#[tactic(auto, unfolding(crate::specs::Steps::parted_of))]
+fn parted(
+    threshold: f64,
+    a: ActiveRay,
+    media: Media,
+    rays: Result<FresnelInteraction, NonSeqError>,
+) -> Step
+    ensures { as_step result ≡ parted_of threshold a media (as_answer rays) }
 {
     match rays {
-        FresnelInteraction::Total(ray) => all_reflected(threshold, a, media, ray),
-        FresnelInteraction::Split {
-            reflected,
-            transmitted,
-        } => both_made(threshold, a, media, reflected, transmitted),
-        FresnelInteraction::Refused(error) => a.ends(End::Refused(error)),
+        Ok(FresnelInteraction::Total(ray)) => all_reflected(threshold, a, media, ray),
+        Ok(
+            FresnelInteraction::Split {
+                reflected,
+                transmitted,
+            },
+        ) => both_made(threshold, a, media, reflected, transmitted),
+        Err(error) => Step::ends(End::Refused(error)),
     }
 }
 
 // Between two indices, each of which may be refused.
+#[tactic(auto, unfolding(crate::specs::Steps::between_of))]
 fn between(
     threshold: f64,
     a: ActiveRay,
     hit: NonSeqHit,
     media: Media,
-    here: RefractiveIndex,
-    there: RefractiveIndex,
+    here: Result<f64, NonSeqError>,
+    there: Result<f64, NonSeqError>,
 ) -> Step
-    ensures { as_step result ≡ between_of threshold a hit media (as_index here) (as_index there) }
+    ensures { as_step result ≡ between_of threshold a hit media (as_answer here) (as_answer there) }
 {
     let ray = a.ray;
-    match here {
-        RefractiveIndex::Index(n1) => match there {
-            RefractiveIndex::Index(n2) => {
-                let rays = surface::compute_snell_fresnel_interaction(ray, hit, n1, n2, ray.energy);
-                parted(threshold, a, media, rays)
-            }
-            RefractiveIndex::Refused(error) => a.ends(End::Refused(error)),
-        },
-        RefractiveIndex::Refused(error) => a.ends(End::Refused(error)),
+    match (here, there) {
+        (Ok(n1), Ok(n2)) => {
+            let rays = surface::compute_snell_fresnel_interaction(ray, hit, n1, n2, ray.energy);
+            parted(threshold, a, media, rays)
+        }
+        (Ok(_), Err(error)) => Step::ends(End::Refused(error)),
+        (Err(error), _) => Step::ends(End::Refused(error)),
     }
 }
 
+#[tactic(auto, unfolding(crate::specs::Steps::clear_of))]
 pub(crate) fn clear(
     config: NonSeqTraceConfig,
-    solid_values: &[f64],
-    solid_tags: &[u32],
+    solids: Solids<'_>,
     a: ActiveRay,
     hit: NonSeqHit,
 ) -> Step
-    ensures { as_step result ≡ clear_of (listed_optics solid_values.now solid_tags.now config) a hit }
+    ensures { as_step result ≡ clear_of (lent_optics solids.entry config) a hit }
 {
     let media = a.media;
     let after = beyond(media, hit);
     let wavelength = a.ray.wavelength_nm;
-    let n1 = index_in(config, solid_values, solid_tags, media, wavelength);
-    let n2 = index_in(config, solid_values, solid_tags, after, wavelength);
+    let n1 = index_in(config, solids, media, wavelength);
+    let n2 = index_in(config, solids, after, wavelength);
     between(config.min_power_threshold, a, hit, after, n1, n2)
 }

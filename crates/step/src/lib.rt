@@ -7,7 +7,7 @@ mod clear;
 mod mirror;
 
 ghost use Rattle.std.specs.Prelude.{◌≡◌};
-ghost use Rattle.step.specs.Rays.{listed_optics, listed_scene, ends_of, more_of, reflected_of, transmitted_of, as_end, as_step};
+ghost use Rattle.step.specs.Rays.{lent_optics, lent_scene, ends_of, more_of, reflected_of, transmitted_of, as_end, as_step};
 ghost use Rattle.step.specs.Steps.{caught_by_of, surface_of, interact_of, take_step_of};
 
 pub use ahead::{Ahead, first_ahead};
@@ -17,7 +17,7 @@ use faces::{Faces, Sight};
 use material::{OpticalMedium, SurfaceFinish};
 use media::Media;
 use rays::Ray;
-use scene::NonSeqHit;
+use scene::{NonSeqHit, Solids};
 
 // By which rules rays are traced.
 #[derive(Clone, Copy)]
@@ -55,7 +55,8 @@ pub enum Meeting {
     },
 }
 
-// What becomes of a ray.
+// What becomes of a ray. A refusal is one of the ways in which it ends, and the report and the run tell all of them
+// apart: no Result.
 #[derive(Clone, Copy)]
 pub enum End {
     // its power is at most the threshold
@@ -70,18 +71,16 @@ pub enum End {
     Refused(NonSeqError),
 }
 
-// One step: what becomes of the ray, and the rays that come of it, each with a flag that says whether
-// it is made.
+// One step: what becomes of the ray, and the rays that come of it, if they are made.
 #[derive(Clone, Copy)]
 pub struct Step {
     pub end: End,
-    pub first: bool,
-    pub reflected: ActiveRay,
-    pub second: bool,
-    pub transmitted: ActiveRay,
+    pub reflected: Option<ActiveRay>,
+    pub transmitted: Option<ActiveRay>,
 }
 
 // A count raised by 1, the largest excepted.
+#[tactic(auto, unfolding(crate::specs::Rays::more_of))]
 pub fn more(n: u32) -> u32
     ensures { result ≡ more_of n }
 {
@@ -91,21 +90,22 @@ pub fn more(n: u32) -> u32
     n
 }
 
-impl ActiveRay {
+impl Step {
     // The step of which no ray comes.
-    fn ends(self, end: End) -> Step
-        ensures { as_step result ≡ ends_of self (as_end end) }
+    fn ends(end: End) -> Step
+        ensures { as_step result ≡ ends_of (as_end end) }
     {
         Step {
             end,
-            first: false,
-            reflected: self,
-            second: false,
-            transmitted: self,
+            reflected: None,
+            transmitted: None,
         }
     }
+}
 
+impl ActiveRay {
     // The ray that a surface reflects, by total reflection or not.
+    #[tactic(auto, unfolding(crate::specs::Rays::reflected_of))]
     fn reflected(self, tir: bool, ray: Ray) -> ActiveRay
         ensures { result ≡ reflected_of tir self ray }
     {
@@ -130,6 +130,7 @@ impl ActiveRay {
     }
 
     // The ray that a surface lets through into the media beyond.
+    #[tactic(auto, unfolding(crate::specs::Rays::transmitted_of))]
     fn transmitted(self, ray: Ray, beyond: Media) -> ActiveRay
         ensures { result ≡ transmitted_of self ray beyond }
     {
@@ -163,62 +164,44 @@ impl ActiveRay {
 }
 
 // What the nearest solid makes of a ray.
-fn surface(
-    config: NonSeqTraceConfig,
-    solid_values: &[f64],
-    solid_tags: &[u32],
-    a: ActiveRay,
-    hit: NonSeqHit,
-) -> Step
-    ensures { as_step result ≡ surface_of (listed_optics solid_values.now solid_tags.now config) a hit }
+#[tactic(auto, unfolding(crate::specs::Steps::surface_by, crate::specs::Steps::surface_of))]
+fn surface(config: NonSeqTraceConfig, solids: Solids<'_>, a: ActiveRay, hit: NonSeqHit) -> Step
+    ensures { as_step result ≡ surface_of (lent_optics solids.entry config) a hit }
 {
     let solid = hit.object_id;
-    match scene::finish_at(solid_values, solid_tags, solid) {
-        SurfaceFinish::Specular => clear::clear(config, solid_values, solid_tags, a, hit),
+    match solids.finish_at(solid) {
+        SurfaceFinish::Specular => clear::clear(config, solids, a, hit),
         SurfaceFinish::Mirror { reflectance } => {
             mirror::mirror(config.min_power_threshold, a, hit, reflectance)
         }
-        SurfaceFinish::Absorber => a.ends(End::Met(Meeting::Stopped(a.ray.energy))),
+        SurfaceFinish::Absorber => Step::ends(End::Met(Meeting::Stopped(a.ray.energy))),
     }
 }
 
-fn interact(
-    config: NonSeqTraceConfig,
-    solid_values: &[f64],
-    solid_tags: &[u32],
-    count: u32,
-    faces: Faces,
-    a: ActiveRay,
-) -> Step
-    ensures { as_step result ≡ interact_of (listed_scene solid_values.now solid_tags.now count faces config) a }
+#[tactic(auto, unfolding(crate::specs::Steps::interact_of, crate::specs::Steps::meets_with))]
+fn interact(config: NonSeqTraceConfig, solids: Solids<'_>, faces: Faces, a: ActiveRay) -> Step
+    ensures { as_step result ≡ interact_of (lent_scene solids.entry faces config) a }
 {
     let ray = a.ray;
     let seen = faces.nearest_detector(ray);
-    let met = scene::closest_object(solid_values, solid_tags, count, ray);
+    let met = solids.closest_object(ray);
     match ahead::first_ahead(seen, met) {
-        Ahead::Detector(sight) => a.ends(End::Caught(a.caught_by(sight))),
-        Ahead::Solid(hit) => surface(config, solid_values, solid_tags, a, hit),
-        Ahead::Nothing => a.ends(End::Gone),
+        Ahead::Detector(sight) => Step::ends(End::Caught(a.caught_by(sight))),
+        Ahead::Solid(hit) => surface(config, solids, a, hit),
+        Ahead::Nothing => Step::ends(End::Gone),
     }
 }
 
-// What becomes of a ray among the first `count` of the solids in the lists and the faces of the
-// detectors.
-pub fn take_step(
-    config: NonSeqTraceConfig,
-    solid_values: &[f64],
-    solid_tags: &[u32],
-    count: u32,
-    faces: Faces,
-    a: ActiveRay,
-) -> Step
-    ensures { as_step result ≡ take_step_of (listed_scene solid_values.now solid_tags.now count faces config) a }
+// What becomes of a ray among the solids and the faces of the detectors.
+#[tactic(auto, unfolding(crate::specs::Steps::take_step_of))]
+pub fn take_step(config: NonSeqTraceConfig, solids: Solids<'_>, faces: Faces, a: ActiveRay) -> Step
+    ensures { as_step result ≡ take_step_of (lent_scene solids.entry faces config) a }
 {
     if a.ray.energy <= config.min_power_threshold {
-        return a.ends(End::Dim);
+        return Step::ends(End::Dim);
     }
     if a.bounce_count >= config.max_bounces {
-        return a.ends(End::Spent);
+        return Step::ends(End::Spent);
     }
-    interact(config, solid_values, solid_tags, count, faces, a)
+    interact(config, solids, faces, a)
 }

@@ -1,30 +1,31 @@
 // A ray at a mirror.
 ghost use Rattle.std.specs.Prelude.{◌≡◌};
-ghost use Rattle.rays.specs.Rays.{as_ray};
+ghost use Rattle.error.specs.Refusals.{as_answer};
 ghost use Rattle.step.specs.Rays.{as_meeting, as_step};
 ghost use Rattle.step.specs.Steps.{mirror_from_of, mirror_of};
 
 use crate::{ActiveRay, End, Meeting, Step};
-use rays::NewRay;
+use error::NonSeqError;
+use rays::Ray;
 use scene::NonSeqHit;
 
 // The ray is on its way again, or it could not be made.
-fn mirror_from(a: ActiveRay, meeting: Meeting, made: NewRay) -> Step
-    ensures { as_step result ≡ mirror_from_of a (as_meeting meeting) (as_ray made) }
+#[tactic(auto, unfolding(crate::specs::Steps::mirror_from_of))]
+fn mirror_from(a: ActiveRay, meeting: Meeting, made: Result<Ray, NonSeqError>) -> Step
+    ensures { as_step result ≡ mirror_from_of a (as_meeting meeting) (as_answer made) }
 {
     match made {
-        NewRay::Made(ray) => Step {
+        Ok(ray) => Step {
             end: End::Met(meeting),
-            first: true,
-            reflected: a.reflected(false, ray),
-            second: false,
-            transmitted: a,
+            reflected: Some(a.reflected(false, ray)),
+            transmitted: None,
         },
-        NewRay::Refused(error) => a.ends(End::Refused(error)),
+        Err(error) => Step::ends(End::Refused(error)),
     }
 }
 
 // Only a ray above the threshold is made.
+#[tactic(auto, unfolding(crate::specs::Steps::mirror_of))]
 pub(crate) fn mirror(threshold: f64, a: ActiveRay, hit: NonSeqHit, reflectance: f64) -> Step
     ensures { as_step result ≡ mirror_of threshold a hit reflectance }
 {
@@ -37,5 +38,5 @@ pub(crate) fn mirror(threshold: f64, a: ActiveRay, hit: NonSeqHit, reflectance: 
     if power > threshold {
         return mirror_from(a, meeting, surface::mirrored(ray, hit, power));
     }
-    a.ends(End::Met(meeting))
+    Step::ends(End::Met(meeting))
 }

@@ -5,13 +5,14 @@ use Rattle.std.specs.Float.{binary64}
 use Rattle.std.specs.Float.Ieee.{add, sub, mul, div, neg, le}
 use Rattle.doubles.specs.Doubles.{clamp_of, max_zero_of, #0, #½, #1, #2}
 use Rattle.doubles.specs.Root.{sqrt_of}
-use Rattle.error.specs.Refusals.{number_of, Answer, value, refusal}
+use Rattle.error.specs.Refusals.{Answer, value, refusal}
 use Rattle.rays.specs.declared.vector.Vec3.{Vec3}
 use Rattle.rays.specs.declared.Ray.{Ray}
 use Rattle.rays.specs.Vectors.{dot_of, plus_of, minus_of, scale_of, normalize_of}
 use Rattle.rays.specs.Rays.{offset, new_ray_of}
 use Rattle.scene.specs.declared.NonSeqHit.{NonSeqHit}
-use Rattle.surface.specs.declared.FresnelInteraction as code
+use Rattle.surface.specs.declared.FresnelInteraction.{FresnelInteraction}
+use Rattle.surface.specs.declared.FresnelInteraction.TheVariants.{Total, Split}
 
 -- a ray along d that starts 1e-6 from p, with the wavelength of r; 16 for a part that isn't finite
 unfoldable pub leaving_of : Ray → Vec3 → Vec3 → Float → Answer Ray
@@ -44,16 +45,12 @@ reflectance_of n1 n2 c1 c2 =
     clamp_of (mul binary64 #½ (add binary64 (mul binary64 rs rs) (mul binary64 rp rp))) #0 #1
 
 -- what comes of a ray at a clear surface: all of it reflected, or a reflected and a transmitted ray
-pub data FresnelInteraction : Type 0 where
-  total : Ray → FresnelInteraction
-  split : Ray → Ray → FresnelInteraction
-
 abbrev pub total_of : Answer Ray → Answer FresnelInteraction
-total_of (value r) = value (total r)
+total_of (value r) = value (Total r)
 total_of (refusal n) = refusal n
 
 abbrev pub both_of : Answer Ray → Answer Ray → Answer FresnelInteraction
-both_of (value r) (value t) = value (split r t)
+both_of (value r) (value t) = value (Split r t)
 both_of (value r) (refusal n) = refusal n
 both_of (refusal n) t = refusal n
 
@@ -74,12 +71,6 @@ compute_snell_fresnel_interaction_of r h n1 n2 power =
     cond (le (radicand_of eta c1) #0)
     (total_of (leaving_of r h.point (reflected_direction_of r.direction h.normal c1) power))
     (refract_of r h n1 n2 eta c1 power)
-
--- what the code's answer says
-abbrev pub as_interaction : code.FresnelInteraction → Answer FresnelInteraction
-as_interaction (code.TheVariants.Total r) = value (total r)
-as_interaction (code.TheVariants.Split r t) = value (split r t)
-as_interaction (code.TheVariants.Refused e) = refusal (number_of e)
 
 -- ---- mirrors
 

@@ -1,10 +1,6 @@
-use Prim.Native.Nat.{◌≤◌}
 use mathlib.Core.Path.{◌≡◌}
 use Rattle.media.specs.Media.{last_place_of}
 use Rattle.media.proofs.last_place.Given as goal
 
 abbrev pub invariant-loop-i : goal.invariant-loop-i
-invariant-loop-i l = (l.i ≤ l.depth) × ((l.depth ≤ 24) × (last_place_of l.list l.i l.solid ≡ last_place_of l.list l.depth l.solid))
-
-abbrev pub decreases-loop-i : goal.decreases-loop-i
-decreases-loop-i l = l.i
+invariant-loop-i l = last_place_of l.list l.i l.solid ≡ last_place_of l.list l.depth l.solid
