@@ -1,11 +1,9 @@
 -- A run of steps into any memory that hits can be put into: the lent memory is one, the plain book another.
-use Rattle.std.specs.Prelude.{ℕ, zero, suc, Bool, false, cond, ◌&&◌, ◌||◌, List, ltb, Float}
-use Rattle.std.proofs.Math.Option.{Option, none, some}
-use Rattle.error.specs.declared.Check.{Check}
-use Rattle.error.specs.declared.Check.TheVariants.{Passed, Refused}
+use Rattle.std.specs.Prelude.{ℕ, zero, suc, Bool, false, cond, ◌&&◌, ◌||◌, ltb, Float, Option, None, Some, Result, Ok, Err}
+use Rattle.error.specs.declared.Refusal.{Refusal}
 use Rattle.error.specs.Refusals.{Checked, passed, refused_at}
 use Rattle.detector.specs.declared.DetectorHit.{DetectorHit}
-use Rattle.memory.specs.Memory.{Memory, lent_memory, Outcome, done, refused, unless, as_outcome, record_of}
+use Rattle.memory.specs.Memory.{Memory, Outcome, done, refused, unless, as_outcome, record_of}
 use Rattle.step.specs.declared.ActiveRay.{ActiveRay}
 use Rattle.step.specs.Rays.{Scene, Step, End, dim, spent, gone, caught, met, refusing}
 use Rattle.step.specs.Steps.{take_step_of}
@@ -14,8 +12,6 @@ use Rattle.report.specs.Report.{report_after_of, counted_of}
 use Rattle.run.specs.declared.stack.Taken.{Taken}
 use Rattle.run.specs.declared.Progress.{Progress}
 use Rattle.run.specs.declared.Advanced.{Advanced}
-use Rattle.run.specs.declared.settling.Catch.{Catch}
-use Rattle.run.specs.declared.settling.Catch.TheVariants.{Hit, Nothing}
 use Rattle.run.specs.Stack.{taken_from, stack_after}
 
 -- where a run stands: the memory or a refusal, and the progress
@@ -30,12 +26,12 @@ pub record Settled (M : Type 0) : Type 0 where
 
 -- the hit that a step brings, if any
 unfoldable pub hit_in_of : End → Option DetectorHit
-hit_in_of dim = none
-hit_in_of spent = none
-hit_in_of gone = none
-hit_in_of (caught h) = some h
-hit_in_of (met m) = none
-hit_in_of (refusing n) = none
+hit_in_of dim = None
+hit_in_of spent = None
+hit_in_of gone = None
+hit_in_of (caught h) = Some h
+hit_in_of (met m) = None
+hit_in_of (refusing n) = None
 
 -- 14 to 16, at the given ray's place
 unfoldable pub refusal_in_of : End → ℕ → Checked Unit
@@ -63,8 +59,8 @@ and_then go (refused n place m) p = record { outcome = refused n place m; progre
 module _ {M : Type 0} (put : M → DetectorHit → Outcome M) where
   -- found and after are the reports before the step and after it
   abbrev pub settle_with : M → ℕ → NonSeqTraceReport → NonSeqTraceReport → Checked Unit → Option DetectorHit → Settled M
-  settle_with m place found after c (some h) = put_from place found after (put m h)
-  settle_with m place found after c none = record { outcome = unless c m (done m); report = after }
+  settle_with m place found after c (Some h) = put_from place found after (put m h)
+  settle_with m place found after c None = record { outcome = unless c m (done m); report = after }
 
   abbrev pub settle : M → ℕ → NonSeqTraceReport → Float → Step → Settled M
   settle m place r power s =
@@ -97,26 +93,22 @@ advance_of S given k m p = drive record_of S given k m p
 
 -- ---- what the code's answers say
 
-abbrev pub as_catch : Catch → Option DetectorHit
-as_catch (Hit h) = some h
-as_catch Nothing = none
-
-abbrev pub as_run : Check → Memory → Progress → Run Memory
+abbrev pub as_run : Result Unit Refusal → Memory → Progress → Run Memory
 as_run c m p = record { outcome = as_outcome c m; progress = p }
 
-abbrev pub as_advanced : Advanced → List Float → List ℕ → List Float → List ℕ → Run Memory
-as_advanced r f h v t = as_run r.check (lent_memory r.detectors f h v t r.used) r.progress
+abbrev pub as_advanced : Advanced → Memory → Run Memory
+as_advanced r m = as_run r.check m r.progress
 
 -- whether the loop goes on: not refused, steps left to take, a ray left
-unfoldable pub goes_on_of : Check → ℕ → ℕ → ℕ → Bool
-goes_on_of Passed k len left = ltb 0 k && (ltb 0 len || ltb 0 left)
-goes_on_of (Refused e place) k len left = false
+unfoldable pub goes_on_of : Result Unit Refusal → ℕ → ℕ → ℕ → Bool
+goes_on_of (Ok u) k len left = ltb 0 k && (ltb 0 len || ltb 0 left)
+goes_on_of (Err r) k len left = false
 
 -- a refusal at another place
-abbrev pub placed_of : Check → ℕ → Check
-placed_of Passed place = Passed
-placed_of (Refused e at) place = Refused e place
+abbrev pub placed_of : Result Unit Refusal → ℕ → Result Unit Refusal
+placed_of (Ok u) place = Ok u
+placed_of (Err r) place = Err (record { error = r.error; place = place })
 
-abbrev pub settled_of : Check → NonSeqTraceReport → NonSeqTraceReport → NonSeqTraceReport
-settled_of Passed found after = after
-settled_of (Refused e at) found after = counted_of found
+abbrev pub settled_of : Result Unit Refusal → NonSeqTraceReport → NonSeqTraceReport → NonSeqTraceReport
+settled_of (Ok u) found after = after
+settled_of (Err r) found after = counted_of found

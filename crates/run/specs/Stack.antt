@@ -1,5 +1,5 @@
 -- The work stack, the newest ray last.
-use Rattle.std.specs.Prelude.{ℕ, ◌+◌, ◌-◌, Bool, cond, ◌&&◌, [], leb, ltb, get_or, set, replicate}
+use Rattle.std.specs.Prelude.{ℕ, ◌+◌, ◌-◌, cond, ◌&&◌, [], leb, ltb, get_or, set, replicate, Option, None, Some}
 use Rattle.std.specs.Float.{nan}
 use Rattle.rays.specs.Vectors.{vec3}
 use Rattle.step.specs.declared.ActiveRay.{ActiveRay}
@@ -42,8 +42,9 @@ taken_from given s left =
 unfoldable pub pushed : Stack → ActiveRay → Stack
 pushed s a = record { rays = set s.rays s.len a; len = s.len + 1 }
 
-unfoldable pub pushed_if : Bool → Stack → ActiveRay → Stack
-pushed_if b s a = cond b (pushed s a) s
+unfoldable pub pushed_if : Stack → Option ActiveRay → Stack
+pushed_if s (Some a) = pushed s a
+pushed_if s None = s
 
 unfoldable pub popped : Stack → Stack
 popped s = record { rays = s.rays; len = s.len - 1 }
@@ -53,7 +54,7 @@ popped s = record { rays = s.rays; len = s.len - 1 }
 unfoldable pub stack_after : Stack → Step → Stack
 stack_after s e =
     cond (ltb (popped s).len pair_room)
-    (pushed_if e.second (pushed_if e.«first» (popped s) e.reflected) e.transmitted) (popped s)
+    (pushed_if (pushed_if (popped s) e.reflected) e.transmitted) (popped s)
 
 -- ---- what the code's functions are held to
 

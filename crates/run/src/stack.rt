@@ -1,9 +1,10 @@
 // The work stack, the newest ray last: 17 rays, taken by value and handed back with each step.
-ghost use Rattle.std.specs.Prelude.{◌≡◌, ◌-◌, ◌<◌};
+ghost use Rattle.std.specs.Prelude.{◌≡◌, ◌<◌};
 ghost use Rattle.step.specs.Rays.{as_step};
-ghost use Rattle.given_rays.specs.Given.{given_at_of};
+ghost use Rattle.given_rays.specs.Given.{rays_given};
 ghost use Rattle.run.specs.Stack.{empty_stack_of, load_of, top_at_of, take_of, popped_of, stack_after_of, max_stack};
 
+use given_rays::GivenRays;
 use step::{ActiveRay, Step};
 
 // The most rays on the stack. A place below PAIR_ROOM has room for two more.
@@ -11,6 +12,7 @@ const MAX_STACK: usize = 17;
 
 const PAIR_ROOM: usize = MAX_STACK - 1;
 
+// An array and a length, since nothing is on the heap.
 #[derive(Clone, Copy)]
 pub struct Stack {
     pub rays: [ActiveRay; MAX_STACK],
@@ -24,70 +26,42 @@ pub struct Taken {
     pub left: u32,
 }
 
-// One given ray fewer; none stays none.
-fn fewer(left: u32) -> u32
-    ensures { result ≡ left - 1 }
-{
-    if 0 < left {
-        return left - 1;
-    }
-    0
-}
-
 // The last given ray that is left.
-fn load(left: u32, ray_values: &[f64], ray_tags: &[u32]) -> Taken
-    ensures { result ≡ load_of (given_at_of ray_values.now ray_tags.now) left }
+#[tactic(auto, unfolding(crate::specs::Stack::load_of))]
+fn load(left: u32, given: GivenRays<'_>) -> Taken
+    ensures { result ≡ load_of (rays_given given.entry) left }
 {
-    let next = fewer(left);
+    let next = left.saturating_sub(1);
     Taken {
-        ray: given_rays::given_at(ray_values, ray_tags, next),
+        ray: given.at(next),
         left: next,
     }
 }
 
 // Where the newest ray stands; 0 for a stack that holds none.
+#[tactic(auto, unfolding(crate::specs::Stack::top_at_of))]
 pub(crate) fn top_at(len: usize) -> usize
     ensures { (result ≡ top_at_of len) × (result < max_stack) }
 {
-    if 0 < len {
-        if len <= MAX_STACK {
-            return len - 1;
-        }
-        return 0;
-    }
-    0
-}
-
-// The newest ray: the top of the stack, or else the last given ray that is left.
-pub(crate) fn take(
-    top: ActiveRay,
-    len: usize,
-    left: u32,
-    ray_values: &[f64],
-    ray_tags: &[u32],
-) -> Taken
-    ensures { result ≡ take_of (given_at_of ray_values.now ray_tags.now) top len left }
-{
-    if 0 < len {
-        if len <= MAX_STACK {
-            return Taken { ray: top, left };
-        }
-        return load(left, ray_values, ray_tags);
-    }
-    load(left, ray_values, ray_tags)
-}
-
-// One ray fewer; none stays none.
-fn under(len: usize) -> usize
-    ensures { result ≡ len - 1 }
-{
-    if 0 < len {
+    if 0 < len && len <= MAX_STACK {
         return len - 1;
     }
     0
 }
 
+// The newest ray: the top of the stack, or else the last given ray that is left.
+#[tactic(auto, unfolding(crate::specs::Stack::take_of))]
+pub(crate) fn take(top: ActiveRay, len: usize, left: u32, given: GivenRays<'_>) -> Taken
+    ensures { result ≡ take_of (rays_given given.entry) top len left }
+{
+    if 0 < len && len <= MAX_STACK {
+        return Taken { ray: top, left };
+    }
+    load(left, given)
+}
+
 impl Stack {
+    #[tactic(auto, unfolding(crate::specs::Stack::empty_stack_of))]
     pub fn empty() -> Stack
         ensures { result ≡ empty_stack_of }
     {
@@ -97,13 +71,14 @@ impl Stack {
     }
 
     // After a step of which no ray comes: the newest ray is gone.
+    #[tactic(auto, unfolding(crate::specs::Stack::popped))]
     pub(crate) fn popped(self) -> Stack
         ensures { result ≡ popped_of self }
     {
         let rays = self.rays;
         Stack {
             rays,
-            len: under(self.len),
+            len: self.len.saturating_sub(1),
         }
     }
 
@@ -113,16 +88,14 @@ impl Stack {
         ensures { result ≡ stack_after_of self (as_step e) }
     {
         let mut rays = self.rays;
-        let mut at = under(self.len);
-        let reflected = e.reflected;
-        let transmitted = e.transmitted;
+        let mut at = self.len.saturating_sub(1);
         if at < PAIR_ROOM {
-            if e.first {
-                rays[at] = reflected;
+            if let Some(ray) = e.reflected {
+                rays[at] = ray;
                 at += 1;
             }
-            if e.second {
-                rays[at] = transmitted;
+            if let Some(ray) = e.transmitted {
+                rays[at] = ray;
                 at += 1;
             }
         }

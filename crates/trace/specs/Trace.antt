@@ -1,21 +1,22 @@
 -- A tracing: the checks before the run in document 01's order, then steps until no ray is left.
-use Rattle.std.specs.Prelude.{ℕ, cond, ◌&&◌, List, leb, Float, length}
+use Rattle.std.specs.Prelude.{ℕ, cond, ◌&&◌, List, leb, Float, length, Err}
 use Rattle.std.specs.Float.Ieee.{le}
 use Rattle.doubles.specs.Doubles.{is_finite_of, #0}
-use Rattle.error.specs.declared.NonSeqError.{NonSeqError}
-use Rattle.error.specs.declared.Check.TheVariants.{Refused}
+use Rattle.error.specs.declared.Refusal.{Refusal}
 use Rattle.error.specs.Refusals.{Checked, passed, refused_at, after}
+use Rattle.scene.specs.declared.solids.Solids as solids
 use Rattle.scene.specs.Solids.{check_solids_of, max_solids}
 use Rattle.detectors.specs.declared.Detectors.{Detectors}
 use Rattle.detectors.specs.Detectors.{check_count_of, check_each_of}
 use Rattle.detector.specs.declared.DetectorHit.{DetectorHit}
-use Rattle.memory.specs.Memory.{Memory, lent_memory, Outcome, refused, as_outcome, are_lengths_of, record_of}
+use Rattle.memory.specs.Memory.{Memory, Outcome, refused, as_outcome, are_lengths_of, record_of}
 use Rattle.faces.specs.Faces.{new_faces_of}
 use Rattle.step.specs.declared.NonSeqTraceConfig.{NonSeqTraceConfig}
 use Rattle.step.specs.declared.ActiveRay.{ActiveRay}
 use Rattle.step.specs.Rays.{Scene, listed_scene}
 use Rattle.report.specs.declared.NonSeqTraceReport.{NonSeqTraceReport}
 use Rattle.report.specs.Report.{start_report_of}
+use Rattle.given_rays.specs.declared.GivenRays as rays
 use Rattle.given_rays.specs.Given.{given_at_of, check_lists_of, check_rays_of, launched_of, max_rays}
 use Rattle.run.specs.declared.Progress.{Progress}
 use Rattle.run.specs.declared.Advanced.{Advanced}
@@ -36,6 +37,10 @@ pub record Batch : Type 0 where
 abbrev pub lent_batch : NonSeqTraceConfig → List Float → List ℕ → ℕ → List Float → List ℕ → ℕ → Batch
 lent_batch g x k n v t m =
     record { config = g; solid_values = x; solid_tags = k; solids = n; ray_values = v; ray_tags = t; rays = m }
+
+-- of the code's lists
+abbrev pub as_batch : NonSeqTraceConfig → solids.Solids → rays.GivenRays → Batch
+as_batch g s r = lent_batch g s.values.now s.tags.now s.count r.values.now r.tags.now r.count
 
 abbrev pub rays_in : Batch → ℕ → ActiveRay
 rays_in B = given_at_of B.ray_values B.ray_tags
@@ -124,12 +129,10 @@ trace_rays_of B s = trace_after (check_batch B s) s (run_on record_of s.detector
 
 -- what the code's answers say
 abbrev pub answer_of : Advanced → Traced
-answer_of r = record { check = r.check; report = r.progress.report; detectors = r.detectors; used = r.used }
+answer_of r = record { check = r.check; report = r.progress.report }
 
-abbrev pub refused_before_of : NonSeqError → ℕ → Detectors → ℕ → Traced
-refused_before_of e place ds used =
-    record { check = Refused e place; report = start_report_of 0 #0; detectors = ds; used = used }
+abbrev pub refused_before_of : Refusal → Traced
+refused_before_of r = record { check = Err r; report = start_report_of 0 #0 }
 
-abbrev pub as_traced : Traced → List Float → List ℕ → List Float → List ℕ → Trace Memory
-as_traced r f h v t =
-    record { outcome = as_outcome r.check (lent_memory r.detectors f h v t r.used); report = r.report }
+abbrev pub as_traced : Traced → Memory → Trace Memory
+as_traced r m = record { outcome = as_outcome r.check m; report = r.report }

@@ -1,164 +1,121 @@
 // The checks before a run, in document 01's order.
-ghost use Rattle.std.specs.Prelude.{◌≡◌};
+ghost use Rattle.std.specs.Prelude.{◌≡◌, length};
 ghost use Rattle.error.specs.Refusals.{as_checked};
-ghost use Rattle.trace.specs.Trace.{lent_batch, check_flat_of, check_config_of, check_counts_of, check_rules_of, check_scene_of, check_lengths_of, check_trace_of};
+ghost use Rattle.memory.specs.Memory.{as_memory};
+ghost use Rattle.trace.specs.Trace.{as_batch, check_flat_of, check_config_of, check_counts_of, check_rules_of, check_scene_of, check_lengths_of, check_batch};
 
 use detectors::Detectors;
-use error::{Check, NonSeqError};
-use given_rays::MAX_RAYS;
-use scene::MAX_SOLIDS;
+use error::{NonSeqError, Refusal};
+use given_rays::{GivenRays, MAX_RAYS};
+use memory::Memory;
+use scene::{MAX_SOLIDS, Solids};
 use step::NonSeqTraceConfig;
 
 // Lists of solids or rays that do not fit (17).
+#[tactic(auto, unfolding(crate::specs::Trace::check_flat_of))]
 fn check_flat(
     config: NonSeqTraceConfig,
-    solid_values: &[f64],
-    solid_tags: &[u32],
-    count: u32,
-    ray_values: &[f64],
-    ray_tags: &[u32],
-    given: u32,
-) -> Check
-    ensures { as_checked result ≡ check_flat_of (lent_batch config solid_values.now solid_tags.now count ray_values.now ray_tags.now given) }
+    solids: Solids<'_>,
+    given: GivenRays<'_>,
+) -> Result<(), Refusal>
+    ensures { as_checked result ≡ check_flat_of (as_batch config solids.entry given.entry) }
 {
-    match scene::check_solids(solid_values, solid_tags, count) {
-        Check::Passed => given_rays::check_lists(ray_values.len(), ray_tags.len(), given),
-        Check::Refused { error, place } => Check::Refused { error, place },
-    }
+    solids.check()?;
+    given.check_lists()
 }
 
 // The largest bounce limit (else 2).
 const MAX_BOUNCES: u32 = 16;
 
 // The threshold (1), then the bounce limit (2).
-fn check_config(config: NonSeqTraceConfig) -> Check
+#[tactic(auto, unfolding(crate::specs::Trace::check_config_of))]
+fn check_config(config: NonSeqTraceConfig) -> Result<(), Refusal>
     ensures { as_checked result ≡ check_config_of config }
 {
     let threshold = config.min_power_threshold;
-    if doubles::is_finite(threshold) {
-        if threshold >= 0.0 {
-            if config.max_bounces <= MAX_BOUNCES {
-                return Check::Passed;
-            }
-            return Check::Refused {
-                error: NonSeqError::BounceLimitTooLarge,
-                place: 0,
-            };
+    if doubles::is_finite(threshold) && threshold >= 0.0 {
+        if config.max_bounces <= MAX_BOUNCES {
+            return Ok(());
         }
+        return Err(Refusal {
+            error: NonSeqError::BounceLimitTooLarge,
+            place: 0,
+        });
     }
-    Check::Refused {
+    Err(Refusal {
         error: NonSeqError::InvalidThreshold,
         place: 0,
-    }
+    })
 }
 
 // At most 32 solids, 4,096 rays and 8 detectors (3).
-fn check_counts(count: u32, given: u32, detectors: u32) -> Check
+#[tactic(auto, unfolding(crate::specs::Trace::check_counts_of))]
+fn check_counts(count: u32, given: u32, detectors: u32) -> Result<(), Refusal>
     ensures { as_checked result ≡ check_counts_of count given detectors }
 {
-    if count <= MAX_SOLIDS {
-        if given <= MAX_RAYS {
-            return Detectors::check_count(detectors);
-        }
+    if count <= MAX_SOLIDS && given <= MAX_RAYS {
+        return Detectors::check_count(detectors);
     }
-    Check::Refused {
+    Err(Refusal {
         error: NonSeqError::ListTooLong,
         place: 0,
-    }
+    })
 }
 
-fn check_rules(config: NonSeqTraceConfig, count: u32, given: u32, detectors: u32) -> Check
+#[tactic(auto, unfolding(crate::specs::Trace::check_rules_of))]
+fn check_rules(
+    config: NonSeqTraceConfig,
+    count: u32,
+    given: u32,
+    detectors: u32,
+) -> Result<(), Refusal>
     ensures { as_checked result ≡ check_rules_of config count given detectors }
 {
-    match check_config(config) {
-        Check::Passed => check_counts(count, given, detectors),
-        Check::Refused { error, place } => Check::Refused { error, place },
-    }
+    check_config(config)?;
+    check_counts(count, given, detectors)
 }
 
 // What comes before the memory's slices: the lists (17), the rules (1, 2), the numbers (3), each detector (5 to 8
 // and 18).
+#[tactic(auto, unfolding(crate::specs::Trace::check_scene_of))]
 fn check_scene(
     config: NonSeqTraceConfig,
-    solid_values: &[f64],
-    solid_tags: &[u32],
-    count: u32,
-    ray_values: &[f64],
-    ray_tags: &[u32],
-    given: u32,
+    solids: Solids<'_>,
+    given: GivenRays<'_>,
     detectors: Detectors,
-) -> Check
-    ensures { as_checked result ≡ check_scene_of (lent_batch config solid_values.now solid_tags.now count ray_values.now ray_tags.now given) detectors }
+) -> Result<(), Refusal>
+    ensures { as_checked result ≡ check_scene_of (as_batch config solids.entry given.entry) detectors }
 {
-    match check_flat(
-        config,
-        solid_values,
-        solid_tags,
-        count,
-        ray_values,
-        ray_tags,
-        given,
-    ) {
-        Check::Passed => match check_rules(config, count, given, detectors.count) {
-            Check::Passed => detectors.check_each(),
-            Check::Refused { error, place } => Check::Refused { error, place },
-        },
-        Check::Refused { error, place } => Check::Refused { error, place },
-    }
+    check_flat(config, solids, given)?;
+    check_rules(config, solids.count, given.count, detectors.count)?;
+    detectors.check_each()
 }
 
 // The memory's slices (9).
-fn check_lengths(
-    detectors: Detectors,
-    flux: usize,
-    hits: usize,
-    hit_values: usize,
-    hit_tags: usize,
-    used: usize,
-) -> Check
-    ensures { as_checked result ≡ check_lengths_of detectors flux hits hit_values hit_tags used }
+#[tactic(auto, unfolding(crate::specs::Trace::check_lengths_of, memory::specs::Memory::is_memory))]
+fn check_lengths(memory: &Memory<'_>) -> Result<(), Refusal>
+    ensures { as_checked result ≡ check_lengths_of memory.now.detectors (length memory.now.flux.now) (length memory.now.hits.now) (length memory.now.hit_values.now) (length memory.now.hit_tags.now) memory.now.used }
 {
-    if memory::are_lengths(detectors, flux, hits, hit_values, hit_tags, used) {
-        return Check::Passed;
+    if memory.fits() {
+        return Ok(());
     }
-    Check::Refused {
+    Err(Refusal {
         error: NonSeqError::InvalidSliceLength,
         place: 0,
-    }
+    })
 }
 
-// All checks of a tracing; flux, hits, hit_values and hit_tags are the lengths of the memory's slices.
+// All checks of a tracing.
+#[tactic(auto, unfolding(crate::specs::Trace::check_batch, crate::specs::Trace::check_trace_of, crate::specs::Trace::checks_with))]
 pub fn check_trace(
     config: NonSeqTraceConfig,
-    solid_values: &[f64],
-    solid_tags: &[u32],
-    count: u32,
-    ray_values: &[f64],
-    ray_tags: &[u32],
-    given: u32,
-    detectors: Detectors,
-    flux: usize,
-    hits: usize,
-    hit_values: usize,
-    hit_tags: usize,
-    used: usize,
-) -> Check
-    ensures { as_checked result ≡ check_trace_of (lent_batch config solid_values.now solid_tags.now count ray_values.now ray_tags.now given) detectors flux hits hit_values hit_tags used }
+    solids: Solids<'_>,
+    given: GivenRays<'_>,
+    memory: &Memory<'_>,
+) -> Result<(), Refusal>
+    ensures { as_checked result ≡ check_batch (as_batch config solids.entry given.entry) (as_memory memory.now) }
 {
-    match check_scene(
-        config,
-        solid_values,
-        solid_tags,
-        count,
-        ray_values,
-        ray_tags,
-        given,
-        detectors,
-    ) {
-        Check::Passed => match check_lengths(detectors, flux, hits, hit_values, hit_tags, used) {
-            Check::Passed => given_rays::check_rays(ray_values, ray_tags, given, count),
-            Check::Refused { error, place } => Check::Refused { error, place },
-        },
-        Check::Refused { error, place } => Check::Refused { error, place },
-    }
+    check_scene(config, solids, given, memory.detectors)?;
+    check_lengths(memory)?;
+    given.check(solids.count)
 }

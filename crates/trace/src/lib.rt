@@ -4,40 +4,41 @@
 mod checks;
 
 ghost use Rattle.std.specs.Prelude.{◌≡◌};
-ghost use Rattle.memory.specs.Memory.{lent_memory};
-ghost use Rattle.given_rays.specs.Given.{given_at_of};
-ghost use Rattle.trace.specs.Trace.{lent_batch, start_of, answer_of, refused_before_of, trace_rays_of, as_traced};
+ghost use Rattle.memory.specs.Memory.{SameSlices, as_memory};
+ghost use Rattle.given_rays.specs.Given.{rays_given};
+ghost use Rattle.trace.specs.Trace.{as_batch, start_of, answer_of, refused_before_of, trace_rays_of, as_traced};
 
 pub use checks::check_trace;
-use detectors::Detectors;
-use error::{Check, NonSeqError};
+use error::Refusal;
 use faces::Faces;
+use given_rays::GivenRays;
+use memory::Memory;
 use report::NonSeqTraceReport;
 use run::{Advanced, Progress, Stack};
+use scene::Solids;
 use step::NonSeqTraceConfig;
 
 // More steps than any batch takes.
 const ALL_STEPS: u32 = 4294967295;
 
-// The refusal or none, the ledger and tallies, and what goes on: the detectors' records and the number
-// of hits used.
+// The refusal or none, and the ledger and tallies. No Result: a run that is refused answers what its steps before
+// that made.
 #[derive(Clone, Copy)]
 pub struct Traced {
-    pub check: Check,
+    pub check: Result<(), Refusal>,
     pub report: NonSeqTraceReport,
-    pub detectors: Detectors,
-    pub used: usize,
 }
 
 // Before the first step.
-fn start(ray_values: &[f64], ray_tags: &[u32], given: u32) -> Progress
-    ensures { result ≡ start_of (given_at_of ray_values.now ray_tags.now) given }
+#[tactic(auto, unfolding(crate::specs::Trace::start_of))]
+fn start(given: GivenRays<'_>) -> Progress
+    ensures { result ≡ start_of (rays_given given.entry) given.entry.count }
 {
-    let launched = given_rays::launched(ray_values, ray_tags, given);
+    let launched = given.launched();
     Progress {
         stack: Stack::empty(),
-        left: given,
-        report: NonSeqTraceReport::start(given, launched),
+        left: given.count,
+        report: NonSeqTraceReport::start(given.count, launched),
     }
 }
 
@@ -45,90 +46,41 @@ fn start(ray_values: &[f64], ray_tags: &[u32], given: u32) -> Progress
 fn answer(r: Advanced) -> Traced
     ensures { result ≡ answer_of r }
 {
-    let check = r.check;
-    let detectors = r.detectors;
-    let p = r.progress;
-    let report = p.report;
     Traced {
-        check,
-        report,
-        detectors,
-        used: r.used,
+        check: r.check,
+        report: r.progress.report,
     }
 }
 
 // What is refused before the run: nothing has changed, and the report is all zeros.
-fn refused_before(error: NonSeqError, place: u32, detectors: Detectors, used: usize) -> Traced
-    ensures { result ≡ refused_before_of error place detectors used }
+fn refused_before(refusal: Refusal) -> Traced
+    ensures { result ≡ refused_before_of refusal }
 {
     Traced {
-        check: Check::Refused { error, place },
+        check: Err(refusal),
         report: NonSeqTraceReport::start(0, 0.0),
-        detectors,
-        used,
     }
 }
 
-// Traces `given` rays through `count` solids to the detectors, rays last to first. `solid_values` and
-// `solid_tags` are the solids, `ray_values` and `ray_tags` the given rays; `flux`, `hits`, `hit_values` and
-// `hit_tags` the memory. What is refused before the run changes nothing (17, 1, 2, 3, 5 to 8 and 18, 9, 10, 11);
-// what is refused in it (12 to 16) keeps the hits of the steps before.
+// Traces the given rays through the solids to the memory's detectors, rays last to first. What is refused before the
+// run changes nothing (17, 1, 2, 3, 5 to 8 and 18, 9, 10, 11); what is refused in it (12 to 16) keeps the hits of the
+// steps before.
 pub fn trace_rays(
     config: NonSeqTraceConfig,
-    solid_values: &[f64],
-    solid_tags: &[u32],
-    count: u32,
-    ray_values: &[f64],
-    ray_tags: &[u32],
-    given: u32,
-    detectors: Detectors,
-    flux: &mut [f64],
-    hits: &mut [u32],
-    hit_values: &mut [f64],
-    hit_tags: &mut [u32],
-    used: usize,
+    solids: Solids<'_>,
+    given: GivenRays<'_>,
+    memory: &mut Memory<'_>,
 ) -> Traced
-    ensures { as_traced result flux.new hits.new hit_values.new hit_tags.new
-        ≡ trace_rays_of (lent_batch config solid_values.now solid_tags.now count ray_values.now ray_tags.now given)
-        (lent_memory detectors flux.old hits.old hit_values.old hit_tags.old used) }
+    ensures same_slices { SameSlices memory.old memory.new }
+    ensures value { as_traced result (as_memory memory.new)
+        ≡ trace_rays_of (as_batch config solids.entry given.entry) (as_memory memory.old) }
 {
-    match check_trace(
-        config,
-        solid_values,
-        solid_tags,
-        count,
-        ray_values,
-        ray_tags,
-        given,
-        detectors,
-        flux.len(),
-        hits.len(),
-        hit_values.len(),
-        hit_tags.len(),
-        used,
-    ) {
-        Check::Refused { error, place } => refused_before(error, place, detectors, used),
-        Check::Passed => {
-            let faces = Faces::new(detectors);
-            let progress = start(ray_values, ray_tags, given);
-            let r = run::advance(
-                config,
-                solid_values,
-                solid_tags,
-                count,
-                faces,
-                ray_values,
-                ray_tags,
-                progress,
-                ALL_STEPS,
-                detectors,
-                flux,
-                hits,
-                hit_values,
-                hit_tags,
-                used,
-            );
-            answer(r)
-        }
+    let check = check_trace(config, solids, given, memory);
+    if let Err(refusal) = check {
+        return refused_before(refusal);
     }
+    let faces = Faces::new(memory.detectors);
+    let progress = start(given);
+    let r = run::advance(config, solids, faces, given, progress, ALL_STEPS, memory);
+    answer(r)
 }
