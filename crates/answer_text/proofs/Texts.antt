@@ -36,6 +36,3 @@ pixels_end d w i m l p z h f = rw (drop_of_length-le m h) at f
 pub each_end : (text : ℕ → List ℕ) (n d : ℕ) (l : List ℕ) (p : ℕ) (z : Out) → n ≤ d → put_all l p (each_from text (n - d) d) ≡ z → out l p ≡ z
 unfolding each_from put_all
 each_end text n d l p z h f = let q : n - d ≡ 0 = omega arith in rw q at f
-
-pub each_start : (text : ℕ → List ℕ) (n k : ℕ) (l : List ℕ) (p : ℕ) → n ≡ k → put_all l p (each_from text (n - 0) 0) ≡ put_all l p (each_from text k 0)
-each_start text n k l p e = let q : n - 0 ≡ k = omega arith in ap (λ j. put_all l p (each_from text j 0)) q

@@ -1,12 +1,12 @@
 -- The answer of a tracing as text: ledger, tallies, detectors, pixels.
-use Rattle.std.specs.Prelude.{ℕ, zero, suc, ◌+◌, ◌/◌, ◌%◌, List, [], ◌∷◌, ◌++◌, cond, leb, eqb, Float, take, replicate}
+use Rattle.std.specs.Prelude.{ℕ, zero, suc, ◌+◌, ◌/◌, ◌%◌, List, [], ◌∷◌, ◌++◌, cond, leb, eqb, Float, take, replicate, Option, Some, None}
 use Prim.Native.String.{String}
-use Rattle.std.proofs.Math.Option.{Option, none as nothing, some}
 use Rattle.std.specs.Float.Ieee.{ne}
 use Rattle.detector.specs.Pixels.{pixels_of}
 use Rattle.detectors.specs.declared.Detectors.{Detectors}
 use Rattle.detectors.specs.declared.Placed.{Placed}
 use Rattle.detectors.specs.Detectors.{max_detectors, at_of}
+use Rattle.filter.specs.declared.calls.Held as code
 use Rattle.filter.specs.declared.RayPathFilter.{RayPathFilter}
 use Rattle.filter.specs.declared.RayPathFilter.TheVariants.{SignalOnly, StrayLight}
 use Rattle.filter.specs.Handed.{Handed, refilter_of, filtered_pixel_flux_of}
@@ -49,14 +49,18 @@ pub record Held : Type 0 where
 abbrev pub held : Detectors → List Float → List Float → List ℕ → ℕ → Held
 held ds f v t n = record { detectors = ds; flux = f; hit_values = v; hit_tags = t; used = n }
 
+-- as the code has it
+abbrev pub as_held : code.Held → Held
+as_held h = held h.detectors h.flux.now h.hit_values.now h.hit_tags.now h.used
+
 -- as many pixels as there is room for
 unfoldable pub few_of : ℕ → ℕ
 few_of n = cond (leb n text_pixels) n text_pixels
 
 -- how many pixels a detector has, and how many columns; none if it is not there
 unfoldable pub grid_from : Option Placed → Grid
-grid_from (some p) = record { pixels = few_of (pixels_of p.detector); columns = p.detector.res_x }
-grid_from nothing = record { pixels = 0; columns = 0 }
+grid_from (Some p) = record { pixels = few_of (pixels_of p.detector); columns = p.detector.res_x }
+grid_from None = record { pixels = 0; columns = 0 }
 
 unfoldable pub grid_at_of : Detectors → ℕ → Grid
 grid_at_of ds d = grid_from (at_of ds (record { 0 = d }))

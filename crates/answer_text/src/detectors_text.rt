@@ -1,13 +1,16 @@
 // The lines of all detectors, and of all their pixels.
-ghost use Rattle.std.specs.Prelude.{◌≡◌};
+ghost use Rattle.std.specs.Prelude.{◌≡◌, ℕ, List};
 ghost use Rattle.printing.specs.Printing.{out, put_all};
-ghost use Rattle.answer_text.specs.Answer.{held, detector_text, detector_map_text, each_from, detector_count_of};
+ghost use Rattle.filter.specs.declared.RayPathFilter.{RayPathFilter};
+ghost use Rattle.answer_text.specs.Answer as spec;
+ghost use Rattle.answer_text.specs.Answer.{as_held, detector_text, detector_map_text, each_from, detector_count_of};
 
 use crate::maps;
 use detectors::Detectors;
-use filter::RayPathFilter;
+use filter::{Held, RayPathFilter};
 
 // A count that is refused (3) is no count.
+#[tactic(auto, unfolding(crate::specs::Answer::detector_count_of))]
 fn detector_count(count: u32) -> u32
     ensures { result ≡ detector_count_of count }
 {
@@ -17,52 +20,51 @@ fn detector_count(count: u32) -> u32
     0
 }
 
-pub(crate) fn put_detectors(
-    buf: &mut [u8],
-    at: usize,
-    detectors: Detectors,
-    filter: RayPathFilter,
-    flux: &[f64],
-    hit_values: &[f64],
-    hit_tags: &[u32],
-    used: usize,
-) -> usize
-    ensures { out buf.new result ≡ put_all buf.old at
-        (each_from (detector_text (held detectors flux.now hit_values.now hit_tags.now used) filter) (detector_count_of detectors.count) 0) }
-{
-    let n = detector_count(detectors.count);
-    let mut p = at;
-    let mut d: u32 = 0;
-    while d < n {
-        p = maps::put_detector(
-            buf, p, detectors, d, filter, flux, hit_values, hit_tags, used,
-        );
-        d += 1;
-    }
-    p
+// What is written of each detector.
+pub(crate) trait Listed {
+    ghost text: { spec.Held → RayPathFilter → ℕ → List ℕ };
+
+    // That of detector d at place `at`, and the place after it.
+    fn put(buf: &mut [u8], at: usize, held: Held<'_>, d: u32, filter: RayPathFilter) -> usize
+        ensures { out buf.new result ≡ put_all buf.old at (text (as_held held.entry) filter d) };
 }
 
-pub(crate) fn put_maps(
+// Its line.
+pub(crate) struct Line;
+
+// The lines of its pixels.
+pub(crate) struct Pixels;
+
+impl Listed for Line {
+    ghost text = { detector_text };
+
+    fn put(buf: &mut [u8], at: usize, held: Held<'_>, d: u32, filter: RayPathFilter) -> usize {
+        maps::put_detector(buf, at, held, d, filter)
+    }
+}
+
+impl Listed for Pixels {
+    ghost text = { detector_map_text };
+
+    fn put(buf: &mut [u8], at: usize, held: Held<'_>, d: u32, filter: RayPathFilter) -> usize {
+        maps::put_detector_map(buf, at, held, d, filter)
+    }
+}
+
+// Of all detectors, one behind the other.
+pub(crate) fn put_each<L: Listed>(
     buf: &mut [u8],
     at: usize,
-    detectors: Detectors,
+    held: Held<'_>,
     filter: RayPathFilter,
-    flux: &[f64],
-    hit_values: &[f64],
-    hit_tags: &[u32],
-    used: usize,
 ) -> usize
     ensures { out buf.new result ≡ put_all buf.old at
-        (each_from (detector_map_text (held detectors flux.now hit_values.now hit_tags.now used) filter) (detector_count_of detectors.count) 0) }
+        (each_from (L.text (as_held held.entry) filter) (detector_count_of held.entry.detectors.count) 0) }
 {
-    let n = detector_count(detectors.count);
+    let n = detector_count(held.detectors.count);
     let mut p = at;
-    let mut d: u32 = 0;
-    while d < n {
-        p = maps::put_detector_map(
-            buf, p, detectors, d, filter, flux, hit_values, hit_tags, used,
-        );
-        d += 1;
+    for d in 0..n {
+        p = L::put(buf, p, held, d, filter);
     }
     p
 }

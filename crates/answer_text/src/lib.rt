@@ -8,26 +8,20 @@ mod pixels;
 
 ghost use Rattle.std.specs.Prelude.{◌≡◌};
 ghost use Rattle.printing.specs.Printing.{out, put_all};
-ghost use Rattle.answer_text.specs.Answer.{held, ledger_text, tallies_text, detectors_text, maps_text, answer_text, refusal_text};
+ghost use Rattle.answer_text.specs.Answer.{as_held, ledger_text, tallies_text, detectors_text, maps_text, answer_text, refusal_text};
 
-use detectors::Detectors;
-use filter::RayPathFilter;
+use detectors_text::{Line, Pixels};
+use filter::{Held, RayPathFilter};
 pub use maps::few;
 use report::{NonSeqTraceReport, Tallies};
-
-fn wide(n: u32) -> u64
-    ensures { result ≡ n }
-{
-    n as u64
-}
 
 fn put_ledger(buf: &mut [u8], at: usize, report: NonSeqTraceReport) -> usize
     ensures { out buf.new result ≡ put_all buf.old at (ledger_text report) }
 {
     let l = report.ledger;
     let wholes = [
-        wide(report.total_rays_traced),
-        wide(report.total_interactions),
+        u64::from(report.total_rays_traced),
+        u64::from(report.total_interactions),
     ];
     let powers = [
         l.launched_flux_watts,
@@ -48,81 +42,57 @@ fn put_tallies(buf: &mut [u8], at: usize, t: Tallies) -> usize
     ensures { out buf.new result ≡ put_all buf.old at (tallies_text t) }
 {
     let counts = [
-        wide(t.made),
-        wide(t.dim),
-        wide(t.spent),
-        wide(t.caught),
-        wide(t.gone),
-        wide(t.surface),
-        wide(t.weak),
+        u64::from(t.made),
+        u64::from(t.dim),
+        u64::from(t.spent),
+        u64::from(t.caught),
+        u64::from(t.gone),
+        u64::from(t.surface),
+        u64::from(t.weak),
     ];
-    let none = [0.0f64; 0];
     let p = printing::put_all(buf, at, b"made dim spent caught gone surface weak\n");
-    printing::put_row(buf, p, &counts, &none)
+    printing::put_row(buf, p, &counts, &[])
 }
 
 // The refusal's number and place.
 pub fn put_refusal(buf: &mut [u8], at: usize, number: u32, place: u32) -> usize
     ensures { out buf.new result ≡ put_all buf.old at (refusal_text number place) }
 {
-    let wholes = [wide(number), wide(place)];
-    let none = [0.0f64; 0];
+    let wholes = [u64::from(number), u64::from(place)];
     let p = printing::put_all(buf, at, b"refusal place\n");
-    printing::put_row(buf, p, &wholes, &none)
+    printing::put_row(buf, p, &wholes, &[])
 }
 
-fn put_detectors(
-    buf: &mut [u8],
-    at: usize,
-    detectors: Detectors,
-    filter: RayPathFilter,
-    flux: &[f64],
-    hit_values: &[f64],
-    hit_tags: &[u32],
-    used: usize,
-) -> usize
+fn put_detectors(buf: &mut [u8], at: usize, held: Held<'_>, filter: RayPathFilter) -> usize
     ensures { out buf.new result ≡ put_all buf.old at
-        (detectors_text filter (held detectors flux.now hit_values.now hit_tags.now used)) }
+        (detectors_text filter (as_held held.entry)) }
 {
     let p = printing::put_all(buf, at, b"detector hits signal stray flux\n");
-    detectors_text::put_detectors(buf, p, detectors, filter, flux, hit_values, hit_tags, used)
+    detectors_text::put_each::<Line>(buf, p, held, filter)
 }
 
-fn put_maps(
-    buf: &mut [u8],
-    at: usize,
-    detectors: Detectors,
-    filter: RayPathFilter,
-    flux: &[f64],
-    hit_values: &[f64],
-    hit_tags: &[u32],
-    used: usize,
-) -> usize
+fn put_maps(buf: &mut [u8], at: usize, held: Held<'_>, filter: RayPathFilter) -> usize
     ensures { out buf.new result ≡ put_all buf.old at
-        (maps_text filter (held detectors flux.now hit_values.now hit_tags.now used)) }
+        (maps_text filter (as_held held.entry)) }
 {
     let p = printing::put_all(buf, at, b"detector px py flux\n");
-    detectors_text::put_maps(buf, p, detectors, filter, flux, hit_values, hit_tags, used)
+    detectors_text::put_each::<Pixels>(buf, p, held, filter)
 }
 
-// The whole answer. `flux` is the stored map, `hit_values` and `hit_tags` the hit list.
+// The whole answer.
 pub fn put_answer(
     buf: &mut [u8],
     at: usize,
     report: NonSeqTraceReport,
-    detectors: Detectors,
+    held: Held<'_>,
     filter: RayPathFilter,
-    flux: &[f64],
-    hit_values: &[f64],
-    hit_tags: &[u32],
-    used: usize,
 ) -> usize
     ensures { out buf.new result ≡ put_all buf.old at
-        (answer_text report filter (held detectors flux.now hit_values.now hit_tags.now used)) }
+        (answer_text report filter (as_held held.entry)) }
 {
     let tallies = report.tallies;
     let p = put_ledger(buf, at, report);
     let q = put_tallies(buf, p, tallies);
-    let s = put_detectors(buf, q, detectors, filter, flux, hit_values, hit_tags, used);
-    put_maps(buf, s, detectors, filter, flux, hit_values, hit_tags, used)
+    let s = put_detectors(buf, q, held, filter);
+    put_maps(buf, s, held, filter)
 }

@@ -1,13 +1,13 @@
 // The lines of one detector: its hits and flux under a filter, and its pixels.
 ghost use Rattle.std.specs.Prelude.{◌≡◌, ◌≤◌};
 ghost use Rattle.printing.specs.Printing.{out, put_all};
-ghost use Rattle.answer_text.specs.Answer.{held, few_of, grid_at_of, shown_of, detector_text, detector_map_text};
+ghost use Rattle.answer_text.specs.Answer.{as_held, few_of, grid_at_of, shown_of, detector_text, detector_map_text};
 ghost use Rattle.memory.specs.Memory.{text_pixels};
 
 use crate::pixels;
 use detector::DetectorNo;
-use detectors::{Detectors, Spot};
-use filter::{Filtered, RayPathFilter};
+use detectors::Detectors;
+use filter::{Held, RayPathFilter, Tally};
 use memory::TEXT_PIXELS;
 
 // How many pixels a detector has, and how many columns.
@@ -18,6 +18,7 @@ pub struct Grid {
 }
 
 // As many pixels as there is room for.
+#[tactic(auto, unfolding(crate::specs::Answer::few_of))]
 pub fn few(n: usize) -> usize
     ensures { (result ≡ few_of n) × (result ≤ text_pixels) }
 {
@@ -27,93 +28,58 @@ pub fn few(n: usize) -> usize
     TEXT_PIXELS
 }
 
+#[tactic(auto, unfolding(crate::specs::Answer::grid_from, crate::specs::Answer::grid_at_of))]
 fn grid_at(detectors: Detectors, d: u32) -> Grid
     ensures { (result ≡ grid_at_of detectors d) × (result.pixels ≤ text_pixels) }
 {
     match detectors.at(DetectorNo(d)) {
-        Spot::There(p) => {
+        Some(p) => {
             let e = p.detector;
             Grid {
                 pixels: few(e.pixels()),
                 columns: e.res_x as usize,
             }
         }
-        Spot::Nowhere => Grid {
+        None => Grid {
             pixels: 0,
             columns: 0,
         },
     }
 }
 
-// Total and count of a detector's hits under a filter.
-fn shown(
-    detectors: Detectors,
-    d: u32,
-    filter: RayPathFilter,
-    flux: &[f64],
-    hit_values: &[f64],
-    hit_tags: &[u32],
-    used: usize,
-) -> Filtered
-    ensures { (result.total_flux_watts ≡ (shown_of (held detectors flux.now hit_values.now hit_tags.now used) filter d).total)
-        × (result.hit_count ≡ (shown_of (held detectors flux.now hit_values.now hit_tags.now used) filter d).count) }
+// Total and count of a detector's hits under a filter; zeros where it is refused.
+#[tactic(auto, using(crate::proofs::Shown::total_shown, crate::proofs::Shown::count_shown))]
+fn shown(held: Held<'_>, d: u32, filter: RayPathFilter) -> Tally
+    ensures { (result.total ≡ (shown_of (as_held held.entry) filter d).total)
+        × (result.count ≡ (shown_of (as_held held.entry) filter d).count) }
 {
-    let g = grid_at(detectors, d);
+    let g = grid_at(held.detectors, d);
     let n = g.pixels;
     let mut work = [0.0f64; TEXT_PIXELS];
-    filter::refilter(
-        detectors,
-        DetectorNo(d),
-        filter,
-        flux,
-        &mut work[..n],
-        hit_values,
-        hit_tags,
-        used,
-    )
+    held.refilter(DetectorNo(d), filter, &mut work[..n])
+        .unwrap_or(Tally {
+            total: 0.0,
+            count: 0,
+        })
 }
 
 // A detector's line.
+#[tactic(auto, unfolding(crate::specs::Answer::detector_text))]
 pub(crate) fn put_detector(
     buf: &mut [u8],
     at: usize,
-    detectors: Detectors,
+    held: Held<'_>,
     d: u32,
     filter: RayPathFilter,
-    flux: &[f64],
-    hit_values: &[f64],
-    hit_tags: &[u32],
-    used: usize,
 ) -> usize
     ensures { out buf.new result ≡ put_all buf.old at
-        (detector_text (held detectors flux.now hit_values.now hit_tags.now used) filter d) }
+        (detector_text (as_held held.entry) filter d) }
 {
-    let a = shown(detectors, d, filter, flux, hit_values, hit_tags, used);
-    let s = shown(
-        detectors,
-        d,
-        RayPathFilter::SignalOnly,
-        flux,
-        hit_values,
-        hit_tags,
-        used,
-    );
-    let t = shown(
-        detectors,
-        d,
-        RayPathFilter::StrayLight,
-        flux,
-        hit_values,
-        hit_tags,
-        used,
-    );
-    let wholes = [
-        d as u64,
-        a.hit_count as u64,
-        s.hit_count as u64,
-        t.hit_count as u64,
-    ];
-    let powers = [a.total_flux_watts];
+    let a = shown(held, d, filter);
+    let s = shown(held, d, RayPathFilter::SignalOnly);
+    let t = shown(held, d, RayPathFilter::StrayLight);
+    let wholes = [u64::from(d), a.count as u64, s.count as u64, t.count as u64];
+    let powers = [a.total];
     printing::put_row(buf, at, &wholes, &powers)
 }
 
@@ -121,43 +87,22 @@ pub(crate) fn put_detector(
 pub(crate) fn put_detector_map(
     buf: &mut [u8],
     at: usize,
-    detectors: Detectors,
+    held: Held<'_>,
     d: u32,
     filter: RayPathFilter,
-    flux: &[f64],
-    hit_values: &[f64],
-    hit_tags: &[u32],
-    used: usize,
 ) -> usize
     ensures { out buf.new result ≡ put_all buf.old at
-        (detector_map_text (held detectors flux.now hit_values.now hit_tags.now used) filter d) }
+        (detector_map_text (as_held held.entry) filter d) }
 {
-    let g = grid_at(detectors, d);
+    let g = grid_at(held.detectors, d);
     let n = g.pixels;
     let w = g.columns;
     let mut work = [0.0f64; TEXT_PIXELS];
-    filter::refilter(
-        detectors,
-        DetectorNo(d),
-        filter,
-        flux,
-        &mut work[..n],
-        hit_values,
-        hit_tags,
-        used,
-    );
-    let map = filter::filtered_pixel_flux(
-        detectors,
-        DetectorNo(d),
-        filter,
-        flux,
-        &work[..n],
-        hit_values,
-        hit_tags,
-        used,
-    );
+    // where this is refused, the map that is handed back is empty
+    let _ = held.refilter(DetectorNo(d), filter, &mut work[..n]);
+    let map = held.filtered_pixel_flux(DetectorNo(d), filter, &work[..n]);
     if w == 0 {
         return at;
     }
-    pixels::put_pixels(buf, at, d as u64, w, map)
+    pixels::put_pixels(buf, at, u64::from(d), w, map)
 }

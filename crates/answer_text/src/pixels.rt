@@ -4,6 +4,7 @@ ghost use Rattle.printing.specs.Printing.{out, put_all};
 ghost use Rattle.answer_text.specs.Answer.{pixel_text, pixels_text};
 
 // A pixel's line, unless its flux is zero.
+#[tactic(auto, unfolding(crate::specs::Answer::pixel_text, printing::specs::Printing::put_all))]
 fn put_pixel(buf: &mut [u8], at: usize, detector: u64, px: u64, py: u64, flux: f64) -> usize
     ensures { out buf.new result ≡ put_all buf.old at (pixel_text detector px py flux) }
 {
@@ -27,17 +28,15 @@ pub(crate) fn put_pixels(
     ensures { out buf.new result ≡ put_all buf.old at (pixels_text detector width 0 map.now) }
 {
     let mut p = at;
-    let mut i: usize = 0;
-    while i < map.len() {
+    for (i, &flux) in map.iter().enumerate() {
         p = put_pixel(
             buf,
             p,
             detector,
             (i % width) as u64,
             (i / width) as u64,
-            map[i],
+            flux,
         );
-        i += 1;
     }
     p
 }

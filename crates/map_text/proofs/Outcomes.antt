@@ -4,8 +4,8 @@ use mathlib.Core.Path.{◌≡◌, ap, sym, ◌∙◌}
 use mathlib.Core.List.{List}
 use lib.Ieee.{Float}
 use lib.ListN.{take, replicate}
-use Rattle.error.specs.declared.Check.TheVariants.{Passed, Refused}
-use Rattle.error.specs.declared.NonSeqError.{NonSeqError}
+use Rattle.std.specs.Prelude.{Ok, Err}
+use Rattle.error.specs.declared.Refusal.{Refusal}
 use Rattle.error.specs.Refusals.{number_of}
 use Rattle.detectors.specs.declared.Detectors.{Detectors}
 use Rattle.detectors.specs.Detectors.{all_pixels_of}
@@ -20,19 +20,19 @@ use Rattle.map_text.specs.Tables.{Tables, whole_of, config_of, meant_of, detecto
 use Rattle.doubles.specs.Doubles.{#0}
 use Rattle.fields.specs.Split.{front_of}
 
-module _ (g : RayPathFilter) (r : Traced) (f : List Float) (h : List ℕ) (v : List Float) (t : List ℕ) (T : Trace Memory) (q : as_traced r f h v t ≡ T) (b : List ℕ) (p : ℕ) (w : Out) where
-  pub refused_text : (e : NonSeqError) (place n : ℕ) → r.check ≡ Refused e place → n ≡ number_of e → w ≡ put_all b p (refusal_text n place) → w ≡ put_all b p (traced_text g T)
+module _ (g : RayPathFilter) (r : Traced) (m : Memory) (T : Trace Memory) (q : as_traced r m ≡ T) (b : List ℕ) (p : ℕ) (w : Out) where
+  pub refused_text : (x : Refusal) (n : ℕ) → r.check ≡ Err x → n ≡ number_of x.error → w ≡ put_all b p (refusal_text n x.place) → w ≡ put_all b p (traced_text g T)
   unfolding traced_text
-  refused_text e place n k m z =
-      z ∙ ap (λ i. put_all b p (refusal_text i place)) m
-      ∙ ap (λ c. put_all b p (outcome_text g r.report (as_outcome c (lent_memory r.detectors f h v t r.used)))) (sym k)
-      ∙ ap (λ (x : Trace Memory). put_all b p (outcome_text g x.report x.outcome)) q
+  refused_text x n k e z =
+      z ∙ ap (λ i. put_all b p (refusal_text i x.place)) e
+      ∙ ap (λ c. put_all b p (outcome_text g r.report (as_outcome c m))) (sym k)
+      ∙ ap (λ (y : Trace Memory). put_all b p (outcome_text g y.report y.outcome)) q
 
-  pub done_text : r.check ≡ Passed → w ≡ put_all b p (answer_text r.report g (held r.detectors f v t r.used)) → w ≡ put_all b p (traced_text g T)
+  pub done_text : (u : Unit) → r.check ≡ Ok u → w ≡ put_all b p (answer_text r.report g (held m.detectors m.flux m.hit_values m.hit_tags m.used)) → w ≡ put_all b p (traced_text g T)
   unfolding traced_text
-  done_text k z =
-      z ∙ ap (λ c. put_all b p (outcome_text g r.report (as_outcome c (lent_memory r.detectors f h v t r.used)))) (sym k)
-      ∙ ap (λ (x : Trace Memory). put_all b p (outcome_text g x.report x.outcome)) q
+  done_text u k z =
+      z ∙ ap (λ c. put_all b p (outcome_text g r.report (as_outcome c m))) (sym k)
+      ∙ ap (λ (y : Trace Memory). put_all b p (outcome_text g y.report y.outcome)) q
 
 -- ---- the tables, as the code hands them on
 

@@ -1,6 +1,5 @@
 -- A scene as it was read, traced into an empty memory with room for 4,096 pixels and 1,024 hits, and its answer.
-use Rattle.std.specs.Prelude.{ℕ, ◌+◌, ◌*◌, List, [], ◌∷◌, cond, leb, ltb, eqb, Float, length, get_or, take, replicate}
-use Rattle.std.proofs.Math.Option.{Option, none, some}
+use Rattle.std.specs.Prelude.{ℕ, ◌+◌, ◌*◌, List, [], ◌∷◌, cond, leb, ltb, eqb, Float, length, get_or, take, replicate, Option, None, Some}
 use Rattle.std.specs.Float.{nan}
 use Rattle.rays.specs.Vectors.{vec3}
 use Rattle.material.specs.Media.{numbered_medium_of, or_air_of}
@@ -92,8 +91,8 @@ config_of v w =
 
 -- a number that is no filter's, which no scene text has, means All
 abbrev pub or_all : Option RayPathFilter → RayPathFilter
-or_all (some f) = f
-or_all none = All
+or_all (Some f) = f
+or_all None = All
 
 -- `-` means All
 unfoldable pub meant_of : ℕ → RayPathFilter

@@ -4,8 +4,8 @@ ghost use Rattle.printing.specs.Printing.{out, put_all};
 ghost use Rattle.map_text.specs.StrayMap.{stray_map_text};
 
 use crate::parts::{RUN_DOUBLES, RUN_WHOLES};
-use error::Check;
-use given_rays::{RAY_ROOM_DOUBLES, RAY_ROOM_WHOLES};
+use given_rays::{GivenRays, RAY_ROOM_DOUBLES, RAY_ROOM_WHOLES};
+use scene::Solids;
 
 const SOLID_ROOM_DOUBLES: usize = crate::parts::SOLID_ROOM as usize * scene::SOLID_DOUBLES;
 
@@ -38,25 +38,26 @@ pub fn put_stray_map(buf: &mut [u8], at: usize, text: &[u8]) -> usize
         &mut ray_values,
         &mut ray_tags,
     );
-    let check = r.check;
-    match check {
-        Check::Refused { error, place } => {
-            answer_text::put_refusal(buf, at, error.number(), place)
-        }
-        Check::Passed => crate::mapping::put_map(
+    match r {
+        Err(refusal) => { answer_text::put_refusal(buf, at, refusal.error.number(), refusal.place) }
+        Ok(counts) => crate::mapping::put_map(
             buf,
             at,
             &run_values,
             &run_tags,
-            &solid_values,
-            &solid_tags,
-            r.solids,
+            Solids {
+                values: &solid_values,
+                tags: &solid_tags,
+                count: counts.solids,
+            },
             &detector_values,
             &detector_tags,
-            r.detectors,
-            &ray_values,
-            &ray_tags,
-            r.rays,
+            counts.detectors,
+            GivenRays {
+                values: &ray_values,
+                tags: &ray_tags,
+                count: counts.rays,
+            },
         ),
     }
 }

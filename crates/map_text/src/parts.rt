@@ -5,7 +5,7 @@ ghost use Rattle.map_text.specs.Tables.{value_of, whole_of, config_of, meant_of,
 
 use detector::Detector2D;
 use detectors::Detectors;
-use filter::{NumberedFilter, RayPathFilter};
+use filter::RayPathFilter;
 use material::OpticalMedium;
 use rays::Vec3;
 use scene::MAX_SOLIDS;
@@ -25,26 +25,23 @@ pub const DETECTOR_WHOLES: usize = 2;
 pub const SOLID_ROOM: u32 = MAX_SOLIDS + 1;
 
 // The double at a place; NaN past the end.
+#[tactic(auto, using(doubles::proofs::Floats::zero_by_zero), unfolding(crate::specs::Tables::value_of))]
 fn value(l: &[f64], i: usize) -> f64
     ensures { result ≡ value_of l.now i }
 {
-    if i < l.len() {
-        return l[i];
-    }
-    0.0 / 0.0
+    l.get(i).copied().unwrap_or(0.0 / 0.0)
 }
 
 // The whole number at a place; 0 past the end.
+#[tactic(auto, unfolding(crate::specs::Tables::whole_of))]
 pub(crate) fn whole(l: &[u32], i: usize) -> u32
     ensures { result ≡ whole_of l.now i }
 {
-    if i < l.len() {
-        return l[i];
-    }
-    0
+    l.get(i).copied().unwrap_or(0)
 }
 
 // The rules of the run; an ambient medium that is none, which no text brings, reads as air.
+#[tactic(auto, unfolding(crate::specs::Tables::config_of))]
 pub(crate) fn config(run_values: &[f64], run_tags: &[u32]) -> NonSeqTraceConfig
     ensures { result ≡ config_of run_values.now run_tags.now }
 {
@@ -57,7 +54,7 @@ pub(crate) fn config(run_values: &[f64], run_tags: &[u32]) -> NonSeqTraceConfig
         value(run_values, 5),
         value(run_values, 6),
     )
-    .or_air();
+    .unwrap_or(OpticalMedium::Air);
     NonSeqTraceConfig {
         max_bounces: whole(run_tags, 0),
         min_power_threshold: value(run_values, 0),
@@ -66,26 +63,22 @@ pub(crate) fn config(run_values: &[f64], run_tags: &[u32]) -> NonSeqTraceConfig
 }
 
 // The filter of a number. `-` means All, and so does a number that is no filter's, which no scene text has.
+#[tactic(auto, unfolding(crate::specs::Tables::meant_of))]
 pub(crate) fn meant(number: u32) -> RayPathFilter
     ensures { result ≡ meant_of number }
 {
     if number == NO_FILTER {
         return RayPathFilter::All;
     }
-    match RayPathFilter::numbered(number) {
-        NumberedFilter::Filter(f) => f,
-        NumberedFilter::Nothing => RayPathFilter::All,
-    }
+    RayPathFilter::numbered(number).unwrap_or(RayPathFilter::All)
 }
 
 // At most so many.
+#[tactic(auto, unfolding(crate::specs::Tables::at_most_of))]
 pub(crate) fn at_most(most: u32, n: u32) -> u32
     ensures { (result ≡ at_most_of most n) × (result ≤ most) }
 {
-    if n <= most {
-        return n;
-    }
-    most
+    n.min(most)
 }
 
 fn vector(l: &[f64], i: usize, j: usize, k: usize) -> Vec3
@@ -99,6 +92,7 @@ fn vector(l: &[f64], i: usize, j: usize, k: usize) -> Vec3
 }
 
 // Detector i of eight.
+#[tactic(auto, unfolding(crate::specs::Tables::detector_of))]
 fn detector(detector_values: &[f64], detector_tags: &[u32], i: u32) -> Detector2D
     ensures { result ≡ detector_of detector_values.now detector_tags.now i }
 {
@@ -117,6 +111,7 @@ fn detector(detector_values: &[f64], detector_tags: &[u32], i: u32) -> Detector2
     }
 }
 
+#[tactic(auto, unfolding(crate::specs::Tables::detectors_of))]
 pub(crate) fn detectors(detector_values: &[f64], detector_tags: &[u32], count: u32) -> Detectors
     ensures { result ≡ detectors_of detector_values.now detector_tags.now count }
 {

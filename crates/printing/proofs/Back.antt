@@ -1,4 +1,5 @@
 -- Reading what was printed gives the number back. Assumes nothing.
+use Rattle.std.specs.Prelude.{Some}
 use Prim.Native.Nat.{ℕ, zero, suc, ◌+◌, ◌-◌, ◌*◌, ◌/◌, ◌%◌, ◌^◌, ◌≤◌, ◌<◌}
 use mathlib.Core.Path.{◌≡◌, refl, sym, ap, ◌∙◌, subst}
 use mathlib.Core.List.{List, [], ◌∷◌, ◌++◌}
@@ -12,8 +13,8 @@ use lib.ListN.{length, get_or, length-append, get_or-append}
 use borrow.Author.Tests.{lt-ltb, le-ltb, ne_eqb, ltb-true, ltb-false, eqb-true, leb-true, leb-false}
 use lib.Ieee.{Float, binary64, of_bits, to_bits, fits}
 use lib.Ieee.Bits.{of_bits-to_bits, to_bits-lt}
-use Rattle.io.specs.Digits.{last_digits as digits, IsDigitCount, hex_digit_ascii}
-use Rattle.fields.specs.Number.{number, digit_of, is_hex_of, hex_pad_of, read_bits_of, is_decimal, decimal_from, is_led_by_zero_of, read_whole_of}
+use Rattle.io.specs.Digits.{last_digits as digits, IsDigitCount}
+use Rattle.fields.specs.Number.{digit_of, is_hex_of, hex_pad_of, read_bits_of, is_decimal, decimal_from, is_led_by_zero_of, read_whole_of}
 use Rattle.printing.specs.Printing.{glyph_of, hex_text, double_text, decimal_text}
 
 pub digit_glyph : (d : ℕ) → d < 16 → digit_of (glyph_of d) ≡ d
@@ -123,7 +124,7 @@ unfolding hex_text
 some_digit k r e = omega arith
 
 -- bits that are printed and read are the bits themselves
-pub bits_back : (b : ℕ) → b < 2 ^ 64 → read_bits_of (hex_text 16 b) ≡ number b
+pub bits_back : (b : ℕ) → b < 2 ^ 64 → read_bits_of (hex_text 16 b) ≡ Some b
 unfolding read_bits_of
 bits_back b h =
     let one : b * 16 ^ 0 ≡ b = mul-one b in
@@ -131,7 +132,7 @@ bits_back b h =
     simp (ne_eqb _ _ (some_digit 15 b), le-ltb _ _ (hex_short 16 b), hex_all 16 b h, v)
 
 -- A double that is printed and read is the double itself. Every NaN is the one `nan`.
-pub double_back : (x : Float) → T (fits binary64 x) → (read_bits_of (double_text x) ≡ number (to_bits binary64 x)) × (of_bits binary64 (to_bits binary64 x) ≡ x)
+pub double_back : (x : Float) → T (fits binary64 x) → (read_bits_of (double_text x) ≡ Some (to_bits binary64 x)) × (of_bits binary64 (to_bits binary64 x) ≡ x)
 unfolding double_text
 double_back x f = (bits_back (to_bits binary64 x) (to_bits-lt binary64 x f), of_bits-to_bits binary64 x f)
 
@@ -220,7 +221,7 @@ long_some k n h = go (ltb n 10) refl
     go false q = let a : 10 ≤ n = ltb-false _ _ q in omega arith
 
 -- A whole number below 2 ^ 32 that is printed and read is the number itself.
-pub whole_back : (n : ℕ) → n < 2 ^ 32 → read_whole_of (decimal_text 20 n) ≡ number n
+pub whole_back : (n : ℕ) → n < 2 ^ 32 → read_whole_of (decimal_text 20 n) ≡ Some n
 unfolding read_whole_of
 whole_back n h =
     let g : n < 10 ^ 20 = omega arith in
@@ -230,10 +231,6 @@ whole_back n h =
     simp (ne_eqb _ _ ne, not_led _ n r (long_some 19 n), r.digits, r.value, lt-ltb _ _ h)
 
 -- ---- the digits that `io::decimal` writes
-
-glyph_is : (d : ℕ) → hex_digit_ascii d ≡ glyph_of d
-unfolding glyph_of
-glyph_is d = refl
 
 pow_pos10 : (k : ℕ) → 0 < 10 ^ k
 pow_pos10 zero = omega arith

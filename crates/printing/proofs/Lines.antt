@@ -5,12 +5,12 @@ use mathlib.Core.List.{List, [], ◌∷◌, ◌++◌}
 use mathlib.Core.Bool.{Bool, true, false, cond}
 use native.Mathlib.Numerals.{add-one}
 use native.Mathlib.Omega.{arith}
-use lib.Dec.{ltb}
+use lib.Dec.{eqb, ltb}
 use lib.Ieee.{Float}
 use lib.ListN.{length, drop, get_or, length-drop, drop_of_length-le}
 use lib.Seq.{drop-cons}
-use borrow.Author.Tests.{lt-ltb, le-ltb, eq-eqb, ne_eqb, ltb-true, ltb-false}
-use Rattle.printing.specs.Printing.{Out, out, put_all}
+use borrow.Author.Tests.{lt-ltb, le-ltb, ltb-true, ltb-false}
+use Rattle.printing.specs.Printing.{Out, out, put_all, decimal_text, double_text}
 use Rattle.printing.specs.Rows.{spaced, wholes_text, doubles_text, row_text, behind_of}
 use Rattle.printing.proofs.Writing.{put_again, put_append, put_join}
 
@@ -55,10 +55,11 @@ module _ {A : Type 0} (text : A → List ℕ) where
 
 -- ---- a whole line
 
-pub row_wholes : (ws : List ℕ) (ds : List Float) (b : List ℕ) (p : ℕ) (w : Out) → length ds ≡ 0 → w ≡ put_all b p (wholes_text ws 10) → w ≡ put_all b p (row_text ws ds)
-unfolding row_text
-row_wholes ws ds b p w e f = rw (eq-eqb (length ds) 0 e) f
+pub row_wholes : (ws : List ℕ) (ds : List Float) (b : List ℕ) (p : ℕ) (w : Out) → eqb (length ds) 0 ≡ true → w ≡ put_all b p (spaced (decimal_text 20) ws 10) → w ≡ put_all b p (row_text ws ds)
+unfolding row_text wholes_text
+row_wholes ws ds b p w e f = rw e f
 
-pub row_both : (ws : List ℕ) (ds : List Float) (b b1 : List ℕ) (p p1 : ℕ) (w : Out) → (length ds ≡ 0 → ⊥) → out b1 p1 ≡ put_all b p (wholes_text ws 32) → w ≡ put_all b1 p1 (doubles_text ds 10) → w ≡ put_all b p (row_text ws ds)
-unfolding row_text
-row_both ws ds b b1 p p1 w e f g = rw (ne_eqb (length ds) 0 e) (put_join b b1 p p1 (wholes_text ws 32) (doubles_text ds 10) w f g)
+pub row_both : (ws : List ℕ) (ds : List Float) (b b1 : List ℕ) (p p1 : ℕ) (w : Out) → eqb (length ds) 0 ≡ false → out b1 p1 ≡ put_all b p (spaced (decimal_text 20) ws 32) → w ≡ put_all b1 p1 (spaced double_text ds 10)
+    → w ≡ put_all b p (row_text ws ds)
+unfolding row_text wholes_text doubles_text
+row_both ws ds b b1 p p1 w e f g = rw e (put_join b b1 p p1 (spaced (decimal_text 20) ws 32) (spaced double_text ds 10) w f g)

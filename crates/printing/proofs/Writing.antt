@@ -5,21 +5,13 @@ use mathlib.Core.List.{List, [], ◌∷◌, ◌++◌}
 use native.Mathlib.Numerals.{add-one}
 use native.Mathlib.Omega.{arith}
 use lib.ListN.{length, take, drop, get_or, set, drop_of_length-le, length-set}
-use lib.Seq.{drop-cons, set_out, sets, sets-eq, take-append_seam}
-use borrow.Author.Tests.{lt-ltb, le-ltb, ne_eqb, eq-eqb}
+use lib.Seq.{drop-cons, sets, sets-eq, take-append_seam}
+use borrow.Author.Tests.{lt-ltb, ne_eqb, eq-eqb}
 use Rattle.printing.specs.Printing.{glyph_of, hex_text, Out, out, next_at, put_all}
 
 pub put_again : (l l2 : List ℕ) (p p2 b : ℕ) (t : List ℕ) (z : Out) → out l2 p2 ≡ put_all l p (b ∷ []) → put_all l p (b ∷ t) ≡ z → put_all l2 p2 t ≡ z
 unfolding put_all
 put_again l l2 p p2 b t z e f = ap (λ (o : Out). put_all o.buf o.at t) e ∙ f
-
-pub put_in : (l : List ℕ) (p b : ℕ) → p < length l → out (set l p b) (p + 1) ≡ put_all l p (b ∷ [])
-unfolding put_all next_at
-put_in l p b h = simp (lt-ltb _ _ h)
-
-pub put_out : (l : List ℕ) (p b : ℕ) → length l ≤ p → out l p ≡ put_all l p (b ∷ [])
-unfolding put_all next_at
-put_out l p b h = simp (le-ltb _ _ h, set_out l p b h)
 
 pub put_end : (l : List ℕ) (p i : ℕ) (t : List ℕ) (z : Out) → length t ≤ i → put_all l p (drop i t) ≡ z → out l p ≡ z
 unfolding put_all

@@ -10,6 +10,7 @@ ghost use Rattle.printing.specs.Printing.{out, put_all, glyph_of, hex_text, doub
 pub use rows::put_row;
 
 // One byte at place `at`, and the place after it; a byte for which there is no place is not written.
+#[tactic(auto, unfolding(crate::specs::Printing::put_all, crate::specs::Printing::next_at))]
 pub fn put(buf: &mut [u8], at: usize, b: u8) -> usize
     ensures { out buf.new result ≡ put_all buf.old at (b ∷ []) }
 {
@@ -24,25 +25,22 @@ pub fn put_all(buf: &mut [u8], at: usize, t: &[u8]) -> usize
     ensures { out buf.new result ≡ put_all buf.old at t.now }
 {
     let mut p = at;
-    let mut i: usize = 0;
-    while i < t.len() {
-        p = put(buf, p, t[i]);
-        i += 1;
+    for b in t {
+        p = put(buf, p, *b);
     }
     p
 }
 
-// Where the letters of hex digits count from 0.
-const LETTERS: u8 = b'a' - 10;
-
+#[tactic(auto, unfolding(crate::specs::Printing::glyph_of))]
 fn glyph(d: u64) -> u8
     requires { d < 16 }
     ensures { result ≡ glyph_of d }
 {
     if d < 10 {
-        return b'0' + d as u8;
+        b'0' + d as u8
+    } else {
+        b'a' + (d as u8 - 10)
     }
-    LETTERS + d as u8
 }
 
 // Sixteen hex digits, trailing zeros dropped, at least one.
@@ -51,26 +49,26 @@ pub fn put_hex(buf: &mut [u8], at: usize, n: u64) -> usize
 {
     let mut p = at;
     let mut rest = n;
-    let mut k: usize = 0;
-    while k < 16 {
+    for _ in 0..16usize {
         p = put(buf, p, glyph(rest / 0x1000_0000_0000_0000));
         let low = rest % 0x1000_0000_0000_0000;
         if low == 0 {
             return p;
         }
         rest = low * 16;
-        k += 1;
     }
     p
 }
 
 // The hex digits of a double's bits.
+#[tactic(auto, unfolding(crate::specs::Printing::double_text))]
 pub fn put_double(buf: &mut [u8], at: usize, x: f64) -> usize
     ensures { out buf.new result ≡ put_all buf.old at (double_text x) }
 {
     put_hex(buf, at, doubles::to_bits(x))
 }
 
+#[tactic(auto, using(crate::proofs::Back::digits_are, crate::proofs::Back::few_digits))]
 pub fn put_decimal(buf: &mut [u8], at: usize, n: u64) -> usize
     ensures { out buf.new result ≡ put_all buf.old at (decimal_text 20 n) }
 {

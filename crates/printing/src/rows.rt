@@ -1,57 +1,64 @@
 // Lines of numbers: whole numbers first, then doubles, one space between, LF at the end.
-ghost use Rattle.std.specs.Prelude.{◌≡◌};
-ghost use Rattle.printing.specs.Printing.{out, put_all};
-ghost use Rattle.printing.specs.Rows.{behind_of, wholes_text, doubles_text, row_text};
+ghost use Rattle.std.specs.Prelude.{◌≡◌, ℕ, List};
+ghost use Rattle.printing.specs.Printing.{out, put_all, decimal_text, double_text};
+ghost use Rattle.printing.specs.Rows.{behind_of, spaced, row_text};
 
 use crate::{put, put_decimal, put_double};
 
+// A number that has a text.
+trait Printed {
+    ghost text: { Self → List ℕ };
+
+    // Its text at place `at`, and the place after it.
+    fn put(self, buf: &mut [u8], at: usize) -> usize
+        ensures { out buf.new result ≡ put_all buf.old at (text self) };
+}
+
+impl Printed for u64 {
+    ghost text = { decimal_text 20 };
+
+    fn put(self, buf: &mut [u8], at: usize) -> usize {
+        put_decimal(buf, at, self)
+    }
+}
+
+impl Printed for f64 {
+    ghost text = { double_text };
+
+    fn put(self, buf: &mut [u8], at: usize) -> usize {
+        put_double(buf, at, self)
+    }
+}
+
 // What stands behind number i of n: a space, or `last` behind the last one.
+#[tactic(auto, unfolding(crate::specs::Rows::behind_of))]
 fn behind(i: usize, n: usize, last: u8) -> u8
     ensures { result ≡ behind_of i n last }
 {
-    if i < n {
-        if i + 1 < n {
-            return b' ';
-        }
-    }
-    last
+    if i < n && i + 1 < n { b' ' } else { last }
 }
 
-fn put_wholes(buf: &mut [u8], at: usize, wholes: &[u64], last: u8) -> usize
-    ensures { out buf.new result ≡ put_all buf.old at (wholes_text wholes.now last) }
+// Numbers, a space behind each, `last` behind the last one.
+fn put_spaced<T: Printed + Copy>(buf: &mut [u8], at: usize, numbers: &[T], last: u8) -> usize
+    ensures { out buf.new result ≡ put_all buf.old at (spaced T.text numbers.now last) }
 {
-    let n = wholes.len();
+    let n = numbers.len();
     let mut p = at;
-    let mut i: usize = 0;
-    while i < n {
-        p = put_decimal(buf, p, wholes[i]);
+    for (i, x) in numbers.iter().enumerate() {
+        p = x.put(buf, p);
         p = put(buf, p, behind(i, n, last));
-        i += 1;
-    }
-    p
-}
-
-fn put_doubles(buf: &mut [u8], at: usize, doubles: &[f64], last: u8) -> usize
-    ensures { out buf.new result ≡ put_all buf.old at (doubles_text doubles.now last) }
-{
-    let n = doubles.len();
-    let mut p = at;
-    let mut i: usize = 0;
-    while i < n {
-        p = put_double(buf, p, doubles[i]);
-        p = put(buf, p, behind(i, n, last));
-        i += 1;
     }
     p
 }
 
 // A line of at least one number.
+#[tactic(auto, using(crate::proofs::Lines::row_wholes, crate::proofs::Lines::row_both))]
 pub fn put_row(buf: &mut [u8], at: usize, wholes: &[u64], doubles: &[f64]) -> usize
     ensures { out buf.new result ≡ put_all buf.old at (row_text wholes.now doubles.now) }
 {
-    if doubles.len() == 0 {
-        return put_wholes(buf, at, wholes, b'\n');
+    if doubles.is_empty() {
+        return put_spaced(buf, at, wholes, b'\n');
     }
-    let p = put_wholes(buf, at, wholes, b' ');
-    put_doubles(buf, p, doubles, b'\n')
+    let p = put_spaced(buf, at, wholes, b' ');
+    put_spaced(buf, p, doubles, b'\n')
 }

@@ -2,23 +2,12 @@
 use mathlib.Core.Path.{◌≡◌, refl, ap, ◌∙◌}
 use mathlib.Core.List.{List, [], ◌∷◌, ◌++◌}
 use mathlib.Core.Bool.{Bool, true, false}
-use Prim.Native.Nat.{ℕ, ◌+◌, ◌≤◌, ◌<◌}
-use lib.ListN.{length, set}
-use lib.Seq.{set_out}
-use lib.Ieee.{Float, binary64, of_bits}
-use borrow.Author.Tests.{lt-ltb, le-ltb}
-use Rattle.fields.specs.Number.{Read, number, malformed}
-use Rattle.scene_text.specs.Cells.{Values, joined, double_cell, whole_cell}
+use Prim.Native.Nat.{ℕ}
+use lib.ListN.{set}
+use lib.Ieee.{Float}
+use Rattle.scene_text.specs.Cells.{Values, joined}
 use Rattle.scene_text.specs.Tables.{Filled, filled, next_at, put_all}
 use Rattle.scene_text.specs.Steps.{Table, table, put}
-
-pub put_in : {A : Type 0} (l : List A) (p : ℕ) (x : A) → p < length l → filled (set l p x) (p + 1) ≡ put_all l p (x ∷ [])
-unfolding put_all next_at
-put_in l p x h = simp (lt-ltb _ _ h)
-
-pub put_out : {A : Type 0} (l : List A) (p : ℕ) (x : A) → length l ≤ p → filled l p ≡ put_all l p (x ∷ [])
-unfolding put_all next_at
-put_out l p x h = simp (le-ltb _ _ h, set_out l p x h)
 
 pub put_append : {A : Type 0} (l : List A) (p : ℕ) (s t : List A) → put_all (put_all l p s).list (put_all l p s).next t ≡ put_all l p (s ++ t)
 unfolding put_all
@@ -48,21 +37,3 @@ put_then a b t e = rw (e, put_append t.doubles t.nd a.doubles b.doubles, put_app
 pub put_stop : (a b : Values) (t : Table) → a.ok ≡ false → put a t ≡ put (joined a b) t
 unfolding joined
 put_stop a b t e = rw e
-
--- ---- a cell
-
-pub put_double : (v : Read) (n : ℕ) (x : Float) (d d2 : List Float) (nd p : ℕ) (w : List ℕ) (nw : ℕ) → v ≡ number n → x ≡ of_bits binary64 n → filled d2 p ≡ put_all d nd (x ∷ []) → table true d2 p w nw ≡ put (double_cell v) (table true d nd w nw)
-unfolding put double_cell put_all
-put_double v n x d d2 nd p w nw e q f = rw (e, ← q) (ap (λ (o : Filled Float). table true o.list o.next w nw) f)
-
-pub put_no_double : (v : Read) (d : List Float) (nd : ℕ) (w : List ℕ) (nw : ℕ) → v ≡ malformed → table false d nd w nw ≡ put (double_cell v) (table true d nd w nw)
-unfolding put double_cell put_all
-put_no_double v d nd w nw e = rw e
-
-pub put_whole : (v : Read) (n : ℕ) (d : List Float) (nd : ℕ) (w w2 : List ℕ) (nw p : ℕ) → v ≡ number n → filled w2 p ≡ put_all w nw (n ∷ []) → table true d nd w2 p ≡ put (whole_cell v) (table true d nd w nw)
-unfolding put whole_cell put_all
-put_whole v n d nd w w2 nw p e f = rw e (ap (λ (o : Filled ℕ). table true d nd o.list o.next) f)
-
-pub put_no_whole : (v : Read) (d : List Float) (nd : ℕ) (w : List ℕ) (nw : ℕ) → v ≡ malformed → table false d nd w nw ≡ put (whole_cell v) (table true d nd w nw)
-unfolding put whole_cell put_all
-put_no_whole v d nd w nw e = rw e

@@ -1,18 +1,21 @@
 -- Laws of the four blocks together. Assumes nothing.
-use mathlib.Core.Path.{◌≡◌, sym, ap, ◌∙◌}
+use Rattle.std.specs.Prelude.{Result, Ok, Err}
+use Rattle.scene_text.specs.declared.scene.Counts.{Counts}
+use mathlib.Core.Path.{◌≡◌, refl, sym, ap, ◌∙◌}
 use mathlib.Core.List.{List, []}
-use mathlib.Core.Bool.{Bool, true, false}
+use mathlib.Core.Bool.{Bool, true, false, cond}
 use Prim.Native.Nat.{ℕ, ◌≤◌, ◌<◌}
 use native.Mathlib.Nat.{zero-add}
 use lib.ListN.{length}
 use lib.Ieee.{Float}
 use borrow.Author.Tests.{lt-ltb, le-ltb}
-use Rattle.error.specs.Refusals.{Checked, passed, refused_at}
+use Rattle.error.specs.Refusals.{passed}
+use Rattle.error.specs.declared.Refusal.{Refusal}
 use Rattle.fields.specs.Split.{split}
 use Rattle.scene_text.specs.Names.{run_names, run_form, solid_names, solid_form, detector_names, detector_form, ray_names, ray_form}
 use Rattle.scene_text.specs.Blocks.{Block, read_names_of, read_one_of, read_lines_of}
 use Rattle.scene_text.specs.Steps.{Table, table, put, Reading, reading, onto}
-use Rattle.scene_text.specs.Scene.{read_run_of, Contents, contents_in, Tally, tally, tallied, Slices, slices, doubles_in, wholes_in, filled_with, answer, answered, read_scene_of}
+use Rattle.scene_text.specs.Scene.{read_run_of, Contents, contents_in, Tally, tally, tallied, told, Slices, slices, doubles_in, wholes_in, filled_with, answer, answer_of, refused, refusal_at, answered, read_scene_of}
 
 pub names_are : (names : List ℕ) (ls : List (List ℕ)) (n : ℕ) (t t2 : Table) (o : Bool) (m k : ℕ) (rs : List (List ℕ)) → reading o m k t2 rs ≡ onto 0 t (read_lines_of names [] ls n) → (o ≡ (read_names_of names ls n).ok) × (m ≡ (read_names_of names ls n).line) × (rs ≡ (read_names_of names ls n).rest)
 unfolding read_names_of onto
@@ -175,25 +178,55 @@ module _
 
 -- ---- the answer
 
+told_ok : (n i j k : ℕ) → told (tally true n i j k) ≡ Ok (record { solids = i; detectors = j; rays = k })
+unfolding told
+told_ok n i j k = refl
+
+told_no : (n i j k : ℕ) → told (tally false n i j k) ≡ Err (refusal_at n)
+unfolding told
+told_no n i j k = refl
+
+module _ (o : Bool) (n i j k : ℕ) (t : Tally) (e : tally o n i j k ≡ t) where
+  pub told_counts : o ≡ true → ◌≡◌ {A = Result Counts Refusal} (Ok (record { solids = i; detectors = j; rays = k })) (told t)
+  told_counts h = sym (told_ok n i j k) ∙ ap (λ b. told (tally b n i j k)) (sym h) ∙ ap told e
+
+  pub told_line : (r : Refusal) → o ≡ false → r ≡ refusal_at n → ◌≡◌ {A = Result Counts Refusal} (Err r) (told t)
+  told_line r h q = rw q (sym (told_no n i j k) ∙ ap (λ b. told (tally b n i j k)) (sym h) ∙ ap told e)
+
+module _ (t : Tally) (new old : Slices) where
+  told_good : (u : Counts) → ◌≡◌ {A = Result Counts Refusal} (Ok u) (told t) → answer_of (told t) new ≡ answered t new old
+  unfolding told answered
+  told_good u e = go t.ok e
+    where
+      counts : Counts
+      counts = record { solids = t.solids; detectors = t.detectors; rays = t.rays }
+
+      go : (b : Bool) → ◌≡◌ {A = Result Counts Refusal} (Ok u) (cond b (Ok counts) (Err (refusal_at t.line))) → answer_of (cond b (Ok counts) (Err (refusal_at t.line))) new ≡ cond b (answer (passed tt) t.solids t.detectors t.rays new) (refused t.line old)
+      go true e = refl
+      go false e = cc
+
+  told_bad : (r : Refusal) → ◌≡◌ {A = Result Counts Refusal} (Err r) (told t) → answer_of (Err r) old ≡ answered t new old
+  unfolding told answered
+  told_bad r e = go t.ok e
+    where
+      counts : Counts
+      counts = record { solids = t.solids; detectors = t.detectors; rays = t.rays }
+
+      go : (b : Bool) → ◌≡◌ {A = Result Counts Refusal} (Err r) (cond b (Ok counts) (Err (refusal_at t.line))) → answer_of (Err r) old ≡ cond b (answer (passed tt) t.solids t.detectors t.rays new) (refused t.line old)
+      go true e = cc
+      go false e = ap (λ x. answer_of x old) e
+
 module _ (s : List ℕ) (m : Slices) where
-  pub scene_long : (c : Checked Unit) (i j k : ℕ) → 65536 < length s → (c ≡ refused_at 17 0) × (i ≡ 0) × (j ≡ 0) × (k ≡ 0) → answer c i j k m ≡ read_scene_of s m
+  pub scene_long : (r : Refusal) → 65536 < length s → r ≡ refusal_at 0 → answer_of (Err r) m ≡ read_scene_of s m
   unfolding read_scene_of
-  scene_long c i j k h e = rw (lt-ltb _ _ h, e.0, e.1, e.2, e.3)
+  scene_long r h e = rw (lt-ltb _ _ h, e)
 
   pub scene_short : length s ≤ 65536 → read_scene_of s m ≡ answered (tallied (contents_in s)) (filled_with (contents_in s) m) m
   unfolding read_scene_of
   scene_short h = rw (le-ltb _ _ h)
 
-  pub scene_refused : (c : Checked Unit) (i j k : ℕ) (o : Bool) (n x y z : ℕ) → length s ≤ 65536 → tally o n x y z ≡ tallied (contents_in s) → o ≡ false → (c ≡ refused_at 17 n) × (i ≡ 0) × (j ≡ 0) × (k ≡ 0) → answer c i j k m ≡ read_scene_of s m
-  unfolding answered
-  scene_refused c i j k o n x y z h t b e =
-      (let r : answer c i j k m ≡ answered (tally o n x y z) (filled_with (contents_in s) m) m = rw (b, e.0, e.1, e.2, e.3) in r)
-      ∙ ap (λ (u : Tally). answered u (filled_with (contents_in s) m) m) t
-      ∙ sym (scene_short h)
+  pub scene_refused : (r : Refusal) → length s ≤ 65536 → ◌≡◌ {A = Result Counts Refusal} (Err r) (told (tallied (contents_in s))) → answer_of (Err r) m ≡ read_scene_of s m
+  scene_refused r h e = told_bad (tallied (contents_in s)) (filled_with (contents_in s) m) m r e ∙ sym (scene_short h)
 
-  pub scene_filled : (new : Slices) (o : Bool) (n x y z : ℕ) → length s ≤ 65536 → tally o n x y z ≡ tallied (contents_in s) → o ≡ true → new ≡ filled_with (contents_in s) m → answer (passed tt) x y z new ≡ read_scene_of s m
-  unfolding answered
-  scene_filled new o n x y z h t b e =
-      (let r : answer (passed tt) x y z new ≡ answered (tally o n x y z) (filled_with (contents_in s) m) m = rw (b, e) in r)
-      ∙ ap (λ (u : Tally). answered u (filled_with (contents_in s) m) m) t
-      ∙ sym (scene_short h)
+  pub scene_filled : (u : Counts) (x : Result Counts Refusal) (new : Slices) → length s ≤ 65536 → ◌≡◌ {A = Result Counts Refusal} (Ok u) (told (tallied (contents_in s))) → x ≡ told (tallied (contents_in s)) → new ≡ filled_with (contents_in s) m → answer_of x new ≡ read_scene_of s m
+  scene_filled u x new h e p q = rw (p, q) (told_good (tallied (contents_in s)) (filled_with (contents_in s) m) m u e) ∙ sym (scene_short h)

@@ -4,8 +4,8 @@ use mathlib.Core.List.{List, [], ◌∷◌}
 use mathlib.Core.Bool.{Bool, true, false, cond}
 use Prim.Native.Nat.{ℕ, suc, ◌+◌, ◌-◌, ◌≤◌, ◌<◌}
 use native.Mathlib.Nat.{lt_irrefl, lt_of_lt_of_le}
-use native.Mathlib.Numerals.{add-one}
 use native.Mathlib.Omega.{arith}
+use Rattle.std.proofs.lemmas.Grind.{common_steps}
 use lib.Dec.{eqb}
 use lib.ListN.{length, take, drop, get_or, length-drop, drop_of_length-le}
 use lib.Seq.{drop-cons, drop-drop}
@@ -82,7 +82,7 @@ ends_is l at o d nd w nw h r = rw r (go (eqb at (length l)) refl)
     go true q = let s : at ≡ length l = eqb-true _ _ q in let g : length l ≤ at = omega arith in rw (q, drop_of_length-le l g)
     go false q = let s : at ≡ length l → ⊥ = eqb-false _ _ q in let g : at < length l = omega arith in rw (q, drop-cons l at 0 g)
 
-pub ends_not : (l : List ℕ) (at : ℕ) (o : Bool) (d : List Float) (nd : ℕ) (w : List ℕ) (nw : ℕ) → o ≡ false → table false d nd w nw ≡ line_from l at [] (table o d nd w nw)
+pub ends_not : (l : List ℕ) (at : ℕ) (o : Bool) (d : List Float) (nd : ℕ) (w : List ℕ) (nw : ℕ) → o ≡ false → table o d nd w nw ≡ line_from l at [] (table o d nd w nw)
 unfolding line_from
 ends_not l at o d nd w nw r = rw r
 
@@ -92,14 +92,17 @@ pub line_start : (l form : List ℕ) (d : List Float) (nd : ℕ) (w : List ℕ) 
 unfolding line_from
 line_start l form d nd w nw = refl
 
-pub two_more : (form : List ℕ) (k : ℕ) → k + 1 < length form → drop k form ≡ get_or form k 0 ∷ get_or form (k + 1) 0 ∷ drop (k + 2) form
-two_more form k h =
-    let g : k < length form = omega arith in
-    let n : suc (k + 1) ≡ k + 2 = omega arith in
-    drop-cons form k 0 g ∙ ap (λ (m : List ℕ). get_or form k 0 ∷ m) (ap (λ (m : ℕ). drop m form) (sym (add-one k)) ∙ drop-cons form (k + 1) 0 h ∙ ap (λ (m : ℕ). get_or form (k + 1) 0 ∷ drop m form) n)
+two_front : (form : List ℕ) → 2 ≤ length form → get_or form 0 0 ∷ get_or form 1 0 ∷ drop 2 form ≡ form
+two_front [] h = absurd (omega arith)
+two_front (x ∷ []) h = absurd (omega arith)
+two_front (x ∷ y ∷ f) h = refl
 
-pub line_again : (l form : List ℕ) (k at at2 : ℕ) (t t2 z : Table) → k + 1 < length form → ((f : List ℕ) → line_from l at2 f t2 ≡ line_from l at (get_or form k 0 ∷ get_or form (k + 1) 0 ∷ f) t) → line_from l at (drop k form) t ≡ z → line_from l at2 (drop (k + 2) form) t2 ≡ z
-line_again l form k at at2 t t2 z h m e = m (drop (k + 2) form) ∙ ap (λ (f : List ℕ). line_from l at f t) (sym (two_more form k h)) ∙ e
+rest_whole : (form : List ℕ) → take (length form - 2) (drop 2 form) ≡ drop 2 form
+rest_whole form = grind (arith, common_steps)
+
+-- a cell of the form, and those behind it
+pub line_again : (l form : List ℕ) (at at2 : ℕ) (t t2 z : Table) → 2 ≤ length form → ((f : List ℕ) → line_from l at2 f t2 ≡ line_from l at (get_or form 0 0 ∷ get_or form 1 0 ∷ f) t) → line_from l at form t ≡ z → line_from l at2 (take (length form - 2) (drop 2 form)) t2 ≡ z
+line_again l form at at2 t t2 z h m e = rw (rest_whole form) (m (drop 2 form) ∙ ap (λ f. line_from l at f t) (two_front form h) ∙ e)
 
 short_form : (l : List ℕ) (at : ℕ) (f : List ℕ) (t : Table) → length f ≤ 1 → line_from l at [] t ≡ line_from l at f t
 unfolding line_from read_row_of
@@ -107,5 +110,5 @@ short_form l at [] t h = refl
 short_form l at (x ∷ []) t h = refl
 short_form l at (x ∷ y ∷ f) t h = absurd (lt_irrefl 1 (lt_of_lt_of_le (let g : 1 < suc (suc (length f)) = omega arith in g) h))
 
-pub line_end : (l form : List ℕ) (k at : ℕ) (t z : Table) → length form ≤ k + 1 → line_from l at (drop k form) t ≡ z → line_from l at [] t ≡ z
-line_end l form k at t z h e = short_form l at (drop k form) t (rw (length-drop k form) (omega arith)) ∙ e
+pub line_end : (l form : List ℕ) (at : ℕ) (t z : Table) → length form < 2 → line_from l at form t ≡ z → line_from l at [] t ≡ z
+line_end l form at t z h e = short_form l at form t (omega arith) ∙ e

@@ -1,9 +1,9 @@
 -- What a cell holds.
-use Rattle.std.specs.Prelude.{ℕ, zero, suc, ◌+◌, ◌-◌, List, [], ◌∷◌, ◌++◌, Bool, true, false, cond, eqb, ltb, Float}
+use Rattle.std.specs.Prelude.{ℕ, zero, suc, ◌+◌, ◌-◌, List, [], ◌∷◌, ◌++◌, Bool, true, false, cond, eqb, ltb, Float, Option, None, Some}
 use Rattle.std.specs.Float.{binary64}
 use Rattle.std.specs.Float.Ieee.{of_bits}
 use Rattle.fields.specs.Split.{split, is_byte_of}
-use Rattle.fields.specs.Number.{Read, number, malformed, read_bits_of, read_whole_of}
+use Rattle.fields.specs.Number.{read_bits_of, read_whole_of}
 
 -- What a piece of text holds: whether it is well formed, and its doubles and its whole numbers in the text's order, up
 -- to the first cell that is not
@@ -27,29 +27,29 @@ joined a b = cond a.ok (values b.ok (a.doubles ++ b.doubles) (a.wholes ++ b.whol
 
 -- ---- numbers
 
-unfoldable pub double_cell : Read → Values
-double_cell (number n) = values true (of_bits binary64 n ∷ []) []
-double_cell malformed = bad_values
+unfoldable pub double_cell : Option ℕ → Values
+double_cell (Some n) = values true (of_bits binary64 n ∷ []) []
+double_cell None = bad_values
 
-unfoldable pub whole_cell : Read → Values
-whole_cell (number n) = values true [] (n ∷ [])
-whole_cell malformed = bad_values
+unfoldable pub whole_cell : Option ℕ → Values
+whole_cell (Some n) = values true [] (n ∷ [])
+whole_cell None = bad_values
 
 -- a whole number below m
-unfoldable pub read_below_of : ℕ → Read → Read
-read_below_of m (number n) = cond (ltb n m) (number n) malformed
-read_below_of m malformed = malformed
+unfoldable pub read_below_of : ℕ → Option ℕ → Option ℕ
+read_below_of m (Some n) = cond (ltb n m) (Some n) None
+read_below_of m None = None
 
 -- the number by which the filter `-` is told from 0, which also means All
 abbrev pub no_filter : ℕ
 no_filter = 5
 
 -- a filter: its number, or - (45)
-unfoldable pub read_filter_of : List ℕ → Read
-read_filter_of f = cond (is_byte_of f 45) (number no_filter) (read_below_of 5 (read_whole_of f))
+unfoldable pub read_filter_of : List ℕ → Option ℕ
+read_filter_of f = cond (is_byte_of f 45) (Some no_filter) (read_below_of 5 (read_whole_of f))
 
 -- a whole number of the kind k: f is 102, n 110, the digits are from 48 on
-unfoldable pub read_number_of : ℕ → List ℕ → Read
+unfoldable pub read_number_of : ℕ → List ℕ → Option ℕ
 read_number_of k f =
     cond (eqb k 102) (read_filter_of f) (cond (eqb k 110) (read_whole_of f) (read_below_of (k - 48) (read_whole_of f)))
 
@@ -67,18 +67,18 @@ media_cells = 8
 unfoldable pub one_more_of : ℕ → ℕ
 one_more_of n = cond (ltb n (media_cells + 1)) (n + 1) n
 
-unfoldable pub is_number : Read → Bool
-is_number (number n) = true
-is_number malformed = false
+unfoldable pub is_number : Option ℕ → Bool
+is_number (Some n) = true
+is_number None = false
 
 -- how many media there are, n and those of the list, 9 for more than eight, if each is a whole number
-unfoldable pub count_media_of : List (List ℕ) → ℕ → Read
-count_media_of [] n = number n
-count_media_of (f ∷ fs) n = cond (is_number (read_whole_of f)) (count_media_of fs (one_more_of n)) malformed
+unfoldable pub count_media_of : List (List ℕ) → ℕ → Option ℕ
+count_media_of [] n = Some n
+count_media_of (f ∷ fs) n = cond (is_number (read_whole_of f)) (count_media_of fs (one_more_of n)) None
 
-unfoldable pub number_or_zero_of : Read → ℕ
-number_or_zero_of (number n) = n
-number_or_zero_of malformed = 0
+unfoldable pub number_or_zero_of : Option ℕ → ℕ
+number_or_zero_of (Some n) = n
+number_or_zero_of None = 0
 
 -- the first n media of a list, and 0 where there are no more
 unfoldable pub media_row : ℕ → List (List ℕ) → List ℕ
@@ -87,9 +87,9 @@ media_row (suc n) [] = 0 ∷ media_row n []
 media_row (suc n) (f ∷ fs) = number_or_zero_of (read_whole_of f) ∷ media_row n fs
 
 -- how many media there are, and then eight places for them
-unfoldable pub media_cell : Read → List (List ℕ) → Values
-media_cell (number n) fs = values true [] (n ∷ media_row media_cells fs)
-media_cell malformed fs = bad_values
+unfoldable pub media_cell : Option ℕ → List (List ℕ) → Values
+media_cell (Some n) fs = values true [] (n ∷ media_row media_cells fs)
+media_cell None fs = bad_values
 
 unfoldable pub read_media_of : List ℕ → Values
 read_media_of f = media_cell (count_media_of (media_parts f) 0) (media_parts f)

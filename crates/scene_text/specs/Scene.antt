@@ -1,7 +1,10 @@
 -- The scene text, and what reading it answers and leaves in the lent slices.
-use Rattle.std.specs.Prelude.{ℕ, List, [], Bool, cond, ltb, length, Float}
-use Rattle.error.specs.Refusals.{Checked, passed, refused_at}
+use Rattle.std.specs.Prelude.{ℕ, List, [], Bool, cond, ltb, length, Float, Result, Ok, Err}
+use Rattle.error.specs.Refusals.{Checked, passed, refused_at, number_of}
+use Rattle.error.specs.declared.NonSeqError.TheVariants.{InvalidSceneText}
+use Rattle.error.specs.declared.Refusal.{Refusal}
 use Rattle.fields.specs.Split.{split}
+use Rattle.scene_text.specs.declared.scene.Counts.{Counts}
 use Rattle.scene_text.specs.Names.{run_names, run_form, solid_names, solid_form, detector_names, detector_form}
 use Rattle.scene_text.specs.Names.{ray_names, ray_form, max_text}
 use Rattle.scene_text.specs.Tables.{put_all}
@@ -45,6 +48,13 @@ tally b n i j k = record { ok = b; line = n; solids = i; detectors = j; rays = k
 
 unfoldable pub tallied : Contents → Tally
 tallied c = tally c.rays.ok c.rays.line c.solids.rows c.detectors.rows c.rays.rows
+
+abbrev pub refusal_at : ℕ → Refusal
+refusal_at n = record { error = InvalidSceneText; place = n }
+
+-- the counts of a well formed text, else 17 with its first bad or missing line
+unfoldable pub told : Tally → Result Counts Refusal
+told t = cond t.ok (Ok (record { solids = t.solids; detectors = t.detectors; rays = t.rays })) (Err (refusal_at t.line))
 
 abbrev pub check_text_of : List ℕ → Tally
 check_text_of s = tallied (contents_in s)
@@ -103,6 +113,11 @@ answer c i j k m = record { check = c; solids = i; detectors = j; rays = k; left
 -- 17 with the line's number; the slices are as they were
 abbrev pub refused : ℕ → Slices → Answer
 refused n m = answer (refused_at 17 n) 0 0 0 m
+
+-- what the code's answer says in these terms, with what it leaves in the slices
+abbrev pub answer_of : Result Counts Refusal → Slices → Answer
+answer_of (Ok c) m = answer (passed tt) c.solids c.detectors c.rays m
+answer_of (Err r) m = answer (refused_at (number_of r.error) r.place) 0 0 0 m
 
 unfoldable pub answered : Tally → Slices → Slices → Answer
 answered t new old = cond t.ok (answer (passed tt) t.solids t.detectors t.rays new) (refused t.line old)

@@ -1,14 +1,15 @@
 // Blocks of lines.
 ghost use Rattle.std.specs.Prelude.{◌≡◌, true, ◌+◌, ◌≤◌, ◌<◌, length};
 ghost use Rattle.fields.specs.Split.{end_at_of};
-ghost use Rattle.scene_text.specs.Blocks.{same_of, read_names_of, read_one_of, ends_well_of, read_lines_of};
+ghost use Rattle.scene_text.specs.Blocks.{read_names_of, read_one_of, ends_well_of, read_lines_of};
 ghost use Rattle.scene_text.specs.Steps.{table, reading, onto, rest_at, comes_to};
 ghost use Rattle.scene_text.specs.Names.{max_text};
 
 use crate::rows::read_row;
 
 // Where the reading of a block stands: whether it goes on, whether all was well formed so far, where the next line starts and its number
-// (the first bad or missing one's where not ok), how many lines of values there were, and the places that come next.
+// (the first bad or missing one's where not ok), how many lines of values there were, and the places that come next. All of these are there
+// in every case, so no Option or Result.
 #[derive(Clone, Copy)]
 pub struct Found {
     pub more: bool,
@@ -18,23 +19,6 @@ pub struct Found {
     pub rows: u32,
     pub nd: usize,
     pub nw: usize,
-}
-
-fn same(a: &[u8], b: &[u8]) -> bool
-    ensures { result ≡ same_of a.now b.now }
-{
-    let n = a.len();
-    if n != b.len() {
-        return false;
-    }
-    let mut i: usize = 0;
-    while i < n {
-        if a[i] != b[i] {
-            return false;
-        }
-        i += 1;
-    }
-    true
 }
 
 // The line that ends at place e.
@@ -54,15 +38,13 @@ fn read_line(
 {
     let at = f.at;
     let l = &s[at..e + 1];
-    if same(l, names) {
+    if l == names {
         return Found {
             more: false,
             ok: true,
             at: e + 1,
             line: f.line + 1,
-            rows: f.rows,
-            nd: f.nd,
-            nw: f.nw,
+            ..f
         };
     }
     let r = read_row(l, form, d, f.nd, w, f.nw);
@@ -80,11 +62,9 @@ fn read_line(
     Found {
         more: false,
         ok: false,
-        at: f.at,
-        line: f.line,
-        rows: f.rows,
         nd: r.nd,
         nw: r.nw,
+        ..f
     }
 }
 
@@ -99,26 +79,19 @@ fn read_next(s: &[u8], f: Found, names: &[u8], form: &[u8], d: &mut [f64], w: &m
     if e < s.len() {
         return read_line(s, e, f, names, form, d, w);
     }
-    let ok = ends_well(e - f.at, names);
     Found {
         more: false,
-        ok,
-        at: f.at,
-        line: f.line,
-        rows: f.rows,
-        nd: f.nd,
-        nw: f.nw,
+        ok: ends_well(e - f.at, names),
+        ..f
     }
 }
 
 // Whether a text may end here, with so many bytes behind its last LF: none, and with no names to come.
+#[tactic(auto, unfolding(crate::specs::Blocks::ends_well_of))]
 fn ends_well(bytes: usize, names: &[u8]) -> bool
     ensures { result ≡ ends_well_of bytes names.now }
 {
-    if bytes == 0 {
-        return names.len() == 0;
-    }
-    false
+    bytes == 0 && names.is_empty()
 }
 
 // Lines of this form up to the line of these names.
@@ -137,12 +110,10 @@ pub(crate) fn read_lines(
 {
     let mut f = Found {
         more: from.ok,
-        ok: from.ok,
-        at: from.at,
-        line: from.line,
         rows: 0,
         nd: 0,
         nw: 0,
+        ..from
     };
     while f.more {
         f = read_next(s, f, names, form, d, w);
@@ -188,21 +159,19 @@ pub(crate) fn read_one(s: &[u8], from: Found, form: &[u8], d: &mut [f64], w: &mu
             return Found {
                 more: false,
                 ok: false,
-                at: from.at,
-                line: from.line,
                 rows: 0,
                 nd: r.nd,
                 nw: r.nw,
+                ..from
             };
         }
     }
     Found {
         more: false,
         ok: false,
-        at: from.at,
-        line: from.line,
         rows: 0,
         nd: 0,
         nw: 0,
+        ..from
     }
 }

@@ -1,17 +1,16 @@
 // Cells: the numbers of a line, and the slices that they go to.
 ghost use Rattle.std.specs.Prelude.{◌≡◌, true, [], ◌∷◌, ◌-◌};
-ghost use Rattle.fields.specs.Number.{read_bits_of, read_whole_of, as_whole};
+ghost use Rattle.fields.specs.Number.{read_bits_of, read_whole_of};
 ghost use Rattle.scene_text.specs.Cells.{double_cell, whole_cell, read_below_of, read_filter_of, read_number_of, read_cell_of};
 ghost use Rattle.scene_text.specs.Tables.{filled, put_all};
 ghost use Rattle.scene_text.specs.Steps.{table, put};
 
 use crate::media::read_media;
-use fields::{ReadBits, ReadWhole};
 
 // The number of the filter `-`, which is kept apart from 0.
 pub const NO_FILTER: u32 = 5;
 
-// Whether a cell is well formed, and the places that come next.
+// Whether a cell is well formed, and the places that come next: these are there in either case, so no Option.
 #[derive(Clone, Copy)]
 pub struct Cells {
     pub ok: bool,
@@ -19,119 +18,85 @@ pub struct Cells {
     pub nw: usize,
 }
 
-pub fn put_f64(d: &mut [f64], at: usize, x: f64) -> usize
-    ensures { filled d.new result ≡ put_all d.old at (x ∷ []) }
+// A value at place `at`, and the place after it; a value for which there is no place is dropped.
+#[tactic(auto, unfolding(crate::specs::Tables::put_all, crate::specs::Tables::next_at))]
+pub fn put_value<T: Copy>(s: &mut [T], at: usize, x: T) -> usize
+    ensures { filled s.new result ≡ put_all s.old at (x ∷ []) }
 {
-    if at < d.len() {
-        d[at] = x;
+    if at < s.len() {
+        s[at] = x;
         return at + 1;
     }
     at
 }
 
-pub fn put_u32(w: &mut [u32], at: usize, x: u32) -> usize
-    ensures { filled w.new result ≡ put_all w.old at (x ∷ []) }
-{
-    if at < w.len() {
-        w[at] = x;
-        return at + 1;
-    }
-    at
-}
-
+#[tactic(auto, unfolding(crate::specs::Steps::put, crate::specs::Cells::double_cell, crate::specs::Tables::put_all))]
 fn read_double(f: &[u8], d: &mut [f64], nd: usize, w: &mut [u32], nw: usize) -> Cells
     ensures { table result.ok d.new result.nd w.new result.nw
         ≡ put (double_cell (read_bits_of f.now)) (table true d.old nd w.old nw) }
 {
     match fields::read_bits(f) {
-        ReadBits::Bits(b) => {
-            let x = doubles::from_bits(b);
-            let p = put_f64(d, nd, x);
-            Cells {
-                ok: true,
-                nd: p,
-                nw,
-            }
-        }
-        ReadBits::Malformed => Cells { ok: false, nd, nw },
+        Some(b) => Cells {
+            ok: true,
+            nd: put_value(d, nd, doubles::from_bits(b)),
+            nw,
+        },
+        None => Cells { ok: false, nd, nw },
     }
 }
 
-fn put_whole(v: ReadWhole, d: &mut [f64], nd: usize, w: &mut [u32], nw: usize) -> Cells
+#[tactic(auto, unfolding(crate::specs::Steps::put, crate::specs::Cells::whole_cell, crate::specs::Tables::put_all))]
+fn put_whole(v: Option<u32>, d: &mut [f64], nd: usize, w: &mut [u32], nw: usize) -> Cells
     ensures { table result.ok d.new result.nd w.new result.nw
-        ≡ put (whole_cell (as_whole v)) (table true d.old nd w.old nw) }
+        ≡ put (whole_cell v) (table true d.old nd w.old nw) }
 {
     match v {
-        ReadWhole::Whole(x) => {
-            let p = put_u32(w, nw, x);
-            Cells {
-                ok: true,
-                nd,
-                nw: p,
-            }
-        }
-        ReadWhole::Malformed => Cells { ok: false, nd, nw },
+        Some(x) => Cells {
+            ok: true,
+            nd,
+            nw: put_value(w, nw, x),
+        },
+        None => Cells { ok: false, nd, nw },
     }
 }
 
-fn read_below(f: &[u8], m: u32) -> ReadWhole
-    ensures { as_whole result ≡ read_below_of m (read_whole_of f.now) }
+#[tactic(auto, unfolding(crate::specs::Cells::read_below_of))]
+fn read_below(f: &[u8], m: u32) -> Option<u32>
+    ensures { result ≡ read_below_of m (read_whole_of f.now) }
 {
-    let v = fields::read_whole(f);
-    match v {
-        ReadWhole::Whole(n) => {
-            if n < m {
-                return ReadWhole::Whole(n);
-            }
-            ReadWhole::Malformed
-        }
-        ReadWhole::Malformed => ReadWhole::Malformed,
-    }
+    fields::read_whole(f).filter(|n| *n < m)
 }
 
-fn read_filter(f: &[u8]) -> ReadWhole
-    ensures { as_whole result ≡ read_filter_of f.now }
+#[tactic(auto, unfolding(crate::specs::Cells::read_filter_of))]
+fn read_filter(f: &[u8]) -> Option<u32>
+    ensures { result ≡ read_filter_of f.now }
 {
     if fields::is_byte(f, b'-') {
-        return ReadWhole::Whole(NO_FILTER);
+        return Some(NO_FILTER);
     }
     read_below(f, 5)
 }
 
-// What a digit stands for.
-fn limit(kind: u8) -> u32
-    ensures { result ≡ kind - 48 }
+#[tactic(auto, unfolding(crate::specs::Cells::read_number_of))]
+fn read_number(kind: u8, f: &[u8]) -> Option<u32>
+    ensures { result ≡ read_number_of kind f.now }
 {
-    if kind < b'0' {
-        return 0;
+    match kind {
+        b'f' => read_filter(f),
+        b'n' => fields::read_whole(f),
+        _ => read_below(f, u32::from(kind.saturating_sub(b'0'))),
     }
-    (kind - b'0') as u32
-}
-
-fn read_number(kind: u8, f: &[u8]) -> ReadWhole
-    ensures { as_whole result ≡ read_number_of kind f.now }
-{
-    if kind == b'f' {
-        return read_filter(f);
-    }
-    if kind == b'n' {
-        return fields::read_whole(f);
-    }
-    let m = limit(kind);
-    read_below(f, m)
 }
 
 // A cell of any kind.
+#[tactic(auto, unfolding(crate::specs::Cells::read_cell_of))]
 pub fn read_cell(kind: u8, f: &[u8], d: &mut [f64], nd: usize, w: &mut [u32], nw: usize) -> Cells
     ensures { table result.ok d.new result.nd w.new result.nw
         ≡ put (read_cell_of kind f.now) (table true d.old nd w.old nw) }
 {
-    if kind == b'd' {
-        return read_double(f, d, nd, w, nw);
+    match kind {
+        b'd' => read_double(f, d, nd, w, nw),
+        b'l' => read_media(f, d, nd, w, nw),
+        _ => put_whole(read_number(kind, f), d, nd, w, nw),
     }
-    if kind == b'l' {
-        return read_media(f, d, nd, w, nw);
-    }
-    let v = read_number(kind, f);
-    put_whole(v, d, nd, w, nw)
 }

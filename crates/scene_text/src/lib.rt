@@ -8,4 +8,4 @@ mod rows;
 mod scene;
 
 pub use cells::NO_FILTER;
-pub use scene::{MAX_TEXT, SceneText, read_scene};
+pub use scene::{Counts, MAX_TEXT, read_scene};

@@ -1,13 +1,11 @@
 // Media: whole numbers joined by commas.
 ghost use Rattle.std.specs.Prelude.{◌≡◌, true, List, ◌∷◌, ℕ, suc, ◌+◌, ◌≤◌, length};
 ghost use Rattle.fields.specs.Split.{parts_at};
-ghost use Rattle.fields.specs.Number.{read_whole_of, as_whole};
-ghost use Rattle.scene_text.specs.Cells.{one_more_of, media_parts, count_media_of, number_or_zero_of, media_row, read_media_of, media_cells};
+ghost use Rattle.scene_text.specs.Cells.{one_more_of, media_parts, count_media_of, media_row, read_media_of, media_cells};
 ghost use Rattle.scene_text.specs.Tables.{filled, put_all};
 ghost use Rattle.scene_text.specs.Steps.{table, put};
 
-use crate::cells::{Cells, put_u32};
-use fields::ReadWhole;
+use crate::cells::{Cells, put_value};
 
 // Cells for the media of a ray, and the number that stands for more.
 const MEDIA_CELLS: usize = 8;
@@ -15,16 +13,14 @@ const MEDIA_CELLS: usize = 8;
 const MORE_MEDIA: u32 = MEDIA_CELLS as u32 + 1;
 
 // One more, but no more than one past the cells.
+#[tactic(auto, unfolding(crate::specs::Cells::one_more_of))]
 fn one_more(n: u32) -> u32
     ensures { result ≡ one_more_of n }
 {
-    if n < MORE_MEDIA {
-        return n + 1;
-    }
-    n
+    if n < MORE_MEDIA { n + 1 } else { n }
 }
 
-// Where the first medium starts; past the length where there is none.
+// Where the first medium starts; past the length where there is none, as behind a last medium, so no Option: the loops end there by themselves.
 fn media_start(f: &[u8]) -> usize
     ensures result_value { parts_at 44 f.now result ≡ media_parts f.now }
     ensures upper_bound { result ≤ length f.now + 1 }
@@ -36,36 +32,21 @@ fn media_start(f: &[u8]) -> usize
 }
 
 // How many numbers are joined by commas from a place on, 9 for more than eight.
-fn count_media(f: &[u8], from: usize) -> ReadWhole
+fn count_media(f: &[u8], from: usize) -> Option<u32>
     requires { from ≤ length f.now + 1 }
-    ensures { as_whole result ≡ count_media_of (parts_at 44 f.now from) 0 }
+    ensures { result ≡ count_media_of (parts_at 44 f.now from) 0 }
 {
     let mut at = from;
     let mut n: u32 = 0;
+    // From comma to comma by places, as `put_media` goes: over the parts of `split` its eight turns would ask for one more behind the
+    // last part too, and tell it from a part, which is no plainer.
     while at <= f.len() {
         let e = fields::end_at(f, at, b',');
-        let v = fields::read_whole(&f[at..e]);
-        match v {
-            ReadWhole::Whole(_) => {
-                n = one_more(n);
-            }
-            ReadWhole::Malformed => {
-                return ReadWhole::Malformed;
-            }
-        }
+        fields::read_whole(&f[at..e])?;
+        n = one_more(n);
         at = e + 1;
     }
-    ReadWhole::Whole(n)
-}
-
-fn number_or_zero(f: &[u8]) -> u32
-    ensures { result ≡ number_or_zero_of (read_whole_of f.now) }
-{
-    let v = fields::read_whole(f);
-    match v {
-        ReadWhole::Whole(n) => n,
-        ReadWhole::Malformed => 0,
-    }
+    Some(n)
 }
 
 // A medium, and where the next one starts.
@@ -84,9 +65,8 @@ fn next_medium(f: &[u8], at: usize) -> Medium
         return Medium { value: 0, at };
     }
     let e = fields::end_at(f, at, b',');
-    let x = number_or_zero(&f[at..e]);
     Medium {
-        value: x,
+        value: fields::read_whole(&f[at..e]).unwrap_or(0),
         at: e + 1,
     }
 }
@@ -98,32 +78,29 @@ fn put_media(f: &[u8], from: usize, w: &mut [u32], nw: usize) -> usize
 {
     let mut at = from;
     let mut p = nw;
-    let mut j: usize = 0;
-    while j < MEDIA_CELLS {
+    for _ in 0..MEDIA_CELLS {
         let m = next_medium(f, at);
-        p = put_u32(w, p, m.value);
+        p = put_value(w, p, m.value);
         at = m.at;
-        j += 1;
     }
     p
 }
 
+#[tactic(auto, unfolding(crate::specs::Steps::put, crate::specs::Cells::read_media_of, crate::specs::Cells::media_cell, crate::specs::Tables::put_all))]
 pub fn read_media(f: &[u8], d: &mut [f64], nd: usize, w: &mut [u32], nw: usize) -> Cells
     ensures { table result.ok d.new result.nd w.new result.nw
         ≡ put (read_media_of f.now) (table true d.old nd w.old nw) }
 {
     let from = media_start(f);
-    let v = count_media(f, from);
-    match v {
-        ReadWhole::Whole(n) => {
-            let p = put_u32(w, nw, n);
-            let q = put_media(f, from, w, p);
+    match count_media(f, from) {
+        Some(n) => {
+            let p = put_value(w, nw, n);
             Cells {
                 ok: true,
                 nd,
-                nw: q,
+                nw: put_media(f, from, w, p),
             }
         }
-        ReadWhole::Malformed => Cells { ok: false, nd, nw },
+        None => Cells { ok: false, nd, nw },
     }
 }

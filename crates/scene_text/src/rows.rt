@@ -5,7 +5,8 @@ ghost use Rattle.scene_text.specs.Steps.{table, put, line_from};
 
 use crate::cells::read_cell;
 
-// Whether a line is well formed so far, where its next cell starts, and the places that come next.
+// Whether a line is well formed so far, where its next cell starts, and the places that come next: these are there in
+// either case, so no Option.
 #[derive(Clone, Copy)]
 pub struct Row {
     pub ok: bool,
@@ -33,12 +34,7 @@ fn next_cell(line: &[u8], kind: u8, end: u8, r: Row, d: &mut [f64], w: &mut [u32
                 nw: c.nw,
             };
         }
-        return Row {
-            ok: false,
-            at: r.at,
-            nd: r.nd,
-            nw: r.nw,
-        };
+        return Row { ok: false, ..r };
     }
     r
 }
@@ -48,10 +44,7 @@ fn ends_there(line: &[u8], r: Row) -> bool
     requires { r.at ≤ length line.now }
     ensures { (d : List Float) (w : List ℕ) → table result d r.nd w r.nw ≡ line_from line.now r.at [] (table r.ok d r.nd w r.nw) }
 {
-    if r.ok {
-        return r.at == line.len();
-    }
-    false
+    r.ok && r.at == line.len()
 }
 
 // A line, its LF included, of this form.
@@ -65,16 +58,13 @@ pub fn read_row(line: &[u8], form: &[u8], d: &mut [f64], nd: usize, w: &mut [u32
         nd,
         nw,
     };
-    let mut k: usize = 0;
-    while k + 1 < form.len() {
-        r = next_cell(line, form[k], form[k + 1], r, d, w);
-        k += 2;
+    let mut cells = form;
+    while let [kind, end, more @ ..] = cells {
+        r = next_cell(line, *kind, *end, r, d, w);
+        cells = more;
     }
-    let ok = ends_there(line, r);
     Row {
-        ok,
-        at: r.at,
-        nd: r.nd,
-        nw: r.nw,
+        ok: ends_there(line, r),
+        ..r
     }
 }

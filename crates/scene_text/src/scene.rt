@@ -1,32 +1,20 @@
 // The scene: four blocks, read once to see that all is well formed and once more to fill the slices.
 ghost use Rattle.std.specs.Prelude.{◌≡◌, true, ◌+◌, ◌≤◌, length};
-ghost use Rattle.error.specs.Refusals.{as_checked, refused_at};
 ghost use Rattle.fields.specs.Split.{split};
 ghost use Rattle.scene_text.specs.Names.{solid_names, solid_form, detector_names, detector_form, ray_names, max_text};
 ghost use Rattle.scene_text.specs.Blocks.{read_names_of, read_lines_of};
 ghost use Rattle.scene_text.specs.Steps.{table, rest_at, onto, reading};
-ghost use Rattle.scene_text.specs.Scene.{read_run_of, contents_in, tally, slices, doubles_in, wholes_in, filled_with, answer, read_scene_of, check_text_of};
+ghost use Rattle.scene_text.specs.Scene.{read_run_of, contents_in, told, slices, doubles_in, wholes_in, filled_with, refusal_at, answer_of, read_scene_of, check_text_of};
 
 use crate::blocks::{Found, read_lines, read_names, read_one};
-use error::{Check, NonSeqError};
+use error::{NonSeqError, Refusal};
 
 // The most bytes of a scene text (else 17).
 pub const MAX_TEXT: usize = 65536;
 
-// What reading a scene text answers: whether it was refused, and how many lines of values the blocks have.
+// How many lines of values the blocks of a scene text have.
 #[derive(Clone, Copy)]
-pub struct SceneText {
-    pub check: Check,
-    pub solids: u32,
-    pub detectors: u32,
-    pub rays: u32,
-}
-
-// Whether a text is well formed, else its first bad or missing line, and how many lines of values the blocks have.
-#[derive(Clone, Copy)]
-pub struct Tallied {
-    pub ok: bool,
-    pub line: u32,
+pub struct Counts {
     pub solids: u32,
     pub detectors: u32,
     pub rays: u32,
@@ -90,6 +78,16 @@ fn read_detectors(s: &[u8], from: Found, d: &mut [f64], w: &mut [u32]) -> Found
     )
 }
 
+fn refused(place: u32) -> Refusal
+    ensures { result ≡ refusal_at place }
+{
+    Refusal {
+        error: NonSeqError::InvalidSceneText,
+        place,
+    }
+}
+
+// The counts of a well formed text, else a refusal with the first bad or missing line.
 fn read_blocks(
     s: &[u8],
     run_values: &mut [f64],
@@ -100,9 +98,9 @@ fn read_blocks(
     detector_tags: &mut [u32],
     ray_values: &mut [f64],
     ray_tags: &mut [u32],
-) -> Tallied
+) -> Result<Counts, Refusal>
     requires { length s.now ≤ max_text }
-    ensures rays_value { tally result.ok result.line result.solids result.detectors result.rays ≡ check_text_of s.now }
+    ensures rays_value { result ≡ told (check_text_of s.now) }
     ensures ray_tags_after { slices run_values.new run_tags.new solid_values.new solid_tags.new detector_values.new detector_tags.new ray_values.new ray_tags.new
         ≡ filled_with (contents_in s.now) (slices run_values.old run_tags.old solid_values.old solid_tags.old detector_values.old detector_tags.old ray_values.old ray_tags.old) }
 {
@@ -110,19 +108,21 @@ fn read_blocks(
     let d = read_solids(s, c, solid_values, solid_tags);
     let e = read_detectors(s, d, detector_values, detector_tags);
     let f = read_lines(s, e, b"", b"d d d d d d d d n l\n", ray_values, ray_tags);
-    Tallied {
-        ok: f.ok,
-        line: f.line,
-        solids: d.rows,
-        detectors: e.rows,
-        rays: f.rows,
+    if f.ok {
+        Ok(Counts {
+            solids: d.rows,
+            detectors: e.rows,
+            rays: f.rows,
+        })
+    } else {
+        Err(refused(f.line))
     }
 }
 
 // The same with no slice of the caller's: what does not fit into a slice is dropped, whatever its length.
-fn check_text(s: &[u8]) -> Tallied
+fn check_text(s: &[u8]) -> Result<Counts, Refusal>
     requires { length s.now ≤ max_text }
-    ensures { tally result.ok result.line result.solids result.detectors result.rays ≡ check_text_of s.now }
+    ensures { result ≡ told (check_text_of s.now) }
 {
     let mut a = [0.0f64; 1];
     let mut b = [0u32; 1];
@@ -137,21 +137,7 @@ fn check_text(s: &[u8]) -> Tallied
     )
 }
 
-fn refused(place: u32) -> SceneText
-    ensures { (as_checked result.check ≡ refused_at 17 place) × (result.solids ≡ 0) × (result.detectors ≡ 0) × (result.rays ≡ 0) }
-{
-    SceneText {
-        check: Check::Refused {
-            error: NonSeqError::InvalidSceneText,
-            place,
-        },
-        solids: 0,
-        detectors: 0,
-        rays: 0,
-    }
-}
-
-// The text of a scene. Where it is refused, the slices are as they were.
+// The text of a scene, and how many lines of values its blocks have. Where it is refused, the slices are as they were.
 pub fn read_scene(
     text: &[u8],
     run_values: &mut [f64],
@@ -162,33 +148,24 @@ pub fn read_scene(
     detector_tags: &mut [u32],
     ray_values: &mut [f64],
     ray_tags: &mut [u32],
-) -> SceneText
-    ensures { answer (as_checked result.check) result.solids result.detectors result.rays
+) -> Result<Counts, Refusal>
+    ensures { answer_of result
         (slices run_values.new run_tags.new solid_values.new solid_tags.new detector_values.new detector_tags.new ray_values.new ray_tags.new)
         ≡ read_scene_of text.now (slices run_values.old run_tags.old solid_values.old solid_tags.old detector_values.old detector_tags.old ray_values.old ray_tags.old) }
 {
     if MAX_TEXT < text.len() {
-        return refused(0);
+        return Err(refused(0));
     }
-    let found = check_text(text);
-    if found.ok {
-        read_blocks(
-            text,
-            run_values,
-            run_tags,
-            solid_values,
-            solid_tags,
-            detector_values,
-            detector_tags,
-            ray_values,
-            ray_tags,
-        );
-        return SceneText {
-            check: Check::Passed,
-            solids: found.solids,
-            detectors: found.detectors,
-            rays: found.rays,
-        };
-    }
-    refused(found.line)
+    check_text(text)?;
+    read_blocks(
+        text,
+        run_values,
+        run_tags,
+        solid_values,
+        solid_tags,
+        detector_values,
+        detector_tags,
+        ray_values,
+        ray_tags,
+    )
 }

@@ -5,4 +5,4 @@ use Rattle.answer_text.proofs.put_maps.Goals as goal
 
 pub returns : goal.returns
 unfolding bytes maps_text
-returns c = put_join _ _ _ _ _ _ _ c.put_all-p.ensures c.put_maps.ensures
+returns c = put_join _ _ _ _ _ _ _ c.put_all-p.ensures c.put_each.ensures

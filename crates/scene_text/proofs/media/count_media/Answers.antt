@@ -13,9 +13,8 @@ slice_bounds-read_whole-start c = let h = end_in _ _ _ _ c.end_at-e.ensures c.lo
 pub slice_bounds-read_whole-end : goal.slice_bounds-read_whole-end
 slice_bounds-read_whole-end c = let h = end_in _ _ _ _ c.end_at-e.ensures c.loop-at-test.true in search rules
 
-pub returns-in-Malformed : goal.returns-in-Malformed
-returns-in-Malformed c = count_bad _ c.loop-at.at _ c.end_at-e.ensures c.loop-at-test.true _ _ _ c.read_whole-v.ensures c.in-Malformed.is
-    c.loop-at.invariant.1
+pub returns-in_err-read_whole : goal.returns-in_err-read_whole
+returns-in_err-read_whole c = rw c.from_residual.ensures (count_bad _ c.loop-at.at _ c.end_at-e.ensures c.loop-at-test.true _ _ _ c.read_whole.ensures c.in_err-read_whole.was c.loop-at.invariant.1)
 
 pub loop-at-smaller : goal.loop-at-smaller
 loop-at-smaller c = let h = end_in _ _ _ _ c.end_at-e.ensures c.loop-at-test.true in omega (arith, h.0, h.1, c.loop-at-test.true)
@@ -24,7 +23,7 @@ pub loop-at-preserved : goal.loop-at-preserved
 loop-at-preserved c = let h = end_in _ _ _ _ c.end_at-e.ensures c.loop-at-test.true in (
   omega (arith, h.1),
   rw c.one_more-n.ensures
-      (count_again _ c.loop-at.at _ c.end_at-e.ensures c.loop-at-test.true _ _ _ _ c.read_whole-v.ensures c.in-Whole.is c.loop-at.invariant.1),
+      (count_again _ c.loop-at.at _ c.end_at-e.ensures c.loop-at-test.true _ _ _ _ c.read_whole.ensures c.in_ok-read_whole.was c.loop-at.invariant.1),
 )
 
 pub returns : goal.returns
