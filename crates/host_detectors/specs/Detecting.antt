@@ -1,6 +1,5 @@
 -- Detectors, and where a ray crosses one.
-use Rattle.std.specs.Prelude.{ℕ, Float}
-use Rattle.std.proofs.Math.Option.{Option, none, some}
+use Rattle.std.specs.Prelude.{ℕ, Float, Option, None, Some}
 use Rattle.error.specs.Refusals.{Checked, passed, refused_at}
 use Rattle.rays.specs.Vectors.{vec3}
 use Rattle.detector.specs.declared.Detector2D.{Detector2D}
@@ -32,6 +31,6 @@ abbrev pub host_crossing : ℕ → ℕ → ℕ → Float → Float → Float →
 host_crossing n place k t x y = record { refusal = n; place = place; crosses = k; t = t; local_x = x; local_y = y }
 
 abbrev pub crossing_from : Checked (Option Crossing) → HostCrossing
-crossing_from (passed (some c)) = host_crossing 0 0 1 c.t c.local_x c.local_y
-crossing_from (passed none) = host_crossing 0 0 0 #0 #0 #0
+crossing_from (passed (Some c)) = host_crossing 0 0 1 c.t c.local_x c.local_y
+crossing_from (passed None) = host_crossing 0 0 0 #0 #0 #0
 crossing_from (refused_at n place) = host_crossing n place 0 #0 #0 #0

@@ -1,6 +1,5 @@
 -- The lent maps and the hit list.
-use Rattle.std.specs.Prelude.{ℕ, List, Float}
-use Rattle.std.proofs.Math.Option.{Option, none, some}
+use Rattle.std.specs.Prelude.{ℕ, List, Float, Option, None, Some}
 use Rattle.error.specs.Refusals.{Checked, passed, refused_at}
 use Rattle.detector.specs.Pixels.{pixels_of}
 use Rattle.detectors.specs.declared.Detectors.{Detectors}
@@ -55,9 +54,9 @@ filtered_from h = filtered_with h.check h.map h.total h.count
 -- a number that is no filter's is 17
 unfoldable pub refilter_by :
     Option RayPathFilter → Detectors → ℕ → List Float → List Float → List Float → List ℕ → ℕ → Handed
-refilter_by (some f) ds asked stored work hit_values hit_tags used =
+refilter_by (Some f) ds asked stored work hit_values hit_tags used =
     refilter_of ds (record { 0 = asked }) f stored work hit_values hit_tags used
-refilter_by none ds asked stored work hit_values hit_tags used = handed (refused_at 17 0) work #0 0
+refilter_by None ds asked stored work hit_values hit_tags used = handed (refused_at 17 0) work #0 0
 
 unfoldable pub host_refilter_of : Detectors → ℕ → ℕ → List Float → List Float → List Float → List ℕ → ℕ → Handed
 host_refilter_of ds asked f stored work hit_values hit_tags used =

@@ -8,8 +8,9 @@ ghost use Rattle.detectors.specs.Detectors.{check_detectors_of};
 ghost use Rattle.host_numbers.specs.Numbers.{checked_of, read_of};
 ghost use Rattle.host_detectors.specs.Detecting.{no_detector_of, made_from, crossing_from};
 
-use detector::{Crossed, Detector2D, NewDetector, RayCrossing};
+use detector::Detector2D;
 use detectors::Detectors;
+use error::Refusal;
 use host_numbers::{HostChecked, HostReading};
 use rays::{Ray, Vec3};
 
@@ -35,6 +36,7 @@ pub struct HostCrossing {
     pub local_y: f64,
 }
 
+#[tactic(auto, unfolding(crate::specs::Detecting::no_detector_of))]
 fn no_detector() -> Detector2D
     ensures { result ≡ no_detector_of }
 {
@@ -56,7 +58,8 @@ fn no_detector() -> Detector2D
     }
 }
 
-fn refused_crossing(refusal: u32, place: u32) -> HostCrossing
+// What stands where nothing is crossed, or where it is refused.
+fn no_crossing(refusal: u32, place: u32) -> HostCrossing
     ensures { result ≡ crossing_from (refused_at refusal place) }
 {
     HostCrossing {
@@ -81,17 +84,16 @@ pub fn nonseq_new_detector(
 ) -> HostDetector
     ensures { result ≡ made_from (new_detector_of center normal up width_mm height_mm res_x res_y) }
 {
-    let none = no_detector();
     match Detector2D::new(center, normal, up, width_mm, height_mm, res_x, res_y) {
-        NewDetector::Made(detector) => HostDetector {
+        Ok(detector) => HostDetector {
             refusal: 0,
             place: 0,
             detector,
         },
-        NewDetector::Refused { error, place } => HostDetector {
+        Err(Refusal { error, place }) => HostDetector {
             refusal: error.number(),
             place,
-            detector: none,
+            detector: no_detector(),
         },
     }
 }
@@ -115,25 +117,16 @@ pub fn nonseq_intersect_ray(detector: Detector2D, ray: Ray) -> HostCrossing
     ensures { result ≡ crossing_from (intersect_ray_of detector ray) }
 {
     match detector.intersect_ray(ray) {
-        RayCrossing::Found(crossed) => match crossed {
-            Crossed::At(c) => HostCrossing {
-                refusal: 0,
-                place: 0,
-                crosses: 1,
-                t: c.t,
-                local_x: c.local_x,
-                local_y: c.local_y,
-            },
-            Crossed::Miss => HostCrossing {
-                refusal: 0,
-                place: 0,
-                crosses: 0,
-                t: 0.0,
-                local_x: 0.0,
-                local_y: 0.0,
-            },
+        Ok(Some(c)) => HostCrossing {
+            refusal: 0,
+            place: 0,
+            crosses: 1,
+            t: c.t,
+            local_x: c.local_x,
+            local_y: c.local_y,
         },
-        RayCrossing::Refused { error, place } => refused_crossing(error.number(), place),
+        Ok(None) => no_crossing(0, 0),
+        Err(Refusal { error, place }) => no_crossing(error.number(), place),
     }
 }
 

@@ -4,11 +4,9 @@
 
 ghost use Rattle.std.specs.Prelude.{◌≡◌};
 ghost use Rattle.error.specs.Refusals.{as_checked};
-ghost use Rattle.detector.specs.Pixels.{as_reading};
 ghost use Rattle.host_numbers.specs.Numbers.{checked_of, read_of};
 
-use detector::Reading;
-use error::Check;
+use error::Refusal;
 
 #[repr(C)]
 #[derive(Clone, Copy)]
@@ -26,36 +24,33 @@ pub struct HostReading {
     pub value: f64,
 }
 
-pub fn checked(check: Check) -> HostChecked
+pub fn checked(check: Result<(), Refusal>) -> HostChecked
     ensures { result ≡ checked_of (as_checked check) }
 {
     match check {
-        Check::Passed => HostChecked {
+        Ok(()) => HostChecked {
             refusal: 0,
             place: 0,
         },
-        Check::Refused { error, place } => HostChecked {
+        Err(Refusal { error, place }) => HostChecked {
             refusal: error.number(),
             place,
         },
     }
 }
 
-pub fn read(reading: Reading) -> HostReading
-    ensures { result ≡ read_of (as_reading reading) }
+pub fn read(reading: Result<f64, Refusal>) -> HostReading
+    ensures { result ≡ read_of (as_checked reading) }
 {
     match reading {
-        Reading::Value(value) => HostReading {
+        Ok(value) => HostReading {
             refusal: 0,
             place: 0,
             value,
         },
-        Reading::Refused {
-            error: e,
-            place: at,
-        } => HostReading {
-            refusal: e.number(),
-            place: at,
+        Err(Refusal { error, place }) => HostReading {
+            refusal: error.number(),
+            place,
             value: 0.0,
         },
     }

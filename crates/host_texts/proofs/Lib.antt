@@ -1,3 +1,2 @@
--- The code's answers and the definitions' say the same in numbers; texts that fit their buffers.
-pub mod Alike
+-- Texts that fit their buffers.
 pub mod Whole

@@ -7,8 +7,8 @@ use native.Mathlib.Omega.{arith}
 use lib.Dec.{leb, eqb}
 use lib.ListN.{length, replicate, length-replicate}
 use borrow.Author.Tests.{le-leb, leb-true}
-use Rattle.error.specs.declared.Check.{Check}
-use Rattle.error.specs.declared.Check.TheVariants.{Passed}
+use Rattle.std.specs.Prelude.{Result, Ok}
+use Rattle.error.specs.declared.Refusal.{Refusal}
 use Rattle.error.specs.Refusals.{Checked, passed, refused_at, as_checked, after}
 use Rattle.detector.proofs.Grid.{never}
 use Rattle.detectors.specs.declared.Detectors.{Detectors}
@@ -45,7 +45,7 @@ pub answer_held : (r : NonSeqTraceReport) (f : RayPathFilter) (m : Held) → len
 answer_held r f m h = omega (arith, answer_short r f m h)
 
 -- what passed the check has no more pixels than there is room for
-pub held_few : (ds : Detectors) (nf nv nt used : ℕ) (a : Check) → as_checked a ≡ check_held_of ds nf nv nt used → a ≡ Passed → nf ≤ text_pixels
+pub held_few : (ds : Detectors) (nf nv nt used : ℕ) (a : Result Unit Refusal) → as_checked a ≡ check_held_of ds nf nv nt used → a ≡ Ok tt → nf ≤ text_pixels
 unfolding check_held_of is_held_of
 held_few ds nf nv nt used a said k = go (check_detectors_of ds) (leb nf text_pixels) (eqb nf (all_pixels_of ds) && is_hit_list_of nv nt used) refl (sym said ∙ ap as_checked k)
   where

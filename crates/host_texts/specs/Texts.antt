@@ -1,6 +1,5 @@
 -- Scene texts and answers.
-use Rattle.std.specs.Prelude.{ℕ, Bool, cond, ◌&&◌, List, leb, eqb, length}
-use Rattle.std.proofs.Math.Option.{Option, none, some}
+use Rattle.std.specs.Prelude.{ℕ, Bool, cond, ◌&&◌, List, leb, eqb, length, Option, None, Some}
 use Rattle.error.specs.Refusals.{Checked, passed, refused_at, after}
 use Rattle.filter.specs.declared.RayPathFilter.{RayPathFilter}
 use Rattle.filter.specs.Filters.{numbered_filter_of}
@@ -74,8 +73,8 @@ put_checked_of buf r f m =
 
 -- a number that is no filter's is 17, before all else
 abbrev pub put_by : List ℕ → NonSeqTraceReport → Option RayPathFilter → Held → Written
-put_by buf r (some f) m = put_checked_of buf r f m
-put_by buf r none m = not_written 17 0 buf
+put_by buf r (Some f) m = put_checked_of buf r f m
+put_by buf r None m = not_written 17 0 buf
 
 unfoldable pub host_put_answer_of : List ℕ → NonSeqTraceReport → ℕ → Held → Written
 host_put_answer_of buf r f m = put_by buf r (numbered_filter_of f) m

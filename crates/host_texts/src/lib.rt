@@ -2,19 +2,18 @@
 #![tactic(auto)]
 
 ghost use Rattle.std.specs.Prelude.{◌≡◌, ◌≤◌, length};
-ghost use Rattle.error.specs.Refusals.{as_checked};
+ghost use Rattle.error.specs.Refusals.{as_checked, number_of};
 ghost use Rattle.memory.specs.Memory.{text_pixels};
 ghost use Rattle.printing.specs.Printing.{out};
 ghost use Rattle.report.specs.Report.{energy_conservation_ratio_of};
-ghost use Rattle.answer_text.specs.Answer.{held, answer_text, refusal_text};
+ghost use Rattle.answer_text.specs.Answer.{held, as_held, answer_text, refusal_text};
 ghost use Rattle.scene_text.specs.Scene.{slices, read_scene_of};
 ghost use Rattle.map_text.specs.StrayMap.{stray_map_text};
 ghost use Rattle.host_texts.specs.Texts.{put_whole_of, is_held_of, check_held_of, text_put, put_checked_of, host_put_answer_of, scene_from, scene_read};
-ghost use Rattle.fields.specs.Split.{front_of};
 
 use detectors::Detectors;
-use error::{Check, NonSeqError};
-use filter::{NumberedFilter, RayPathFilter};
+use error::{NonSeqError, Refusal};
+use filter::{Held, RayPathFilter};
 use report::{Ledger, NonSeqTraceReport};
 
 // How many lines of values the blocks have.
@@ -54,7 +53,7 @@ pub fn nonseq_read_scene(
         ≡ scene_from (read_scene_of text.now
         (slices run_values.old run_tags.old solid_values.old solid_tags.old detector_values.old detector_tags.old ray_values.old ray_tags.old)) }
 {
-    let r = scene_text::read_scene(
+    match scene_text::read_scene(
         text,
         run_values,
         run_tags,
@@ -64,78 +63,59 @@ pub fn nonseq_read_scene(
         detector_tags,
         ray_values,
         ray_tags,
-    );
-    let check = r.check;
-    let c = host_numbers::checked(check);
-    HostScene {
-        refusal: c.refusal,
-        place: c.place,
-        solids: r.solids,
-        detectors: r.detectors,
-        rays: r.rays,
+    ) {
+        Ok(c) => HostScene {
+            refusal: 0,
+            place: 0,
+            solids: c.solids,
+            detectors: c.detectors,
+            rays: c.rays,
+        },
+        Err(Refusal { error, place }) => HostScene {
+            refusal: error.number(),
+            place,
+            solids: 0,
+            detectors: 0,
+            rays: 0,
+        },
     }
-}
-
-// The first n bytes of a text, or all.
-fn front(t: &[u8], n: usize) -> &[u8]
-    ensures { result.now ≡ front_of n t.now }
-{
-    if n <= t.len() {
-        return &t[..n];
-    }
-    t
 }
 
 // A text from the start of a buffer on, or nothing where it does not fit. Answers its length.
+#[tactic(auto, unfolding(crate::specs::Texts::put_whole_of))]
 fn put_whole(buf: &mut [u8], t: &[u8]) -> usize
     ensures { out buf.new result ≡ put_whole_of buf.old t.now }
 {
     if t.len() <= buf.len() {
-        return printing::put_all(buf, 0, t);
+        printing::put_all(buf, 0, t)
+    } else {
+        t.len()
     }
-    t.len()
 }
 
-// Whether slices of these lengths are the flux map and the hit list of these detectors, and an answer has room for the
-// pixels.
-fn is_held(
-    detectors: Detectors,
-    flux: usize,
-    hit_values: usize,
-    hit_tags: usize,
-    used: usize,
-) -> bool
-    ensures { result ≡ is_held_of detectors flux hit_values hit_tags used }
+// Whether the slices are the flux map and the hit list of the detectors, and an answer has room for the pixels.
+#[tactic(auto, unfolding(crate::specs::Texts::is_held_of))]
+fn is_held(held: Held<'_>) -> bool
+    ensures { result ≡ is_held_of held.entry.detectors (length held.entry.flux.now) (length held.entry.hit_values.now) (length held.entry.hit_tags.now) held.entry.used }
 {
-    if flux <= memory::TEXT_PIXELS {
-        if flux == detectors.all_pixels() {
-            return memory::is_hit_list(hit_values, hit_tags, used);
-        }
-    }
-    false
+    held.flux.len() <= memory::TEXT_PIXELS
+        && held.flux.len() == held.detectors.all_pixels()
+        && memory::is_hit_list(held.hit_values.len(), held.hit_tags.len(), held.used)
 }
 
 // 3, 5 to 8 and 18, then 9.
-fn check_held(
-    detectors: Detectors,
-    flux: usize,
-    hit_values: usize,
-    hit_tags: usize,
-    used: usize,
-) -> Check
-    ensures { as_checked result ≡ check_held_of detectors flux hit_values hit_tags used }
+#[tactic(auto, unfolding(crate::specs::Texts::check_held_of))]
+fn check_held(held: Held<'_>) -> Result<(), Refusal>
+    ensures { as_checked result ≡ check_held_of held.entry.detectors (length held.entry.flux.now) (length held.entry.hit_values.now) (length held.entry.hit_tags.now) held.entry.used }
 {
-    match detectors.check() {
-        Check::Refused { error, place } => Check::Refused { error, place },
-        Check::Passed => {
-            if is_held(detectors, flux, hit_values, hit_tags, used) {
-                return Check::Passed;
-            }
-            Check::Refused {
-                error: NonSeqError::InvalidSliceLength,
-                place: 0,
-            }
-        }
+    held.detectors.check()?;
+    if is_held(held) {
+        Ok(())
+    } else {
+        Err(Refusal {
+            error: NonSeqError::InvalidSliceLength,
+            place: 0,
+        })
     }
 }
 
@@ -143,66 +123,54 @@ fn check_held(
 fn put_answer(
     buf: &mut [u8],
     report: NonSeqTraceReport,
-    detectors: Detectors,
+    held: Held<'_>,
     filter: RayPathFilter,
-    flux: &[f64],
-    hit_values: &[f64],
-    hit_tags: &[u32],
-    used: usize,
 ) -> usize
-    requires { length flux.now ≤ text_pixels }
+    requires { length held.flux.now ≤ text_pixels }
     ensures { out buf.new result ≡ put_whole_of buf.old
-        (answer_text report filter (held detectors flux.now hit_values.now hit_tags.now used)) }
+        (answer_text report filter (as_held held.entry)) }
 {
     let mut t = [0u8; map_text::MAX_ANSWER];
-    let n = answer_text::put_answer(
-        &mut t, 0, report, detectors, filter, flux, hit_values, hit_tags, used,
-    );
-    put_whole(buf, front(&t, n))
+    let n = answer_text::put_answer(&mut t, 0, report, held, filter);
+    put_whole(buf, fields::front(&t, n))
+}
+
+// What is told of a text that is not written.
+fn refused(r: Refusal) -> HostText
+    ensures { result ≡ record { refusal = number_of r.error; place = r.place; length = 0 } }
+{
+    HostText {
+        refusal: r.error.number(),
+        place: r.place,
+        length: 0,
+    }
 }
 
 // The same, unless the detectors or the slices are refused.
+#[tactic(auto, using(crate::proofs::Whole::held_few), unfolding(crate::specs::Texts::put_checked_of))]
 fn put_checked(
     buf: &mut [u8],
     report: NonSeqTraceReport,
-    detectors: Detectors,
+    held: Held<'_>,
     filter: RayPathFilter,
-    flux: &[f64],
-    hit_values: &[f64],
-    hit_tags: &[u32],
-    used: usize,
 ) -> HostText
     ensures { text_put result buf.new ≡ put_checked_of buf.old report filter
-        (held detectors flux.now hit_values.now hit_tags.now used) }
+        (as_held held.entry) }
 {
-    match check_held(
-        detectors,
-        flux.len(),
-        hit_values.len(),
-        hit_tags.len(),
-        used,
-    ) {
-        Check::Refused { error, place } => HostText {
-            refusal: error.number(),
-            place,
-            length: 0,
+    match check_held(held) {
+        Err(r) => refused(r),
+        Ok(()) => HostText {
+            refusal: 0,
+            place: 0,
+            length: put_answer(buf, report, held, filter),
         },
-        Check::Passed => {
-            let n = put_answer(
-                buf, report, detectors, filter, flux, hit_values, hit_tags, used,
-            );
-            HostText {
-                refusal: 0,
-                place: 0,
-                length: n,
-            }
-        }
     }
 }
 
 // The answer of a tracing as text, whole, or nothing where it does not fit: its length, at most 131,072, is told
 // either way. A filter over 4 (17), detectors (3, 5 to 8 and 18), slices that are not theirs or more than 4,096 pixels
 // (9) are refused, and the buffer is left.
+#[tactic(auto, unfolding(crate::specs::Texts::host_put_answer_of))]
 pub fn nonseq_put_answer(
     buf: &mut [u8],
     report: NonSeqTraceReport,
@@ -216,19 +184,20 @@ pub fn nonseq_put_answer(
     ensures { text_put result buf.new ≡ host_put_answer_of buf.old report filter
         (held detectors flux.now hit_values.now hit_tags.now used) }
 {
-    match RayPathFilter::numbered(filter) {
-        NumberedFilter::Filter(f) => {
-            put_checked(buf, report, detectors, f, flux, hit_values, hit_tags, used)
-        }
-        NumberedFilter::Nothing => {
-            let e = NonSeqError::InvalidSceneText;
-            HostText {
-                refusal: e.number(),
-                place: 0,
-                length: 0,
-            }
-        }
-    }
+    let Some(by) = RayPathFilter::numbered(filter) else {
+        return refused(Refusal {
+            error: NonSeqError::InvalidSceneText,
+            place: 0,
+        });
+    };
+    let lent = Held {
+        detectors,
+        flux,
+        hit_values,
+        hit_tags,
+        used,
+    };
+    put_checked(buf, report, lent, by)
 }
 
 // A refusal as text, whole, or nothing where it does not fit. Answers its length.
@@ -237,7 +206,7 @@ pub fn nonseq_put_refusal(buf: &mut [u8], refusal: u32, place: u32) -> usize
 {
     let mut t = [0u8; 64];
     let n = answer_text::put_refusal(&mut t, 0, refusal, place);
-    put_whole(buf, front(&t, n))
+    put_whole(buf, fields::front(&t, n))
 }
 
 // The answer to a scene text, as straymap prints it, whole, or nothing where it does not fit. Answers its length, at
@@ -247,7 +216,7 @@ pub fn nonseq_stray_map(buf: &mut [u8], text: &[u8]) -> usize
 {
     let mut t = [0u8; map_text::MAX_ANSWER];
     let n = map_text::put_stray_map(&mut t, 0, text);
-    put_whole(buf, front(&t, n))
+    put_whole(buf, fields::front(&t, n))
 }
 
 // Detected, absorbed and escaped power over launched, without lost; 1 where none was launched.

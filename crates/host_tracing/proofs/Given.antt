@@ -1,8 +1,8 @@
 -- Rays that were laid out flat are traced as they were given: the first 4,097 of them have the answer of all. Assumes nothing.
+use Rattle.std.specs.Prelude.{Option, None, Some}
 use mathlib.Core.Path.{◌≡◌, refl, sym, ap, ◌∙◌, subst}
 use mathlib.Core.Bool.{Bool, true, false}
 use mathlib.Core.List.{List, [], ◌∷◌}
-use mathlib.Core.Option.{Option, none, some}
 use Prim.Native.Nat.{ℕ, ◌*◌, ◌≤◌, ◌<◌}
 use native.Mathlib.Omega.{arith}
 use lib.Dec.{leb}
@@ -84,8 +84,8 @@ module _ (g : HostConfig) (x : List Float) (k : List ℕ) (c : ℕ) (s : Memory)
   same_in : (o : Option OpticalMedium) (ys zs : List GivenRay) → 4096 < length ys → 4096 < length zs
       → traced_in o (λ medium. trace_rays_of (batch (trace_config_of g medium) x k c s ys) s) s ≡ traced_in o (λ medium. trace_rays_of (batch (trace_config_of g medium) x k c s zs) s) s
   unfolding traced_in
-  same_in (some medium) ys zs h i = ap left_by (same_refusal (trace_config_of g medium) x k c s ys zs h i)
-  same_in none ys zs h i = refl
+  same_in (Some medium) ys zs h i = ap left_by (same_refusal (trace_config_of g medium) x k c s ys zs h i)
+  same_in None ys zs h i = refl
 
   same_many : (ys zs : List GivenRay) → 4096 < length ys → 4096 < length zs → hosted ys ≡ hosted zs
   unfolding host_trace_rays_of

@@ -1,6 +1,5 @@
 -- A tracing as a host asks for it: what it answers, and what it leaves in the four lent slices.
-use Rattle.std.specs.Prelude.{ℕ, List, Float}
-use Rattle.std.proofs.Math.Option.{Option, none, some}
+use Rattle.std.specs.Prelude.{ℕ, List, Float, Option, None, Some}
 use Rattle.error.specs.Refusals.{as_checked}
 use Rattle.material.specs.declared.OpticalMedium.{OpticalMedium}
 use Rattle.material.specs.Media.{numbered_medium_of}
@@ -59,8 +58,8 @@ left_by t =
 
 -- a tracing in the ambient medium; 17 where that is none
 unfoldable pub traced_in : Option OpticalMedium → (OpticalMedium → Trace Memory) → Memory → Left
-traced_in (some medium) traced s = left_by (traced medium)
-traced_in none traced s = left_by (record { outcome = refused 17 0 s; report = start_report_of 0 #0 })
+traced_in (Some medium) traced s = left_by (traced medium)
+traced_in None traced s = left_by (record { outcome = refused 17 0 s; report = start_report_of 0 #0 })
 
 -- the ambient medium's number first of all
 unfoldable pub host_trace_rays_of : HostConfig → List Float → List ℕ → ℕ → List Float → List ℕ → ℕ → Memory → Left
@@ -69,10 +68,10 @@ host_trace_rays_of g x k n v t m s =
     (λ medium. trace_rays_of (lent_batch (trace_config_of g medium) x k n v t m) s) s
 
 -- of the code's answers
-unfoldable pub told_of : Traced → HostTraced
-told_of r =
+unfoldable pub told_of : Traced → Detectors → ℕ → HostTraced
+told_of r ds used =
     let c = checked_of (as_checked r.check) in
-    record { refusal = c.refusal; place = c.place; used = r.used; report = r.report; detectors = r.detectors }
+    record { refusal = c.refusal; place = c.place; used = used; report = r.report; detectors = ds }
 
 unfoldable pub no_medium_of : Detectors → ℕ → HostTraced
 no_medium_of ds used = record { refusal = 17; place = 0; used = used; report = start_report_of 0 #0; detectors = ds }

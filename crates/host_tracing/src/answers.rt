@@ -3,6 +3,7 @@ ghost use Rattle.std.specs.Prelude.{◌≡◌};
 ghost use Rattle.host_tracing.specs.Tracing.{trace_config_of, told_of, no_medium_of};
 
 use detectors::Detectors;
+use error::NonSeqError;
 use material::OpticalMedium;
 use report::NonSeqTraceReport;
 use step::NonSeqTraceConfig;
@@ -34,6 +35,7 @@ pub struct HostTraced {
     pub detectors: Detectors,
 }
 
+#[tactic(auto, unfolding(crate::specs::Tracing::trace_config_of))]
 pub fn trace_config(g: HostConfig, medium: OpticalMedium) -> NonSeqTraceConfig
     ensures { result ≡ trace_config_of g medium }
 {
@@ -44,28 +46,27 @@ pub fn trace_config(g: HostConfig, medium: OpticalMedium) -> NonSeqTraceConfig
     }
 }
 
-pub fn told(r: Traced) -> HostTraced
-    ensures { result ≡ told_of r }
+#[tactic(auto, unfolding(crate::specs::Tracing::told_of))]
+pub fn told(r: Traced, detectors: Detectors, used: usize) -> HostTraced
+    ensures { result ≡ told_of r detectors used }
 {
-    let check = r.check;
-    let report = r.report;
-    let detectors = r.detectors;
-    let c = host_numbers::checked(check);
+    let c = host_numbers::checked(r.check);
     HostTraced {
         refusal: c.refusal,
         place: c.place,
-        used: r.used,
-        report,
+        used,
+        report: r.report,
         detectors,
     }
 }
 
 // The refusal of an ambient medium that is none (17).
+#[tactic(auto, unfolding(crate::specs::Tracing::no_medium_of))]
 pub fn no_medium(detectors: Detectors, used: usize) -> HostTraced
     ensures { result ≡ no_medium_of detectors used }
 {
     HostTraced {
-        refusal: 17,
+        refusal: NonSeqError::InvalidSceneText.number(),
         place: 0,
         used,
         report: NonSeqTraceReport::start(0, 0.0),

@@ -2,18 +2,19 @@
 // `nonseq_trace_rays` traces those.
 ghost use Rattle.std.specs.Prelude.{◌≡◌, ◌+◌, ◌*◌, ◌≤◌, length};
 ghost use Rattle.std.proofs.lemmas.List.Edits.{sets};
-ghost use Rattle.memory.specs.Memory.{lent_memory};
+ghost use Rattle.memory.specs.Memory.{SameSlices, as_memory, lent_memory};
 ghost use Rattle.host_tracing.specs.Tracing.{left, host_trace_rays_of};
 ghost use Rattle.host_tracing.specs.Flat.{ray_values_row, ray_tags_row, has_room_of, laid, put_ray_of, flatten_of, flat_values, flat_tags};
 ghost use Rattle.given_rays.specs.Given.{ray_doubles, ray_wholes};
 ghost use Rattle.fields.specs.Split.{front_of};
 
-use crate::tracing::nonseq_trace_rays;
+use crate::tracing::traced;
 use crate::{HostConfig, HostTraced};
 use detectors::Detectors;
-use given_rays::{RAY_DOUBLES, RAY_ROOM, RAY_ROOM_DOUBLES, RAY_ROOM_WHOLES, RAY_WHOLES};
+use given_rays::{GivenRays, RAY_DOUBLES, RAY_ROOM, RAY_ROOM_DOUBLES, RAY_ROOM_WHOLES, RAY_WHOLES};
+use memory::Memory;
 use rays::Vec3;
-use scene::SolidNo;
+use scene::{SolidNo, Solids};
 
 // A ray as a host gives it: `media_count` of the eight media count.
 #[repr(C)]
@@ -29,17 +30,14 @@ pub struct GivenRay {
 }
 
 // Whether ray n is among the first 4,097 and the lists are as long as those need.
+#[tactic(auto, using(crate::proofs::Laying::room_yes, crate::proofs::Laying::room_short, crate::proofs::Laying::room_past))]
 fn has_room(n: u32, ray_values: usize, ray_tags: usize) -> bool
     ensures { result ≡ has_room_of n ray_values ray_tags }
 {
-    if n < RAY_ROOM {
-        if RAY_ROOM_DOUBLES <= ray_values {
-            return RAY_ROOM_WHOLES <= ray_tags;
-        }
-    }
-    false
+    n < RAY_ROOM && RAY_ROOM_DOUBLES <= ray_values && RAY_ROOM_WHOLES <= ray_tags
 }
 
+#[tactic(auto, unfolding(crate::specs::Flat::ray_values_row))]
 fn put_ray_values(ray: GivenRay, at: usize, ray_values: &mut [f64])
     requires { at + ray_doubles ≤ length ray_values.old }
     ensures { ray_values.new ≡ sets ray_values.old at (ray_values_row ray) }
@@ -56,6 +54,7 @@ fn put_ray_values(ray: GivenRay, at: usize, ray_values: &mut [f64])
     ray_values[at + 7] = ray.energy;
 }
 
+#[tactic(auto, using(crate::proofs::Laying::add_nine), unfolding(crate::specs::Flat::ray_tags_row))]
 fn put_ray_tags(ray: GivenRay, at: usize, ray_tags: &mut [u32])
     requires { at + ray_wholes ≤ length ray_tags.old }
     ensures { ray_tags.new ≡ sets ray_tags.old at (ray_tags_row ray) }
@@ -90,75 +89,63 @@ fn flatten(rays: &[GivenRay], ray_values: &mut [f64], ray_tags: &mut [u32]) -> u
     ensures { laid result ray_values.new ray_tags.new ≡ flatten_of rays.now (laid 0 ray_values.old ray_tags.old) }
 {
     let mut n = 0;
-    let mut i = 0;
-    while i < rays.len() {
-        let ray = rays[i];
+    for &ray in rays {
         n = put_ray(ray, n, ray_values, ray_tags);
-        i += 1;
     }
     n
 }
 
-// The first n numbers, or all.
-fn front(l: &[f64], n: usize) -> &[f64]
-    ensures { result.now ≡ front_of n l.now }
-{
-    if n <= l.len() {
-        return &l[..n];
-    }
-    l
-}
-
-fn front_wholes(l: &[u32], n: usize) -> &[u32]
-    ensures { result.now ≡ front_of n l.now }
-{
-    if n <= l.len() {
-        return &l[..n];
-    }
-    l
-}
-
-// The tracing of the first `given` rays of two flat lists.
+// The tracing of the first of the rays, as many as they count, of lists that may be longer.
 fn trace_flat(
     config: HostConfig,
-    solid_values: &[f64],
-    solid_tags: &[u32],
-    count: u32,
-    ray_values: &[f64],
-    ray_tags: &[u32],
-    given: u32,
-    detectors: Detectors,
-    flux: &mut [f64],
-    hits: &mut [u32],
-    hit_values: &mut [f64],
-    hit_tags: &mut [u32],
-    used: usize,
+    solids: Solids<'_>,
+    given: GivenRays<'_>,
+    memory: &mut Memory<'_>,
 ) -> HostTraced
-    ensures { left result flux.new hits.new hit_values.new hit_tags.new
-        ≡ host_trace_rays_of config solid_values.now solid_tags.now count (front_of (given * ray_doubles) ray_values.now) (front_of (given * ray_wholes) ray_tags.now) given
-        (lent_memory detectors flux.old hits.old hit_values.old hit_tags.old used) }
+    ensures same_slices { SameSlices memory.old memory.new }
+    ensures value { left result memory.new.flux.now memory.new.hits.now memory.new.hit_values.now memory.new.hit_tags.now
+        ≡ host_trace_rays_of config solids.entry.values.now solids.entry.tags.now solids.entry.count (front_of (given.entry.count * ray_doubles) given.entry.values.now) (front_of (given.entry.count * ray_wholes) given.entry.tags.now) given.entry.count
+        (as_memory memory.old) }
 {
-    let a = given as usize * RAY_DOUBLES;
-    let b = given as usize * RAY_WHOLES;
-    nonseq_trace_rays(
+    let a = given.count as usize * RAY_DOUBLES;
+    let b = given.count as usize * RAY_WHOLES;
+    traced(
         config,
-        solid_values,
-        solid_tags,
-        count,
-        front(ray_values, a),
-        front_wholes(ray_tags, b),
-        given,
-        detectors,
-        flux,
-        hits,
-        hit_values,
-        hit_tags,
-        used,
+        solids,
+        GivenRays {
+            values: fields::front(given.values, a),
+            tags: fields::front(given.tags, b),
+            count: given.count,
+        },
+        memory,
     )
 }
 
-// As `nonseq_trace_rays` with the numbers of the rays, one ray behind the other. The two lists lie on the stack
-// (426,088 bytes), with room for one ray more than the limit, so that 3 comes in its order.
+// The two lists of the rays lie on the stack (426,088 bytes), with room for one ray more than the limit, so that 3 comes
+// in its order.
+fn traced_given(
+    config: HostConfig,
+    solids: Solids<'_>,
+    rays: &[GivenRay],
+    memory: &mut Memory<'_>,
+) -> HostTraced
+    ensures same_slices { SameSlices memory.old memory.new }
+    ensures value { left result memory.new.flux.now memory.new.hits.now memory.new.hit_values.now memory.new.hit_tags.now
+        ≡ host_trace_rays_of config solids.entry.values.now solids.entry.tags.now solids.entry.count (flat_values rays.now) (flat_tags rays.now) (length rays.now)
+        (as_memory memory.old) }
+{
+    let mut ray_values = [0.0; RAY_ROOM_DOUBLES];
+    let mut ray_tags = [0u32; RAY_ROOM_WHOLES];
+    let count = flatten(rays, &mut ray_values, &mut ray_tags);
+    let given = GivenRays {
+        values: &ray_values,
+        tags: &ray_tags,
+        count,
+    };
+    trace_flat(config, solids, given, memory)
+}
+
+// As `nonseq_trace_rays` with the numbers of the rays, one ray behind the other.
 pub fn nonseq_trace_given_rays(
     config: HostConfig,
     solid_values: &[f64],
@@ -176,22 +163,22 @@ pub fn nonseq_trace_given_rays(
         ≡ host_trace_rays_of config solid_values.now solid_tags.now count (flat_values rays.now) (flat_tags rays.now) (length rays.now)
         (lent_memory detectors flux.old hits.old hit_values.old hit_tags.old used) }
 {
-    let mut ray_values = [0.0; RAY_ROOM_DOUBLES];
-    let mut ray_tags = [0u32; RAY_ROOM_WHOLES];
-    let given = flatten(rays, &mut ray_values, &mut ray_tags);
-    trace_flat(
-        config,
-        solid_values,
-        solid_tags,
-        count,
-        &ray_values,
-        &ray_tags,
-        given,
+    let mut memory = Memory {
         detectors,
         flux,
         hits,
         hit_values,
         hit_tags,
         used,
+    };
+    traced_given(
+        config,
+        Solids {
+            values: solid_values,
+            tags: solid_tags,
+            count,
+        },
+        rays,
+        &mut memory,
     )
 }
