@@ -1,12 +1,13 @@
 -- A hit that a step brings is on a detector that is there. Assumes nothing.
+use Rattle.std.specs.Prelude.{Option, None, Some}
 use Prim.Native.Nat.{ℕ, ◌<◌}
 use mathlib.Core.Path.{◌≡◌, ap, sym, subst}
 use mathlib.Core.Bool.{Bool, true, false}
-use mathlib.Core.Option.{Option, none, some}
 use lib.Ieee.{Float}
 use Rattle.error.specs.Refusals.{value}
 use Rattle.rays.specs.declared.Ray.{Ray}
-use Rattle.surface.specs.Fresnel.{FresnelInteraction, total, split}
+use Rattle.surface.specs.declared.FresnelInteraction.{FresnelInteraction}
+use Rattle.surface.specs.declared.FresnelInteraction.TheVariants.{Total, Split}
 use Rattle.media.specs.declared.Media.{Media}
 use Rattle.nearest.specs.Nearest.{IsNearest}
 use Rattle.nearest.proofs.Laws.{nearest_is}
@@ -24,21 +25,21 @@ use Rattle.theorems_calls.proofs.Drives.{Brought}
 -- ---- the nearest of n detectors is one of them
 
 abbrev is_some : Option Sight → Bool
-is_some (some s) = true
-is_some none = false
+is_some (Some s) = true
+is_some None = false
 
 abbrev number : Option Sight → ℕ
-number (some s) = s.detector.0
-number none = 0
+number (Some s) = s.detector.0
+number None = 0
 
-sight_number : (i : ℕ) (o : Option Crossing) (s : Sight) → sight_from i o ≡ some s → s.detector.0 ≡ i
+sight_number : (i : ℕ) (o : Option Crossing) (s : Sight) → sight_from i o ≡ Some s → s.detector.0 ≡ i
 unfolding sight_from
-sight_number i (some c) s e = sym (ap number e)
-sight_number i none s e = false_true (ap is_some e)
+sight_number i (Some c) s e = sym (ap number e)
+sight_number i None s e = false_true (ap is_some e)
 
-seen_there : (f : ℕ → Option Sight) (n : ℕ) → ((i : ℕ) (s : Sight) → f i ≡ some s → s.detector.0 ≡ i) → (o : Option Sight) → IsNearest Sight sight_distance f n o → (s : Sight) → o ≡ some s → s.detector.0 < n
-seen_there f n named none w s e = false_true (ap is_some e)
-seen_there f n named (some u) w s e = subst (λ k. k < n) (ap number e) (subst (λ k. k < n) (sym (named w.0 u w.1.1.0)) w.1.0)
+seen_there : (f : ℕ → Option Sight) (n : ℕ) → ((i : ℕ) (s : Sight) → f i ≡ Some s → s.detector.0 ≡ i) → (o : Option Sight) → IsNearest Sight sight_distance f n o → (s : Sight) → o ≡ Some s → s.detector.0 < n
+seen_there f n named None w s e = false_true (ap is_some e)
+seen_there f n named (Some u) w s e = subst (λ k. k < n) (ap number e) (subst (λ k. k < n) (sym (named w.0 u w.1.1.0)) w.1.0)
 
 -- ---- what a step ends with
 
@@ -53,8 +54,8 @@ There n (refusing k) = Unit
 
 parted_there : (n : ℕ) (threshold : Float) (a : ActiveRay) (m : Media) (p : FresnelInteraction) → There n (parted_by threshold a m p).end
 unfolding parted_by
-parted_there n threshold a m (total r) = tt
-parted_there n threshold a m (split r t) = tt
+parted_there n threshold a m (Total r) = tt
+parted_there n threshold a m (Split r t) = tt
 
 mirror_there : (n : ℕ) (a : ActiveRay) (m : Meeting) (r : Ray) → There n (mirror_from_of a m (value r)).end
 unfolding mirror_from_of

@@ -1,4 +1,5 @@
 -- Two work stacks with the same rays: what a step takes from them and leaves on them. Assumes nothing.
+use Rattle.std.specs.Prelude.{Option, None, Some}
 use Prim.{yes, no}
 use Prim.Native.Nat.{ℕ, ◌+◌, ◌-◌, ◌≤◌, ◌<◌}
 use mathlib.Core.Path.{◌≡◌, refl, ap, sym, ◌∙◌}
@@ -46,15 +47,15 @@ set_alike l m n a p q f i k =
       | no d ↦ get_or-set_other m n i a no_ray d ∙ f i (omega arith) ∙ sym (get_or-set_other l n i a no_ray d)
     ]
 
-if_alike : (b : Bool) (a : ActiveRay) (s t : Stack) → s.len < 17 → Alike s t → Alike (pushed_if b s a) (pushed_if b t a)
+if_alike : (o : Option ActiveRay) (s t : Stack) → s.len < 17 → Alike s t → Alike (pushed_if s o) (pushed_if t o)
 unfolding pushed_if pushed
-if_alike false a s t k h = h
-if_alike true a s t k h =
+if_alike None s t k h = h
+if_alike (Some a) s t k h =
     record {
       len = omega (arith, h.len);
       each = λ i q. rw h.len (set_alike s.rays t.rays s.len a (omega (arith, h.full.room)) (omega (arith, h.also_full.room)) h.each i q);
-      full = full_if true s a k h.full;
-      also_full = full_if true t a (omega (arith, h.len)) h.also_full;
+      full = full_if s (Some a) k h.full;
+      also_full = full_if t (Some a) (omega (arith, h.len)) h.also_full;
     }
 
 pub after_alike : (s t : Stack) (e : Step) → Alike s t → Alike (stack_after s e) (stack_after t e)
@@ -66,8 +67,8 @@ after_alike s t e h = more (ltb (popped s).len 16) refl
         let p : Alike (popped s) (popped t) = popped_alike s t h in
         let l : (popped s).len < 16 = ltb-true (popped s).len 16 q in
         rw (lt-ltb (popped s).len 16 l, lt-ltb (popped t).len 16 (omega (arith, p.len)))
-        (if_alike e.second e.transmitted _ _ (omega (arith, if_len e.«first» (popped s) e.reflected))
-        (if_alike e.«first» e.reflected (popped s) (popped t) (omega arith) p))
+        (if_alike e.transmitted _ _ (omega (arith, if_len (popped s) e.reflected))
+        (if_alike e.reflected (popped s) (popped t) (omega arith) p))
     more false q =
         let p : Alike (popped s) (popped t) = popped_alike s t h in
         let l : 16 ≤ (popped s).len = ltb-false (popped s).len 16 q in

@@ -1,7 +1,6 @@
 -- Calls on the same detectors and memory: what each answers, and what it leaves, by the definition that its contract
 -- names.
-use Rattle.std.specs.Prelude.{ℕ, List, [], ◌∷◌, Float}
-use Rattle.std.proofs.Math.Option.{Option}
+use Rattle.std.specs.Prelude.{ℕ, List, [], ◌∷◌, Float, Option}
 use Rattle.error.specs.Refusals.{Checked, passed, refused_at}
 use Rattle.rays.specs.declared.Ray.{Ray}
 use Rattle.detector.specs.declared.Detector2D.{Detector2D}

@@ -1,8 +1,8 @@
 -- What a host's call answers after any list of calls is what it answers in the plain book. Assumes nothing.
+use Rattle.std.specs.Prelude.{Option, None, Some}
 use Prim.Native.Nat.{ℕ}
 use mathlib.Core.Path.{◌≡◌, refl, ap, sym, ◌∙◌}
 use mathlib.Core.List.{List, []}
-use mathlib.Core.Option.{Option, none, some}
 use lib.Ieee.{Float}
 use lib.ListN.{length}
 use Rattle.error.specs.Refusals.{Checked, passed, refused_at, after}
@@ -132,8 +132,8 @@ module _ (s : Memory) (eight : length s.detectors.list ≡ 8) (empty : Empty s) 
   tracing_same : (ambient : Option OpticalMedium) (B : OpticalMedium → Batch)
       → (traced_in ambient (λ medium. trace_rays_of (B medium) (added s b)) (added s b)).answer ≡ book_tracing s ambient B b
   unfolding traced_in book_tracing
-  tracing_same (some medium) B = traced_same (B medium)
-  tracing_same none B = traced_numbers (record { outcome = refused 17 0 (added s b); report = start_report_of 0 #0 })
+  tracing_same (Some medium) B = traced_same (B medium)
+  tracing_same None B = traced_numbers (record { outcome = refused 17 0 (added s b); report = start_report_of 0 #0 })
 
   recording_same : (h : DetectorHit) → (recorded_from (record_hit_classified_of (added s b) h)).answer ≡ recorded_by s (book_granted (bare s) (wish_in (recording h)) b)
   unfolding answer_in book_answer outcome_in
@@ -146,8 +146,8 @@ module _ (s : Memory) (eight : length s.detectors.list ≡ 8) (empty : Empty s) 
   refilter_same : (f : Option RayPathFilter) (d : ℕ) (work : List Float)
       → refilter_by f (added s b).detectors d (added s b).flux work (added s b).hit_values (added s b).hit_tags (added s b).used ≡ book_sifted s f (record { 0 = d }) work b
   unfolding refilter_by book_sifted answer_in book_answer
-  refilter_same (some f) d work = ap handed_in (same (refilter (record { 0 = d }) f work))
-  refilter_same none d work = refl
+  refilter_same (Some f) d work = ap handed_in (same (refilter (record { 0 = d }) f work))
+  refilter_same None d work = refl
 
   host_same : (c : HostCall) → host_answer_in c (added s b) ≡ host_book_answer s c b
   unfolding host_answer_in host_book_answer host_trace_rays_of host_refilter_of answer_in book_answer

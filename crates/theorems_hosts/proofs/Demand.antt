@@ -1,7 +1,7 @@
 -- Demand 3 of the calls that hosts make: that the exported entries meet their contracts, and what follows for every list of them. Assumes nothing.
+use Rattle.std.specs.Prelude.{Some}
 use Prim.Native.Nat.{ℕ}
 use mathlib.Core.Path.{◌≡◌}
-use mathlib.Core.Option.{some}
 use lib.Ieee.{Float}
 use Rattle.error.specs.Refusals.{passed}
 use Rattle.material.specs.declared.OpticalMedium.{OpticalMedium}
@@ -58,7 +58,7 @@ pub record HostDemand3 (M : Type 1) : Type 2 where
   pub pixel_area_m2_lem : pixel-area-m2-meets M
   -- a batch that passes the checks, traced in parts by an entry from any start
   pub split :
-      (g : HostConfig) (x : List Float) (k : List ℕ) (n : ℕ) (medium : OpticalMedium) → ambient_in g ≡ some medium → (v : List Float) (t : List ℕ) (r : ℕ) (ps : List Part) (s : Memory)
+      (g : HostConfig) (x : List Float) (k : List ℕ) (n : ℕ) (medium : OpticalMedium) → ambient_in g ≡ Some medium → (v : List Float) (t : List ℕ) (r : ℕ) (ps : List Part) (s : Memory)
       → Splits (batch_with g x k n v t r medium) ps → check_batch (batch_with g x k n v t r medium) s ≡ passed tt → host_trace_parts g x k n ps s ≡ outcome_from (host_trace_rays_of g x k n v t r s)
   -- any list of calls from the empty memory; every list of detectors of the code has eight places
   pub calls : (s : Memory) → length s.detectors.list ≡ 8 → Empty s → (cs : List HostCall) → Told s (host_memory_after cs s) (book_after (bare s) (calls_in cs) [])

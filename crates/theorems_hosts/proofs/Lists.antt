@@ -1,8 +1,8 @@
 -- A list of hosts' calls leaves what the library's calls leave that they make. Assumes nothing.
+use Rattle.std.specs.Prelude.{Option, None, Some}
 use Prim.Native.Nat.{ℕ}
 use mathlib.Core.Path.{◌≡◌, refl, ap, sym, subst, ◌∙◌}
 use mathlib.Core.List.{List, [], ◌∷◌, ◌++◌}
-use mathlib.Core.Option.{Option, none, some}
 use lib.Ieee.{Float}
 use lib.ListN.{length}
 use Rattle.material.specs.declared.OpticalMedium.{OpticalMedium}
@@ -35,13 +35,13 @@ recorded_whole (refused n place m) = refl
 
 tracing_left_lem : (ambient : Option OpticalMedium) (B : OpticalMedium → Batch) (m : Memory) → tracing_left (traced_in ambient (λ medium. trace_rays_of (B medium) m) m) ≡ memory_after (tracing_in ambient B) m
 unfolding traced_in tracing_in memory_after outcome_in
-tracing_left_lem (some medium) B m = left_whole (trace_rays_of (B medium) m)
-tracing_left_lem none B m = left_whole (record { outcome = refused 17 0 m; report = start_report_of 0 #0 })
+tracing_left_lem (Some medium) B m = left_whole (trace_rays_of (B medium) m)
+tracing_left_lem None B m = left_whole (record { outcome = refused 17 0 m; report = start_report_of 0 #0 })
 
 refilter_left : (f : Option RayPathFilter) (d : ℕ) (work : List Float) (m : Memory) → m ≡ memory_after (refilter_in f d work) m
 unfolding refilter_in memory_after outcome_in
-refilter_left (some f) d work m = refl
-refilter_left none d work m = refl
+refilter_left (Some f) d work m = refl
+refilter_left None d work m = refl
 
 call_left : (c : HostCall) (m : Memory) → host_left c m ≡ memory_after (call_in c) m
 unfolding host_left call_in memory_after outcome_in host_trace_rays_of

@@ -1,8 +1,8 @@
 -- A batch traced in parts by `nonseq_trace_rays` leaves what it leaves traced whole by it. Assumes nothing.
+use Rattle.std.specs.Prelude.{Some}
 use Prim.Native.Nat.{ℕ, zero, suc}
 use mathlib.Core.Path.{◌≡◌, refl, ap, sym, ◌∙◌}
 use mathlib.Core.List.{List, [], ◌∷◌}
-use mathlib.Core.Option.{some}
 use native.Mathlib.Omega.{arith}
 use lib.Ieee.{Float}
 use borrow.Author.Tests.{ne_eqb}
@@ -20,14 +20,14 @@ use Rattle.theorems_hosts.specs.HostParts.{outcome_from, host_trace_parts}
 
 from_left : (t : Trace Memory) → ((place : ℕ) (m : Memory) → t.outcome ≡ refused 0 place m → ⊥) → outcome_from (left_by t) ≡ t.outcome
 unfolding outcome_from left_by
-from_left t none = go t.outcome refl
+from_left t None = go t.outcome refl
   where
     go : (o : Outcome Memory) → t.outcome ≡ o → outcome_from (left_by (record { outcome = o; report = t.report })) ≡ o
     go (done m) e = refl
-    go (refused zero place m) e = absurd (none place m e)
+    go (refused zero place m) e = absurd (None place m e)
     go (refused (suc n) place m) e = rw (ne_eqb (suc n) 0 (λ q. omega (arith, q)))
 
-module _ (g : HostConfig) (x : List Float) (k : List ℕ) (n : ℕ) (medium : OpticalMedium) (is : ambient_in g ≡ some medium) where
+module _ (g : HostConfig) (x : List Float) (k : List ℕ) (n : ℕ) (medium : OpticalMedium) (is : ambient_in g ≡ Some medium) where
   -- one entry's tracing
   traced_is : (v : List Float) (t : List ℕ) (r : ℕ) (s : Memory) → outcome_from (host_trace_rays_of g x k n v t r s) ≡ (trace_rays_of (batch_with g x k n v t r medium) s).outcome
   unfolding host_trace_rays_of traced_in

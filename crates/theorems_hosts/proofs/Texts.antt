@@ -1,9 +1,9 @@
 -- The text of an answer is made of what the filter calls answer, and so is the book's. Assumes nothing.
+use Rattle.std.specs.Prelude.{Option, None, Some}
 use Prim.Native.Nat.{ℕ, zero, suc, ◌+◌, ◌<◌}
 use mathlib.Core.Path.{◌≡◌, refl, ap, sym, subst, ◌∙◌}
 use mathlib.Core.Bool.{Bool, true, false, cond}
 use mathlib.Core.List.{List, [], ◌∷◌, map}
-use mathlib.Core.Option.{Option, none, some}
 use native.Mathlib.Omega.{arith}
 use lib.Dec.{ltb}
 use lib.Ieee.{Float, nan}
@@ -116,7 +116,7 @@ bare_grid : (d : ℕ) (ds : Detectors) → grid_at_of (bare_detectors ds) d ≡ 
 unfolding grid_at_of grid_from at_of placed_of
 bare_grid d ds = go (ltb d max_detectors)
   where
-    go : (t : Bool) → grid_from (cond t (some (placed_of (map bare_detector ds.list) d)) none) ≡ grid_from (cond t (some (placed_of ds.list d)) none)
+    go : (t : Bool) → grid_from (cond t (Some (placed_of (map bare_detector ds.list) d)) None) ≡ grid_from (cond t (Some (placed_of ds.list d)) None)
     go true =
         ap (λ n. grid_with n (detector_at (map bare_detector ds.list) d).res_x) (bare_pixels_at ds.list d)
         ∙ ap (λ w. grid_with (pixels_of (detector_at ds.list d)) w) (bare_at (λ e. e.res_x) (λ e. refl) ds.list d)
@@ -193,5 +193,5 @@ module _ (s : Memory) (eight : length s.detectors.list ≡ 8) (empty : Empty s) 
   written_same buf r f = go (numbered_filter_of f)
     where
       go : (o : Option RayPathFilter) → put_by buf r o (held_in m) ≡ put_by buf r o (held_in z)
-      go (some g) = ap (λ c. written_after c buf (answer_text r g (held_in m))) check_same ∙ ap (λ t. written_after (check_held_of z.detectors (length z.flux) (length z.hit_values) (length z.hit_tags) z.used) buf t) (text_same (held_in m) (held_in z) alike r g)
-      go none = refl
+      go (Some g) = ap (λ c. written_after c buf (answer_text r g (held_in m))) check_same ∙ ap (λ t. written_after (check_held_of z.detectors (length z.flux) (length z.hit_values) (length z.hit_tags) z.used) buf t) (text_same (held_in m) (held_in z) alike r g)
+      go None = refl

@@ -1,6 +1,5 @@
 -- The plain book of a list of hosts' calls.
-use Rattle.std.specs.Prelude.{ℕ, List, [], ◌∷◌, ◌++◌, Float, length}
-use Rattle.std.proofs.Math.Option.{Option, none, some}
+use Rattle.std.specs.Prelude.{ℕ, List, [], ◌∷◌, ◌++◌, Float, length, Option, None, Some}
 use Rattle.error.specs.Refusals.{Checked, refused_at}
 use Rattle.material.specs.declared.OpticalMedium.{OpticalMedium}
 use Rattle.material.specs.Media.{numbered_medium_of}
@@ -45,12 +44,12 @@ abbrev pub batch_with : HostConfig → List Float → List ℕ → ℕ → List 
 batch_with g x k n v t r medium = lent_batch (trace_config_of g medium) x k n v t r
 
 unfoldable pub tracing_in : Option OpticalMedium → (OpticalMedium → Batch) → List Call
-tracing_in (some medium) B = tracing (B medium) ∷ []
-tracing_in none B = []
+tracing_in (Some medium) B = tracing (B medium) ∷ []
+tracing_in None B = []
 
 unfoldable pub refilter_in : Option RayPathFilter → ℕ → List Float → List Call
-refilter_in (some f) d work = refilter (record { 0 = d }) f work ∷ []
-refilter_in none d work = []
+refilter_in (Some f) d work = refilter (record { 0 = d }) f work ∷ []
+refilter_in None d work = []
 
 unfoldable pub call_in : HostCall → List Call
 call_in (trace_rays g x k n v t r) = tracing_in (ambient_in g) (batch_with g x k n v t r)
@@ -82,8 +81,8 @@ abbrev pub traced_by : Memory → Trace (List DetectorHit) → HostTraced
 traced_by s t = traced_with (verdict t.outcome) t.report (added s (memory_left t.outcome))
 
 unfoldable pub book_tracing : Memory → Option OpticalMedium → (OpticalMedium → Batch) → List DetectorHit → HostTraced
-book_tracing s (some medium) B b = traced_by s (book_traced (bare s) (B medium) b)
-book_tracing s none B b = traced_with (refused_at 17 0) (start_report_of 0 #0) (added s b)
+book_tracing s (Some medium) B b = traced_by s (book_traced (bare s) (B medium) b)
+book_tracing s None B b = traced_with (refused_at 17 0) (start_report_of 0 #0) (added s b)
 
 abbrev pub recorded_with : Checked Unit → Memory → HostRecorded
 recorded_with c m =
@@ -94,8 +93,8 @@ abbrev pub recorded_by : Memory → Outcome (List DetectorHit) → HostRecorded
 recorded_by s o = recorded_with (verdict o) (added s (memory_left o))
 
 unfoldable pub book_sifted : Memory → Option RayPathFilter → DetectorNo → List Float → List DetectorHit → Handed
-book_sifted s (some f) d work b = book_filtered (bare s) d f work b (book_asked (bare s) d work b)
-book_sifted s none d work b = handed (refused_at 17 0) work #0 0
+book_sifted s (Some f) d work b = book_filtered (bare s) d f work b (book_asked (bare s) d work b)
+book_sifted s None d work b = handed (refused_at 17 0) work #0 0
 
 unfoldable pub host_book_answer : Memory → HostCall → List DetectorHit → HostAnswer
 host_book_answer s (trace_rays g x k n v t r) b = traced (book_tracing s (ambient_in g) (batch_with g x k n v t r) b)

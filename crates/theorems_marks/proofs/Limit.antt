@@ -20,7 +20,7 @@ use Rattle.run.specs.Run.{Run, hit_in_of, refusal_in_of, step_from, step_on, is_
 use Rattle.trace.specs.Trace.{Batch, rays_in, scene_in, all_steps, start_of, run_on, check_batch, trace_after, trace_rays_of}
 
 -- every step is dim or spent
-only_ends : (S : Scene) (a : ActiveRay) → S.optics.config.max_bounces ≡ 0 → (take_step_of S a ≡ ends_of a dim) ⊎ (take_step_of S a ≡ ends_of a spent)
+only_ends : (S : Scene) (a : ActiveRay) → S.optics.config.max_bounces ≡ 0 → (take_step_of S a ≡ ends_of dim) ⊎ (take_step_of S a ≡ ends_of spent)
 unfolding take_step_of
 only_ends S a z = go (le a.ray.energy S.optics.config.min_power_threshold)
   where
@@ -28,14 +28,14 @@ only_ends S a z = go (le a.ray.energy S.optics.config.min_power_threshold)
     over = rw z (leb-zero a.bounce_count)
 
     go : (b : Bool)
-        → (cond b (ends_of a dim) (cond (leb S.optics.config.max_bounces a.bounce_count) (ends_of a spent) (interact_of S a)) ≡ ends_of a dim)
-        ⊎ (cond b (ends_of a dim) (cond (leb S.optics.config.max_bounces a.bounce_count) (ends_of a spent) (interact_of S a)) ≡ ends_of a spent)
+        → (cond b (ends_of dim) (cond (leb S.optics.config.max_bounces a.bounce_count) (ends_of spent) (interact_of S a)) ≡ ends_of dim)
+        ⊎ (cond b (ends_of dim) (cond (leb S.optics.config.max_bounces a.bounce_count) (ends_of spent) (interact_of S a)) ≡ ends_of spent)
     go true = inl refl
     go false = inr (rw over)
 
 module _ {M : Type 0} (put : M → DetectorHit → Outcome M) (S : Scene) (given : ℕ → ActiveRay) where
   -- such a step leaves the memory, and counts nothing
-  settled : (m : M) (p : Progress) (t : Taken) (a : ActiveRay) (s : Step) → (s ≡ ends_of a dim) ⊎ (s ≡ ends_of a spent)
+  settled : (m : M) (p : Progress) (t : Taken) (a : ActiveRay) (s : Step) → (s ≡ ends_of dim) ⊎ (s ≡ ends_of spent)
       → ((step_from put S given m p t s).outcome ≡ done m) × ((step_from put S given m p t s).progress.report.total_interactions ≡ p.report.total_interactions)
   unfolding hit_in_of refusal_in_of report_after_of more_if_of is_interaction_of
   settled m p t a s (inl e) = (rw e, rw e)

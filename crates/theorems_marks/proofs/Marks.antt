@@ -13,7 +13,8 @@ use Rattle.rays.specs.Rays.{is_finite_ray_of}
 use Rattle.source.specs.Random.{new_of, next_u64_of, next_state, scrambled}
 use Rattle.geometry.proofs.Marks as geometry
 use Rattle.scene.specs.declared.NonSeqHit.{NonSeqHit}
-use Rattle.surface.specs.Fresnel.{leaving_of, cosine_of, radicand_of, reflected_direction_of, refracted_direction_of, amplitude_of, reflectance_of, total, split, both_of, refract_of, compute_snell_fresnel_interaction_of, mirrored_power_of}
+use Rattle.surface.specs.Fresnel.{leaving_of, cosine_of, radicand_of, reflected_direction_of, refracted_direction_of, amplitude_of, reflectance_of, both_of, refract_of, compute_snell_fresnel_interaction_of, mirrored_power_of}
+use Rattle.surface.specs.declared.FresnelInteraction.TheVariants.{Total, Split}
 use Rattle.detector.proofs.Marks.{m8}
 use Rattle.step.specs.declared.ActiveRay.{ActiveRay}
 use Rattle.step.specs.Rays.{ends_of, mirrored, met}
@@ -66,7 +67,7 @@ m6 = (anywhere, anywhere (upward (neg #5)) facing refl refl finite_rays.0 finite
   where
     anywhere : (r : Ray) (h : NonSeqHit) → r.direction ≡ #+z → h.normal ≡ #-z
         → is_finite_ray_of (sent_ray r h.point #-z #¼) ≡ true → is_finite_ray_of (sent_ray r h.point #+z #¾) ≡ true
-        → compute_snell_fresnel_interaction_of r h #1 #3 #1 ≡ value (split (sent_ray r h.point #-z #¼) (sent_ray r h.point #+z #¾))
+        → compute_snell_fresnel_interaction_of r h #1 #3 #1 ≡ value (Split (sent_ray r h.point #-z #¼) (sent_ray r h.point #+z #¾))
     anywhere r h d n f g = straight r h d n ∙ rw (sent r h.point #-z #¼ f, sent r h.point #+z #¾ g)
 
 -- ---- M7
@@ -79,7 +80,7 @@ level_radicand c (inr e) = rw e
 grazing : (r : Ray) (h : NonSeqHit) (n power : Float) → is_finite_of n ≡ true → lt #0 n ≡ true
     → (cosine_of r.direction h.normal ≡ #0) ⊎ (cosine_of r.direction h.normal ≡ #-0)
     → (d : Vec3) → d ≡ reflected_direction_of r.direction h.normal (cosine_of r.direction h.normal)
-    → is_finite_ray_of (sent_ray r h.point d power) ≡ true → compute_snell_fresnel_interaction_of r h n n power ≡ value (total (sent_ray r h.point d power))
+    → is_finite_ray_of (sent_ray r h.point d power) ≡ true → compute_snell_fresnel_interaction_of r h n n power ≡ value (Total (sent_ray r h.point d power))
 unfolding compute_snell_fresnel_interaction_of
 grazing r h n power i l c d e f = rw (above_zero n i l, level_radicand (cosine_of r.direction h.normal) c, ← e, sent r h.point d power f)
 
@@ -103,7 +104,7 @@ m9 s h e = rw (e, below_itself h.t)
 pub m10 : M10
 m10 = ((λ M put ds B m z. uninteracting put ds B m z), uninteracted)
 
-left_half : (a : ActiveRay) (h : NonSeqHit) → a.ray.energy ≡ #1 → mirror_of #½ a h #½ ≡ ends_of a (met (mirrored #½ #½))
+left_half : (a : ActiveRay) (h : NonSeqHit) → a.ray.energy ≡ #1 → mirror_of #½ a h #½ ≡ ends_of (met (mirrored #½ #½))
 unfolding mirror_of mirrored_power_of clamp_of sub mul lt of_bits
 left_half a h e = rw e
 

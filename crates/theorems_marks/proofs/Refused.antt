@@ -18,7 +18,9 @@ use Rattle.material.specs.declared.OpticalMedium.{OpticalMedium}
 use Rattle.material.specs.declared.OpticalMedium.TheVariants.{Air, Constant, Sellmeier1, Schott}
 use Rattle.material.specs.Media.{square_um_of, sellmeier_of, schott_of, constant_of, root_of_square_of, index_at_of, refractive_index_of}
 use Rattle.scene.specs.declared.NonSeqHit.{NonSeqHit}
-use Rattle.surface.specs.Fresnel.{leaving_of, radicand_of, reflected_direction_of, refracted_direction_of, FresnelInteraction, total, split, total_of, both_of, refract_of, compute_snell_fresnel_interaction_of, mirrored_of}
+use Rattle.surface.specs.Fresnel.{leaving_of, radicand_of, reflected_direction_of, refracted_direction_of, total_of, both_of, refract_of, compute_snell_fresnel_interaction_of, mirrored_of}
+use Rattle.surface.specs.declared.FresnelInteraction.{FresnelInteraction}
+use Rattle.surface.specs.declared.FresnelInteraction.TheVariants.{Total, Split}
 use Rattle.media.specs.declared.Media.{Media}
 use Rattle.detector.specs.declared.DetectorHit.{DetectorHit}
 use Rattle.memory.specs.Memory.{Memory, Outcome, done, refused, memory_left, judged, put_of, record_of, has_pixel, capacity, cell_in, hit_detector, written_at}
@@ -222,8 +224,8 @@ module _ (O : Optics) (a : ActiveRay) (h : NonSeqHit) (n : ℕ) where
   -- a parting and a mirror's ray are no refusals
   parted_ends : (threshold : Float) (m : Media) (p : FresnelInteraction) → (parted_by threshold a m p).end ≡ refusing n → SurfaceRefused O a h n
   unfolding parted_by
-  parted_ends threshold m (total r) x = absurd (other _ refl x)
-  parted_ends threshold m (split r t) x = absurd (other _ refl x)
+  parted_ends threshold m (Total r) x = absurd (other _ refl x)
+  parted_ends threshold m (Split r t) x = absurd (other _ refl x)
 
   mirrored_ends : (m : Meeting) (r : Ray) → (mirror_from_of a m (value r)).end ≡ refusing n → SurfaceRefused O a h n
   unfolding mirror_from_of

@@ -1,6 +1,5 @@
 -- Document 01's marked facts M1 to M11, the last as document 02 (b) has it, as statements about the definitions.
-use Rattle.std.specs.Prelude.{◌≡◌, ◌⊎◌, true, false, List, [], ◌∷◌, ℕ, ◌+◌, ◌<◌, Float}
-use Rattle.std.proofs.Math.Option.{none, some}
+use Rattle.std.specs.Prelude.{◌≡◌, ◌⊎◌, true, List, [], ◌∷◌, ℕ, ◌+◌, ◌<◌, Float, None, Some}
 use Rattle.std.specs.Float.{nan, binary64}
 use Rattle.std.specs.Float.Ieee.{neg, lt, of_bits}
 use Rattle.doubles.specs.Doubles.{is_finite_of, #0, #½, #1, #2, #3, #4, #5}
@@ -15,7 +14,8 @@ use Rattle.geometry.specs.declared.PrimitiveGeometry.TheVariants.{Plane, Sphere,
 use Rattle.geometry.specs.Hits.{hit_at}
 use Rattle.geometry.specs.Shapes.{intersect_local_of}
 use Rattle.scene.specs.declared.NonSeqHit.{NonSeqHit}
-use Rattle.surface.specs.Fresnel.{cosine_of, reflected_direction_of, total, split, compute_snell_fresnel_interaction_of}
+use Rattle.surface.specs.Fresnel.{cosine_of, reflected_direction_of, compute_snell_fresnel_interaction_of}
+use Rattle.surface.specs.declared.FresnelInteraction.TheVariants.{Total, Split}
 use Rattle.detector.specs.Pixels.{index_along_of, max_count}
 use Rattle.detectors.specs.declared.Detectors.{Detectors}
 use Rattle.detector.specs.declared.DetectorHit.{DetectorHit}
@@ -86,7 +86,7 @@ M2 = (next_u64_of (new_of 1)).value ≡ 0x47e4ce4b896cdd1d
 abbrev pub M3 : Type 0
 M3 =
     (intersect_local_of (Plane #1 #1) (upward (neg #5)) ≡ hit_at #5 #+z) ×
-    (intersect_local_of (Plane #1 #1) (upward #0) ≡ none)
+    (intersect_local_of (Plane #1 #1) (upward #0) ≡ None)
 
 -- Sphere 1, +z, from (0, 0, -5): 4, normal (0, 0, -1); from its centre: 1
 abbrev pub M4 : Type 0
@@ -104,9 +104,9 @@ M6 =
     ((r : Ray) (h : NonSeqHit) → r.direction ≡ #+z → h.normal ≡ #-z
     → is_finite_ray_of (sent_ray r h.point #-z #¼) ≡ true → is_finite_ray_of (sent_ray r h.point #+z #¾) ≡ true
     → compute_snell_fresnel_interaction_of r h #1 #3 #1 ≡ value
-    (split (sent_ray r h.point #-z #¼) (sent_ray r h.point #+z #¾)))
+    (Split (sent_ray r h.point #-z #¼) (sent_ray r h.point #+z #¾)))
     × (compute_snell_fresnel_interaction_of (upward (neg #5)) facing #1 #3 #1 ≡ value
-    (split (sent_ray (upward (neg #5)) #000 #-z #¼) (sent_ray (upward (neg #5)) #000 #+z #¾)))
+    (Split (sent_ray (upward (neg #5)) #000 #-z #¼) (sent_ray (upward (neg #5)) #000 #+z #¾)))
 
 -- equal indices, cosine 0: all reflected, wherever the ray is finite, as from (-5, 0, 0) along the surface
 abbrev pub M7 : Type 0
@@ -115,8 +115,8 @@ M7 =
     → (cosine_of r.direction h.normal ≡ #0) ⊎ (cosine_of r.direction h.normal ≡ #-0)
     → (d : Vec3) → d ≡ reflected_direction_of r.direction h.normal (cosine_of r.direction h.normal)
     → is_finite_ray_of (sent_ray r h.point d power) ≡ true → compute_snell_fresnel_interaction_of r h n n power ≡ value
-    (total (sent_ray r h.point d power)))
-    × (compute_snell_fresnel_interaction_of sideways facing #1 #1 #1 ≡ value (total (sent_ray sideways #000 #+x #1)))
+    (Total (sent_ray r h.point d power)))
+    × (compute_snell_fresnel_interaction_of sideways facing #1 #1 #1 ≡ value (Total (sent_ray sideways #000 #+x #1)))
 
 -- width 4, resx 2: x = 2 is column 1, x = -2 column 0, NaN column 0
 abbrev pub M8 : Type 0
@@ -127,7 +127,7 @@ M8 =
 
 -- a solid and a detector equally far: the solid
 abbrev pub M9 : Type 0
-M9 = (s : Sight) (h : NonSeqHit) → s.crossing.t ≡ h.t → first_ahead_of (some s) (some h) ≡ solid h
+M9 = (s : Sight) (h : NonSeqHit) → s.crossing.t ≡ h.t → first_ahead_of (Some s) (Some h) ≡ solid h
 
 -- limit 0: interactions 0, of a run into any memory and of a tracing, refused or not
 abbrev pub M10 : Type 1
@@ -141,8 +141,8 @@ abbrev pub M11 : Type 0
 M11 =
     (a : ActiveRay) (h : NonSeqHit) (r : NonSeqTraceReport) → a.ray.energy ≡ #1
     → r.ledger.absorbed_flux_watts ≡ #0 → r.ledger.lost_flux_watts ≡ #0 → r.tallies.weak < max_count
-    → ((mirror_of #½ a h #½).end ≡ met (mirrored #½ #½)) × ((mirror_of #½ a h #½).«first» ≡ false) ×
-    ((mirror_of #½ a h #½).second ≡ false)
+    → ((mirror_of #½ a h #½).end ≡ met (mirrored #½ #½)) × ((mirror_of #½ a h #½).reflected ≡ None) ×
+    ((mirror_of #½ a h #½).transmitted ≡ None)
     × ((report_after_of r #1 (mirror_of #½ a h #½)).ledger.absorbed_flux_watts ≡ #½)
     × ((report_after_of r #1 (mirror_of #½ a h #½)).tallies.made ≡ r.tallies.made)
     × ((report_after_of r #1 (mirror_of #½ a h #½)).tallies.weak ≡ r.tallies.weak + 1)

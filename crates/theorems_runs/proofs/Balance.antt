@@ -1,4 +1,5 @@
 -- Every ray of a run that is not refused ends in one tally. Assumes nothing.
+use Rattle.std.specs.Prelude.{Option, None, Some, is_some, IfSome}
 use Prim.Native.Nat.{ℕ, zero, suc, ◌≤◌, ◌<◌, ◌+◌, ◌*◌}
 use mathlib.Core.Path.{◌≡◌, refl, sym, ap, subst, ◌∙◌}
 use mathlib.Core.Bool.{Bool, true, false, cond}
@@ -19,8 +20,8 @@ use Rattle.run.specs.declared.Progress.{Progress}
 use Rattle.run.specs.Stack.{empty_stack_of}
 use Rattle.run.specs.Run.{hit_in_of, refusal_in_of, put_from, is_left, settle_with, step_on}
 use Rattle.trace.specs.Trace.{Batch, rays_in, all_steps, start_of, scene_in, run_on}
-use Rattle.theorems_runs.specs.Sums.{sum_first, sum_given, sum_stack, sum_left, sum_made, heft, is_surface, refuses, over_in, met_in, Tidy}
-use Rattle.theorems_runs.proofs.Bred.{false_true, bred}
+use Rattle.theorems_runs.specs.Sums.{sum_first, sum_given, sum_stack, sum_left, sum_some, sum_made, heft, is_surface, refuses, over_in, met_in, Tidy}
+use Rattle.theorems_runs.proofs.Bred.{false_true, Born, bred}
 use Rattle.theorems_runs.proofs.Stacks.{ray, next, none_left}
 use Rattle.theorems_runs.proofs.Weights.{more_is}
 use Rattle.theorems_runs.proofs.Runs.{not_done, drive-done, next_less, weight_pos}
@@ -93,9 +94,18 @@ left_ones : (given : ℕ → ActiveRay) (p : Progress) → sum_left one given p 
 unfolding sum_left sum_stack
 left_ones given p = omega (arith, ones p.stack.rays p.stack.len, given_ones given p.left)
 
-made_ones : (s : Step) → sum_made one s ≡ cond s.«first» 1 0 + cond s.second 1 0
+some_one : (o : Option ActiveRay) → sum_some one o ≡ cond (is_some o) 1 0
+some_one (Some a) = refl
+some_one None = refl
+
+made_ones : (s : Step) → sum_made one s ≡ cond (is_some s.reflected) 1 0 + cond (is_some s.transmitted) 1 0
 unfolding sum_made
-made_ones s = refl
+made_ones s = omega (arith, some_one s.reflected, some_one s.transmitted)
+
+-- a ray that is made is made at a surface
+made_at : (a : ActiveRay) (e : End) (o : Option ActiveRay) → IfSome o (Born a e) → is_some o ≡ true → is_surface e ≡ true
+made_at a e (Some c) h q = h.surface
+made_at a e None h q = false_true q
 
 -- ---- a step
 
@@ -135,7 +145,7 @@ module _ {M : Type 0} (put : M → DetectorHit → Outcome M) where
     unfolding step_on
     next-done m z p h = settle_done m _ p.report _ z (made m p).end h
 
-    after-tallies : (r : NonSeqTraceReport) (power : Float) (s : Step) → (report_after_of r power s).tallies ≡ tallies_after_of r.tallies s.end s.«first» s.second
+    after-tallies : (r : NonSeqTraceReport) (power : Float) (s : Step) → (report_after_of r power s).tallies ≡ tallies_after_of r.tallies s.end (is_some s.reflected) (is_some s.transmitted)
     unfolding report_after_of
     after-tallies r power s = refl
 
@@ -155,16 +165,16 @@ module _ {M : Type 0} (put : M → DetectorHit → Outcome M) where
         let k = bred S (ray put S given m p) in
         let small : t.made ≤ 1073733630 = omega (arith, h.room) in
         let few-over : over_in t ≤ 1073737726 = omega (arith, h.all) in
-        let a : Added t (tallies_after_of t s.end s.«first» s.second) s.end s.«first» s.second =
-        tallied t s.end s.«first» s.second r.1 k.at_one k.at_two (omega arith) (omega arith) in
-        let u : (next put S given m p).report.tallies ≡ tallies_after_of t s.end s.«first» s.second =
+        let a : Added t (tallies_after_of t s.end (is_some s.reflected) (is_some s.transmitted)) s.end (is_some s.reflected) (is_some s.transmitted) =
+        tallied t s.end (is_some s.reflected) (is_some s.transmitted) r.1 (made_at _ s.end s.reflected k.one) (made_at _ s.end s.transmitted k.two) (omega arith) (omega arith) in
+        let u : (next put S given m p).report.tallies ≡ tallies_after_of t s.end (is_some s.reflected) (is_some s.transmitted) =
         ap (λ (x : NonSeqTraceReport). x.tallies) r.0 ∙ after-tallies p.report _ s in
         let c : (next put S given m p).report.total_interactions ≡ more_if_of (is_interaction_of s.end) p.report.total_interactions =
         ap (λ (x : NonSeqTraceReport). x.total_interactions) r.0 ∙ after-count p.report _ s in
         let d : more_if_of (is_interaction_of s.end) p.report.total_interactions ≡ p.report.total_interactions + cond (is_interaction_of s.end) 1 0 =
         more_if (is_interaction_of s.end) p.report.total_interactions (omega (arith, h.met, met_over t)) in
-        let f1 : cond s.«first» 1 0 ≤ 1 = flag_most s.«first» in
-        let f2 : cond s.second 1 0 ≤ 1 = flag_most s.second in
+        let f1 : cond (is_some s.reflected) 1 0 ≤ 1 = flag_most (is_some s.reflected) in
+        let f2 : cond (is_some s.transmitted) 1 0 ≤ 1 = flag_most (is_some s.transmitted) in
         record {
           tidy = next_tidy put S given m p lim h.tidy;
           room = rw u (omega (arith, h.room, a.made));

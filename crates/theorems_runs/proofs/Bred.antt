@@ -1,19 +1,20 @@
 -- What a step makes of a ray: which rays come of it, and when. Assumes nothing.
+use Rattle.std.specs.Prelude.{Option, None, Some, IfSome}
 use Prim.Native.Nat.{ℕ, zero, suc, ◌≤◌, ◌<◌, ◌+◌, ◌-◌}
 use mathlib.Core.Path.{◌≡◌, refl, ◌∙◌}
 use mathlib.Core.Bool.{Bool, true, false, cond}
 use mathlib.Core.List.{List}
-use mathlib.Core.Option.{Option, none, some}
 use native.Mathlib.Omega.{arith}
 use lib.Dec.{ltb, leb}
 use lib.ListN.{length, set, length-set}
-use lib.Ieee.{Float, le, binary64, of_bits}
+use lib.Ieee.{Float, lt, le, binary64, of_bits}
 use borrow.Author.Tests.{leb-false}
 use Rattle.error.specs.Refusals.{value}
 use Rattle.rays.specs.declared.Ray.{Ray}
 use Rattle.scene.specs.declared.SolidNo.{SolidNo}
 use Rattle.scene.specs.declared.NonSeqHit.{NonSeqHit}
-use Rattle.surface.specs.Fresnel.{FresnelInteraction, total, split}
+use Rattle.surface.specs.declared.FresnelInteraction.{FresnelInteraction}
+use Rattle.surface.specs.declared.FresnelInteraction.TheVariants.{Total, Split}
 use Rattle.media.specs.declared.Media.{Media}
 use Rattle.media.specs.Media.{entered_of, left_of, last_place_of, move_down_of, without_place, solid_in, max_media}
 use Rattle.step.specs.declared.ActiveRay.{ActiveRay}
@@ -48,8 +49,8 @@ same m = record { depth = omega arith; long = refl }
 
 without : (m : Media) (o : Option ℕ) → Deeper m (without_place m o)
 unfolding without_place
-without m (some i) = record { depth = omega arith; long = moved_length (m.depth - 1 - i) i m.list }
-without m none = same m
+without m (Some i) = record { depth = omega arith; long = moved_length (m.depth - 1 - i) i m.list }
+without m None = same m
 
 entered : (m : Media) (s : SolidNo) → Deeper m (entered_of m s)
 unfolding entered_of
@@ -72,9 +73,6 @@ pub record Later (a c : ActiveRay) : Type 0 where
   pub reflections : c.reflection_count ≤ a.reflection_count + 1
   pub tirs : c.tir_count ≤ a.tir_count + 1
 
-itself : (a : ActiveRay) → Later a a
-itself a = record { media = same a.media; reflections = omega arith; tirs = omega arith }
-
 pub more_most : (n : ℕ) → more_of n ≤ n + 1
 unfolding more_of
 more_most n = pick (λ (k : ℕ). k ≤ n + 1) (ltb n 4294967295) (λ q. omega arith) (λ q. omega arith)
@@ -88,64 +86,49 @@ transmitted_later : (a : ActiveRay) (r : Ray) (m : Media) → Deeper a.media m �
 unfolding transmitted_of
 transmitted_later a r m d = record { media = d; reflections = omega arith; tirs = omega arith }
 
--- an interaction is below the limit; a ray that is made has one bounce more and was made at a surface
+-- a ray that is made has one bounce more and was made at a surface
+pub record Born (a : ActiveRay) (e : End) (c : ActiveRay) : Type 0 where
+  pub bounces : c.bounce_count ≡ more_of a.bounce_count
+  pub surface : is_surface e ≡ true
+  pub later : Later a c
+
+-- an interaction is below the limit
 pub record Bred (b : ℕ) (a : ActiveRay) (s : Step) : Type 0 where
   pub busy : is_interaction_of s.end ≡ true → a.bounce_count < b
-  pub one : s.«first» ≡ true → s.reflected.bounce_count ≡ more_of a.bounce_count
-  pub two : s.second ≡ true → s.transmitted.bounce_count ≡ more_of a.bounce_count
-  pub at_one : s.«first» ≡ true → is_surface s.end ≡ true
-  pub at_two : s.second ≡ true → is_surface s.end ≡ true
-  pub later_one : Later a s.reflected
-  pub later_two : Later a s.transmitted
+  pub one : IfSome s.reflected (Born a s.end)
+  pub two : IfSome s.transmitted (Born a s.end)
 
-ended_bred : (b : ℕ) (a : ActiveRay) (e : End) → (is_interaction_of e ≡ true → a.bounce_count < b) → Bred b a (ends_of a e)
-ended_bred b a e h =
-    record {
-      busy = h;
-      one = λ q. false_true q;
-      two = λ q. false_true q;
-      at_one = λ q. false_true q;
-      at_two = λ q. false_true q;
-      later_one = itself a;
-      later_two = itself a;
-    }
+ended_bred : (b : ℕ) (a : ActiveRay) (e : End) → (is_interaction_of e ≡ true → a.bounce_count < b) → Bred b a (ends_of e)
+ended_bred b a e h = record { busy = h; one = tt; two = tt }
 
 module _ (b : ℕ) (a : ActiveRay) (low : a.bounce_count < b) where
   parted_bred : (threshold : Float) (m : Media) (p : FresnelInteraction) → Deeper a.media m → Bred b a (parted_by threshold a m p)
   unfolding parted_by reflected_of transmitted_of is_surface
-  parted_bred threshold m (total r) d =
+  parted_bred threshold m (Total r) d =
+      let e : End = (parted_by threshold a m (Total r)).end in
       record {
         busy = λ q. low;
-        one = λ q. refl;
-        two = λ q. false_true q;
-        at_one = λ q. refl;
-        at_two = λ q. false_true q;
-        later_one = reflected_later true a r;
-        later_two = itself a;
+        one =
+            pick (λ o. IfSome o (Born a e)) (lt threshold r.energy) (λ q. record { bounces = refl; surface = refl; later = reflected_later true a r })
+            (λ q. tt);
+        two = tt;
       }
-  parted_bred threshold m (split r t) d =
+  parted_bred threshold m (Split r t) d =
+      let e : End = (parted_by threshold a m (Split r t)).end in
       record {
         busy = λ q. low;
-        one = λ q. refl;
-        two = λ q. refl;
-        at_one = λ q. refl;
-        at_two = λ q. refl;
-        later_one = reflected_later (le t.energy (of_bits binary64 0)) a r;
-        later_two = transmitted_later a t m d;
+        one =
+            pick (λ o. IfSome o (Born a e)) (lt threshold r.energy) (λ q. record { bounces = refl; surface = refl; later = reflected_later (le t.energy (of_bits binary64 0)) a r })
+            (λ q. tt);
+        two =
+            pick (λ o. IfSome o (Born a e)) (lt threshold t.energy) (λ q. record { bounces = refl; surface = refl; later = transmitted_later a t m d })
+            (λ q. tt);
       }
 
   mirrored_bred : (m : Meeting) (r : Ray) → Bred b a (mirror_from_of a m (value r))
   unfolding mirror_from_of reflected_of is_surface
   mirrored_bred m r =
-      record {
-        busy = λ q. low;
-        one = λ q. refl;
-        two = λ q. false_true q;
-        at_one = λ q. refl;
-        at_two = λ q. false_true q;
-        later_one = reflected_later false a r;
-        later_two = itself a;
-      }
+      record { busy = λ q. low; one = record { bounces = refl; surface = refl; later = reflected_later false a r }; two = tt }
 
 pub bred : (S : Scene) (a : ActiveRay) → Bred S.optics.config.max_bounces a (take_step_of S a)
 unfolding is_interaction_of

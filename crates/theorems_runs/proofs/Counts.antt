@@ -1,8 +1,8 @@
 -- No count of a report comes near the largest number, so that raising one always adds 1. Assumes nothing.
+use Rattle.std.specs.Prelude.{Option, None, Some, is_some}
 use Prim.Native.Nat.{ℕ, ◌≤◌, ◌+◌, ◌*◌}
 use mathlib.Core.Path.{◌≡◌, sym, subst}
 use mathlib.Core.Bool.{Bool, true, false}
-use mathlib.Core.Option.{Option, none, some}
 use native.Mathlib.Omega.{arith}
 use lib.Ieee.{Float}
 use Rattle.error.specs.Refusals.{Checked}
@@ -57,7 +57,7 @@ module _ (n w v : ℕ) (less : w + 2 ≤ v) where
   unfolding report_after_of
   after_small r power s h =
       record {
-        tallies = tallies_small r.tallies s.end s.«first» s.second h.tallies;
+        tallies = tallies_small r.tallies s.end (is_some s.reflected) (is_some s.transmitted) h.tallies;
         interactions = omega (arith, h.interactions, if_more (is_interaction_of s.end) r.total_interactions);
       }
 
@@ -76,8 +76,8 @@ module _ {M : Type 0} (put : M → DetectorHit → Outcome M) (Q : NonSeqTraceRe
 
   -- a step's report is the report after it, or the one it found with its interaction counted
   settle_either : (m : M) (place : ℕ) (r after : NonSeqTraceReport) (c : Checked Unit) (o : Option DetectorHit) → Q after → Q (counted_of r) → Q (settle_with put m place r after c o).report
-  settle_either m place r after c (some d) h k = put_either place r after (put m d) h k
-  settle_either m place r after c none h k = h
+  settle_either m place r after c (Some d) h k = put_either place r after (put m d) h k
+  settle_either m place r after c None h k = h
 
 -- the counts of a report, with all that the rays left can lead to, are at most n
 pub record Kept (given : ℕ → ActiveRay) (b n : ℕ) (p : Progress) : Type 0 where

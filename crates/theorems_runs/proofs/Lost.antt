@@ -1,4 +1,5 @@
 -- Lost is the sum in step order of what mirrors drop of the rays taken. Assumes nothing.
+use Rattle.std.specs.Prelude.{is_some}
 use Prim.Native.Nat.{ℕ}
 use mathlib.Core.Path.{◌≡◌, refl, sym, ap, subst, ◌∙◌}
 use mathlib.Core.Bool.{true}
@@ -10,7 +11,8 @@ use Rattle.rays.specs.declared.Ray.{Ray}
 use Rattle.media.specs.declared.Media.{Media}
 use Rattle.material.specs.declared.SurfaceFinish.TheVariants.{Mirror}
 use Rattle.scene.specs.declared.NonSeqHit.{NonSeqHit}
-use Rattle.surface.specs.Fresnel.{FresnelInteraction, total, split}
+use Rattle.surface.specs.declared.FresnelInteraction.{FresnelInteraction}
+use Rattle.surface.specs.declared.FresnelInteraction.TheVariants.{Total, Split}
 use Rattle.detector.specs.declared.DetectorHit.{DetectorHit}
 use Rattle.memory.specs.Memory.{Outcome}
 use Rattle.step.specs.declared.ActiveRay.{ActiveRay}
@@ -32,12 +34,12 @@ use Rattle.theorems_runs.proofs.Amounts.{after, next_amount, drive-amount}
 
 -- what lost becomes in a step that drops these powers
 abbrev Drops : Float → Step → List Float → Type 0
-Drops x s ys = lost_after x s.end s.«first» ≡ added_to x ys
+Drops x s ys = lost_after x s.end (is_some s.reflected) ≡ added_to x ys
 
 parted_drops : (x threshold : Float) (a : ActiveRay) (m : Media) (p : FresnelInteraction) → Drops x (parted_by threshold a m p) []
 unfolding parted_by added_to
-parted_drops x threshold a m (total r) = refl
-parted_drops x threshold a m (split r t) = refl
+parted_drops x threshold a m (Total r) = refl
+parted_drops x threshold a m (Split r t) = refl
 
 made_drops : (x : Float) (a : ActiveRay) (rho : Float) (r : Ray) → Drops x (mirror_from_of a (met_mirror a rho) (value r)) []
 unfolding mirror_from_of added_to
@@ -92,9 +94,9 @@ module _ {M : Type 0} (put : M → DetectorHit → Outcome M) (S : Scene) (given
 
   next_lost : (m : M) (p : Progress) → lost (next put S given m p).report ≡ added_to (lost p.report) (dropped S (next_ray given p))
   next_lost m p =
-      let l : lost (after put S given lost p) ≡ lost_after (lost p.report) (step p).end (step p).«first» = after_lost p.report _ (step p) in
+      let l : lost (after put S given lost p) ≡ lost_after (lost p.report) (step p).end (is_some (step p).reflected) = after_lost p.report _ (step p) in
       next_amount put S given lost m p
-      (λ h e. counted_lost p.report ∙ sym (l ∙ ap (λ (w : End). lost_after (lost p.report) w (step p).«first») e))
+      (λ h e. counted_lost p.report ∙ sym (l ∙ ap (λ (w : End). lost_after (lost p.report) w (is_some (step p).reflected)) e))
       ∙ l ∙ step_drops S (next_ray given p) (lost p.report)
 
   -- after any steps, refused or not, lost is what mirrors dropped of the rays taken, added up in step order

@@ -1,4 +1,6 @@
 -- What holds of every ray at its place on the stack, and that a tidy stack has room for what a step makes. Assumes nothing.
+use Rattle.std.specs.Prelude.{Option, None, Some, IfSome}
+use Rattle.std.proofs.lemmas.Option.{IfSome_then}
 use Prim.Native.Nat.{ℕ, ◌≤◌, ◌<◌, ◌+◌, ◌-◌}
 use mathlib.Core.Path.{◌≡◌, refl}
 use mathlib.Core.Bool.{Bool, true, false}
@@ -37,22 +39,22 @@ module _ (Q : ℕ → ActiveRay → Type 0) where
       (λ i q. rw (get_or-set_other s.rays s.len i a no_ray (λ e. omega arith)) (h i q))
       (rw (get_or-set_same s.rays s.len a no_ray j) r)
 
-  each_if : (t : Bool) (s : Stack) (a : ActiveRay) → s.len < 17 → Full s → Each Q s → (t ≡ true → Q s.len a) → Each Q (pushed_if t s a)
+  each_if : (s : Stack) (o : Option ActiveRay) → s.len < 17 → Full s → Each Q s → IfSome o (Q s.len) → Each Q (pushed_if s o)
   unfolding pushed_if
-  each_if true s a l f h r = each_pushed s a l f h (r refl)
-  each_if false s a l f h r = h
+  each_if s (Some a) l f h r = each_pushed s a l f h r
+  each_if s None l f h r = h
 
   -- the transmitted ray comes to the next place, or to the one after it
-  pub each_after : (s : Stack) (e : Step) → Full s → Each Q s → (e.«first» ≡ true → Q (popped s).len e.reflected) → ((i : ℕ) → i ≤ (popped s).len + 1 → e.second ≡ true → Q i e.transmitted) → Each Q (stack_after s e)
+  pub each_after : (s : Stack) (e : Step) → Full s → Each Q s → IfSome e.reflected (Q (popped s).len) → ((i : ℕ) → i ≤ (popped s).len + 1 → IfSome e.transmitted (Q i)) → Each Q (stack_after s e)
   unfolding stack_after
   each_after s e f h one two =
       pick (Each Q) (ltb (popped s).len 16)
       (λ q.
       let l : (popped s).len < 16 = ltb-true (popped s).len 16 q in
-      let u : Stack = pushed_if e.«first» (popped s) e.reflected in
-      let k : u.len ≤ (popped s).len + 1 = if_len e.«first» (popped s) e.reflected in
-      each_if e.second u e.transmitted (omega arith) (full_if e.«first» (popped s) e.reflected (omega arith) (full_popped s f))
-      (each_if e.«first» (popped s) e.reflected (omega arith) (full_popped s f) (each_popped s h) one) (two u.len k))
+      let u : Stack = pushed_if (popped s) e.reflected in
+      let k : u.len ≤ (popped s).len + 1 = if_len (popped s) e.reflected in
+      each_if u e.transmitted (omega arith) (full_if (popped s) e.reflected (omega arith) (full_popped s f))
+      (each_if (popped s) e.reflected (omega arith) (full_popped s f) (each_popped s h) one) (two u.len k))
       (λ q. each_popped s h)
 
 -- ---- a tidy stack
@@ -74,11 +76,11 @@ module _ {M : Type 0} (put : M → DetectorHit → Outcome M) (S : Scene) (given
   b = S.optics.config.max_bounces
 
   -- a step that makes a ray has room for two
-  pub room_one : made.«first» ≡ true → (popped p.stack).len < 16
-  room_one q = omega (arith, taken_low given p.stack p.left t, one_low b here made (bred S here) q)
+  pub room_one : IfSome made.reflected (λ r. (popped p.stack).len < 16)
+  room_one = IfSome_then made.reflected (one_low b here made (bred S here)) (λ r q. omega (arith, taken_low given p.stack p.left t))
 
-  pub room_two : made.second ≡ true → (popped p.stack).len < 16
-  room_two q = omega (arith, taken_low given p.stack p.left t, two_low b here made (bred S here) q)
+  pub room_two : IfSome made.transmitted (λ r. (popped p.stack).len < 16)
+  room_two = IfSome_then made.transmitted (two_low b here made (bred S here)) (λ r q. omega (arith, taken_low given p.stack p.left t))
 
   pub next_tidy : Tidy (next put S given m p).stack
   next_tidy =
@@ -87,8 +89,8 @@ module _ {M : Type 0} (put : M → DetectorHit → Outcome M) (S : Scene) (given
         low =
             rw (next_stack put S given m p)
             (each_after Low p.stack made t.full t.low
-            (λ q. omega (arith, taken_low given p.stack p.left t, one_more b here made lim (bred S here) q))
-            (λ i l q. omega (arith, taken_low given p.stack p.left t, two_more b here made lim (bred S here) q)));
+            (IfSome_then made.reflected (one_more b here made lim (bred S here)) (λ r q. omega (arith, taken_low given p.stack p.left t)))
+            (λ i l. IfSome_then made.transmitted (two_more b here made lim (bred S here)) (λ r q. omega (arith, taken_low given p.stack p.left t))));
       }
 
   -- a step changes a sum by the taken ray and the rays that it makes, precisely
@@ -100,5 +102,5 @@ module _ {M : Type 0} (put : M → DetectorHit → Outcome M) (S : Scene) (given
           omega (arith, next_is put S given m p f, taken_sum f given p t.full l, sum_after f p.stack made t.full (ltb-true (popped p.stack).len 16 q))
       more false q =
           let g : 16 ≤ (popped p.stack).len = ltb-false (popped p.stack).len 16 q in
-          let z : sum_made f made ≤ 0 + 0 = made_most f made 0 (λ y. absurd (omega (arith, room_one y))) (λ y. absurd (omega (arith, room_two y))) in
+          let z : sum_made f made ≤ 0 + 0 = made_most f made 0 (IfSome_then made.reflected room_one (λ r y. absurd (omega arith))) (IfSome_then made.transmitted room_two (λ r y. absurd (omega arith))) in
           omega (arith, next_is put S given m p f, taken_sum f given p t.full l, sum_none f p.stack made g)

@@ -1,8 +1,9 @@
 -- The guards that make definitions total act in no run: the stack has room, and so have the media of a ray. Assumes nothing.
+use Rattle.std.specs.Prelude.{Option, None, Some}
+use Rattle.std.proofs.lemmas.Option.{IfSome_then}
 use Prim.Native.Nat.{ℕ, ◌≤◌, ◌<◌, ◌+◌, ◌-◌, ◌*◌}
 use mathlib.Core.Path.{◌≡◌, refl, sym, ◌∙◌}
 use mathlib.Core.Bool.{Bool, true, false, cond, ◌&&◌}
-use mathlib.Core.Option.{none, some}
 use mathlib.Core.List.{List}
 use native.Mathlib.Omega.{arith}
 use lib.Dec.{ltb, leb}
@@ -26,9 +27,9 @@ use Rattle.run.specs.Run.{is_left, drive}
 use Rattle.trace.specs.Trace.{Batch, rays_in, start_of, scene_in}
 use Rattle.theorems_runs.specs.Sums.{Tidy}
 use Rattle.theorems_runs.specs.Room.{EachGiven, Keeps, Held, Housed, next_ray, plain_after, Roomy}
-use Rattle.theorems_runs.proofs.Bred.{pick, Later, bred}
+use Rattle.theorems_runs.proofs.Bred.{pick, Later, Born, Bred, bred}
 use Rattle.theorems_runs.proofs.Stacks.{next, full_after}
-use Rattle.theorems_runs.proofs.Weights.{if_true, one_more, two_more}
+use Rattle.theorems_runs.proofs.Weights.{if_none, born_more}
 use Rattle.theorems_runs.proofs.Runs.{drive_keeps}
 use Rattle.theorems_runs.proofs.Places.{room_one, room_two, next_tidy}
 use Rattle.theorems_runs.proofs.Held.{held_ray, next-held, start_held}
@@ -48,25 +49,25 @@ and_true : {A : Type 0} (x y : A) (t : Bool) → cond (t && true) x y ≡ cond t
 and_true x y true = refl
 and_true x y false = refl
 
-pub newest_plain : (m : Media) → m.depth ≤ 24 → newest_of m ≡ cond (ltb 0 m.depth) (some (solid_in m.list (m.depth - 1))) none
+pub newest_plain : (m : Media) → m.depth ≤ 24 → newest_of m ≡ cond (ltb 0 m.depth) (Some (solid_in m.list (m.depth - 1))) None
 unfolding newest_of
-newest_plain m h = rw (le-leb m.depth 24 h) (and_true (some (solid_in m.list (m.depth - 1))) none (ltb 0 m.depth))
+newest_plain m h = rw (le-leb m.depth 24 h) (and_true (Some (solid_in m.list (m.depth - 1))) None (ltb 0 m.depth))
 
 -- ---- the stack
 
-pushes_none : (s : Stack) (a : ActiveRay) (t : Bool) → t ≡ false → pushed_if t s a ≡ s
+pushes_none : (s : Stack) (o : Option ActiveRay) → o ≡ None → pushed_if s o ≡ s
 unfolding pushed_if
-pushes_none s a t e = rw e
+pushes_none s o e = rw e
 
 after_room : (s : Stack) (e : Step) → (popped s).len < 16 → stack_after s e ≡ plain_after s e
 unfolding stack_after
 after_room s e h = rw (lt-ltb (popped s).len 16 h)
 
-after_none : (s : Stack) (e : Step) → 16 ≤ (popped s).len → e.«first» ≡ false → e.second ≡ false → stack_after s e ≡ plain_after s e
+after_none : (s : Stack) (e : Step) → 16 ≤ (popped s).len → e.reflected ≡ None → e.transmitted ≡ None → stack_after s e ≡ plain_after s e
 unfolding stack_after
 after_none s e h x y =
     rw (le-ltb (popped s).len 16 h)
-    (sym (pushes_none (pushed_if e.«first» (popped s) e.reflected) e.transmitted e.second y ∙ pushes_none (popped s) e.reflected e.«first» x))
+    (sym (pushes_none (pushed_if (popped s) e.reflected) e.transmitted y ∙ pushes_none (popped s) e.reflected x))
 
 -- ---- a step
 
@@ -86,10 +87,10 @@ child a c e l h =
 housed_kept : (S : Scene) → S.optics.config.max_bounces ≤ 16 → Keeps Housed S
 housed_kept S lim a h =
     let b : ℕ = S.optics.config.max_bounces in
-    let s : Step = take_step_of S a in (
-      (λ q. child a s.reflected (one_more b a s lim (bred S a) q) (bred S a).later_one h),
-      (λ q. child a s.transmitted (two_more b a s lim (bred S a) q) (bred S a).later_two h),
-    )
+    let s : Step = take_step_of S a in
+    let k : Bred b a s = bred S a in
+    let kept : (c : ActiveRay) → Born a s.end c → Housed c = λ c q. child a c (born_more b a s lim k c q) q.later h in
+    (IfSome_then s.reflected k.one kept, IfSome_then s.transmitted k.two kept)
 
 module _ (S : Scene) (given : ℕ → ActiveRay) (lim : S.optics.config.max_bounces ≤ 16) where
   module _ {M : Type 0} (put : M → DetectorHit → Outcome M) where
@@ -105,8 +106,8 @@ module _ (S : Scene) (given : ℕ → ActiveRay) (lim : S.optics.config.max_boun
         more false q =
             let g : 16 ≤ (popped p.stack).len = ltb-false (popped p.stack).len 16 q in
             after_none p.stack (take_step_of S (next_ray given p)) g
-            (if_true _ (λ y. omega (arith, room_one put S given m p lim o.tidy y)))
-            (if_true _ (λ y. omega (arith, room_two put S given m p lim o.tidy y)))
+            (if_none _ (IfSome_then (take_step_of S (next_ray given p)).reflected (room_one put S given m p lim o.tidy) (λ r y. omega arith)))
+            (if_none _ (IfSome_then (take_step_of S (next_ray given p)).transmitted (room_two put S given m p lim o.tidy) (λ r y. omega arith)))
 
     orderly-roomy : (m : M) (p : Progress) → is_left p ≡ true → Orderly given p → Roomy S given p
     orderly-roomy m p l o =

@@ -1,7 +1,8 @@
 -- What a step does to the sums over the stack and over the given rays that are left. Assumes nothing.
+use Rattle.std.specs.Prelude.{Option, None, Some}
 use Prim.Native.Nat.{ℕ, zero, suc, ◌≤◌, ◌<◌, ◌+◌, ◌-◌}
 use mathlib.Core.Path.{◌≡◌, refl, sym, ◌∙◌}
-use mathlib.Core.Bool.{Bool, true, false, cond, ◌||◌}
+use mathlib.Core.Bool.{Bool, true, false, ◌||◌}
 use mathlib.Core.List.{List}
 use mathlib.Core.Logic.{⊎_elim}
 use native.Mathlib.Omega.{arith}
@@ -20,7 +21,7 @@ use Rattle.run.specs.declared.stack.Stack.{Stack}
 use Rattle.run.specs.declared.Progress.{Progress}
 use Rattle.run.specs.Stack.{no_ray, load_of, taken_from, pushed, pushed_if, popped, stack_after}
 use Rattle.run.specs.Run.{is_left, step_on}
-use Rattle.theorems_runs.specs.Sums.{sum_first, sum_given, sum_stack, sum_left, sum_made, Full}
+use Rattle.theorems_runs.specs.Sums.{sum_first, sum_given, sum_stack, sum_left, sum_some, sum_made, Full}
 use Rattle.theorems_runs.proofs.Bred.{pick, false_true}
 
 -- ---- the stack
@@ -33,15 +34,15 @@ full_pushed : (s : Stack) (a : ActiveRay) → s.len < 17 → Full s → Full (pu
 unfolding pushed
 full_pushed s a q h = record { room = length-set s.rays s.len a ∙ h.room; small = omega arith }
 
-pub full_if : (t : Bool) (s : Stack) (a : ActiveRay) → s.len < 17 → Full s → Full (pushed_if t s a)
+pub full_if : (s : Stack) (o : Option ActiveRay) → s.len < 17 → Full s → Full (pushed_if s o)
 unfolding pushed_if
-full_if true s a q h = full_pushed s a q h
-full_if false s a q h = h
+full_if s (Some a) q h = full_pushed s a q h
+full_if s None q h = h
 
-pub if_len : (t : Bool) (s : Stack) (a : ActiveRay) → (pushed_if t s a).len ≤ s.len + 1
+pub if_len : (s : Stack) (o : Option ActiveRay) → (pushed_if s o).len ≤ s.len + 1
 unfolding pushed_if pushed
-if_len true s a = omega arith
-if_len false s a = omega arith
+if_len s (Some a) = omega arith
+if_len s None = omega arith
 
 pub full_after : (s : Stack) (e : Step) → Full s → Full (stack_after s e)
 unfolding stack_after
@@ -49,8 +50,8 @@ full_after s e h =
     pick Full (ltb (popped s).len 16)
     (λ q.
     let l : (popped s).len < 16 = ltb-true (popped s).len 16 q in
-    full_if e.second _ e.transmitted (omega (arith, if_len e.«first» (popped s) e.reflected))
-    (full_if e.«first» (popped s) e.reflected (omega arith) (full_popped s h)))
+    full_if _ e.transmitted (omega (arith, if_len (popped s) e.reflected))
+    (full_if (popped s) e.reflected (omega arith) (full_popped s h)))
     (λ q. full_popped s h)
 
 -- ---- the sum over the stack
@@ -77,19 +78,19 @@ module _ (f : ActiveRay → ℕ) where
       let l : s.len < length s.rays = omega (arith, h.room) in
       rw (add-one, get_or-set_same s.rays s.len a no_ray l, sum_set s.len s.len s.rays a (omega arith))
 
-  sum_if : (t : Bool) (s : Stack) (a : ActiveRay) → s.len < 17 → Full s → sum_stack f (pushed_if t s a) ≡ cond t (f a) 0 + sum_stack f s
+  sum_if : (s : Stack) (o : Option ActiveRay) → s.len < 17 → Full s → sum_stack f (pushed_if s o) ≡ sum_some f o + sum_stack f s
   unfolding pushed_if
-  sum_if true s a q h = sum_pushed s a q h
-  sum_if false s a q h = omega arith
+  sum_if s (Some a) q h = sum_pushed s a q h
+  sum_if s None q h = omega arith
 
   -- with room for both rays
   pub sum_after : (s : Stack) (e : Step) → Full s → (popped s).len < 16 → sum_stack f (stack_after s e) ≡ sum_made f e + sum_stack f (popped s)
   unfolding stack_after sum_made
   sum_after s e h l =
-      let u : Stack = pushed_if e.«first» (popped s) e.reflected in
-      let p1 : sum_stack f u ≡ cond e.«first» (f e.reflected) 0 + sum_stack f (popped s) = sum_if e.«first» (popped s) e.reflected (omega arith) (full_popped s h) in
-      let p2 : sum_stack f (pushed_if e.second u e.transmitted) ≡ cond e.second (f e.transmitted) 0 + sum_stack f u =
-      sum_if e.second u e.transmitted (omega (arith, if_len e.«first» (popped s) e.reflected)) (full_if e.«first» (popped s) e.reflected (omega arith) (full_popped s h)) in
+      let u : Stack = pushed_if (popped s) e.reflected in
+      let p1 : sum_stack f u ≡ sum_some f e.reflected + sum_stack f (popped s) = sum_if (popped s) e.reflected (omega arith) (full_popped s h) in
+      let p2 : sum_stack f (pushed_if u e.transmitted) ≡ sum_some f e.transmitted + sum_stack f u =
+      sum_if u e.transmitted (omega (arith, if_len (popped s) e.reflected)) (full_if (popped s) e.reflected (omega arith) (full_popped s h)) in
       rw (lt-ltb (popped s).len 16 l) (omega (arith, p1, p2))
 
   -- without

@@ -30,17 +30,17 @@ module _ {X : Type 0} (none : X) (meets : NonSeqHit → X) (S : Scene) (a : Acti
   by_sight e f w g = rw (e, f, g)
 
   module _ (Q : Step → X → Type 0)
-      (dims : Q (ends_of a dim) none)
-      (spends : Q (ends_of a spent) none)
-      (catches : (d : DetectorHit) → Q (ends_of a (caught d)) none)
-      (goes : Q (ends_of a gone) none)
+      (dims : Q (ends_of dim) none)
+      (spends : Q (ends_of spent) none)
+      (catches : (d : DetectorHit) → Q (ends_of (caught d)) none)
+      (goes : Q (ends_of gone) none)
       (solids : (h : NonSeqHit) → Q (surface_of S.optics a h) (meets h)) where
     pub by-met : Q (take_step_of S a) (at_surface none meets S a)
     unfolding if_solid
     by-met =
         let here : Step → Type 0 = λ s. Q s (at_surface none meets S a) in
-        by_tests here a S (λ e. subst (Q (ends_of a dim)) (sym (none_if_dim e)) dims) (λ e. subst (Q (ends_of a spent)) (sym (none_if_spent e)) spends)
+        by_tests here a S (λ e. subst (Q (ends_of dim)) (sym (none_if_dim e)) dims) (λ e. subst (Q (ends_of spent)) (sym (none_if_spent e)) spends)
         (λ e f.
-        by-ahead here a S (λ s q w. subst (Q (ends_of a (caught (caught_by_of a s)))) (sym (by_sight e f (detector s) w)) (catches (caught_by_of a s)))
+        by-ahead here a S (λ s q w. subst (Q (ends_of (caught (caught_by_of a s)))) (sym (by_sight e f (detector s) w)) (catches (caught_by_of a s)))
         (λ h w. subst (Q (surface_of S.optics a h)) (sym (by_sight e f (solid h) w)) (solids h))
-        (λ w. subst (Q (ends_of a gone)) (sym (by_sight e f nothing w)) goes))
+        (λ w. subst (Q (ends_of gone)) (sym (by_sight e f nothing w)) goes))

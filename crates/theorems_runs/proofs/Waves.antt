@@ -1,7 +1,8 @@
 -- The rays that come of a step have the wavelength of its ray, so that none in a run is infinite or NaN. Assumes nothing.
+use Rattle.std.specs.Prelude.{IfSome}
+use Rattle.std.proofs.lemmas.Option.{IfSome_then}
 use mathlib.Core.Path.{◌≡◌, refl, ap, subst, ◌∙◌}
-use mathlib.Core.Bool.{true, false}
-use lib.Ieee.{Float, binary64, sub, mul, div, le}
+use lib.Ieee.{Float, binary64, sub, mul, div, lt, le}
 use Rattle.doubles.specs.Doubles.{is_finite_of, #0, #1}
 use Rattle.doubles.specs.Root.{sqrt_of}
 use Rattle.error.specs.Refusals.{Answer, value, refusal}
@@ -9,7 +10,9 @@ use Rattle.rays.specs.declared.vector.Vec3.{Vec3}
 use Rattle.rays.specs.declared.Ray.{Ray}
 use Rattle.rays.specs.Rays.{new_ray_of, is_finite_ray_of}
 use Rattle.scene.specs.declared.NonSeqHit.{NonSeqHit}
-use Rattle.surface.specs.Fresnel.{leaving_of, cosine_of, radicand_of, reflected_direction_of, refracted_direction_of, reflectance_of, FresnelInteraction, total, split, total_of, both_of, refract_of, compute_snell_fresnel_interaction_of, mirrored_of}
+use Rattle.surface.specs.Fresnel.{leaving_of, cosine_of, radicand_of, reflected_direction_of, refracted_direction_of, reflectance_of, total_of, both_of, refract_of, compute_snell_fresnel_interaction_of, mirrored_of}
+use Rattle.surface.specs.declared.FresnelInteraction.{FresnelInteraction}
+use Rattle.surface.specs.declared.FresnelInteraction.TheVariants.{Total, Split}
 use Rattle.media.specs.declared.Media.{Media}
 use Rattle.step.specs.declared.ActiveRay.{ActiveRay}
 use Rattle.step.specs.Rays.{Scene, Step, Meeting, reflected_of, transmitted_of}
@@ -24,8 +27,8 @@ OneWave w (value r) = r.wavelength_nm ≡ w
 OneWave w (refusal n) = Unit
 
 abbrev Parts : Float → Answer FresnelInteraction → Type 0
-Parts w (value (total r)) = r.wavelength_nm ≡ w
-Parts w (value (split r t)) = (r.wavelength_nm ≡ w) × (t.wavelength_nm ≡ w)
+Parts w (value (Total r)) = r.wavelength_nm ≡ w
+Parts w (value (Split r t)) = (r.wavelength_nm ≡ w) × (t.wavelength_nm ≡ w)
 Parts w (refusal n) = Unit
 
 total_wave : (w : Float) (x : Answer Ray) → OneWave w x → Parts w (total_of x)
@@ -68,29 +71,29 @@ Same a c = c.ray.wavelength_nm ≡ a.ray.wavelength_nm
 
 mirrored_same : (a : ActiveRay) (m : Meeting) (r : Ray) → r.wavelength_nm ≡ a.ray.wavelength_nm → EachMade (Same a) (mirror_from_of a m (value r))
 unfolding mirror_from_of reflected_of
-mirrored_same a m r e = ((λ q. e), (λ q. refl))
+mirrored_same a m r e = (e, tt)
 
 parted_same : (threshold : Float) (a : ActiveRay) (m : Media) (p : FresnelInteraction) → Parts a.ray.wavelength_nm (value p) → EachMade (Same a) (parted_by threshold a m p)
 unfolding parted_by reflected_of transmitted_of
-parted_same threshold a m (total r) e = ((λ q. e), (λ q. refl))
-parted_same threshold a m (split r t) e = ((λ q. e.0), (λ q. e.1))
+parted_same threshold a m (Total r) e = (pick (λ o. IfSome o (Same a)) (lt threshold r.energy) (λ q. e) (λ q. tt), tt)
+parted_same threshold a m (Split r t) e =
+    (pick (λ o. IfSome o (Same a)) (lt threshold r.energy) (λ q. e.0) (λ q. tt), pick (λ o. IfSome o (Same a)) (lt threshold t.energy) (λ q. e.1) (λ q. tt))
 
 pub same_wave : (S : Scene) (a : ActiveRay) → EachMade (Same a) (take_step_of S a)
 same_wave S a =
     let Q : Step → Type 0 = EachMade (Same a) in
-    by_tests Q a S (λ e. none) (λ e. none)
+    by_tests Q a S (λ e. (tt, tt)) (λ e. (tt, tt))
     (λ e f.
-    by-ahead Q a S (λ s q z. none)
+    by-ahead Q a S (λ s q z. (tt, tt))
     (λ h q.
-    by-surface Q a S.optics h (λ m. none) (λ n g. none)
+    by-surface Q a S.optics h (λ m. (tt, tt)) (λ n g. (tt, tt))
     (λ power m r g. mirrored_same a m r (subst (OneWave a.ray.wavelength_nm) g (mirror_wave a.ray h power)))
     (λ n1 n2 p g. parted_same _ a _ p (subst (Parts a.ray.wavelength_nm) g (snell_wave a.ray h n1 n2 a.ray.energy))))
-    (λ q. none))
-  where
-    none : (false ≡ true → Same a a) × (false ≡ true → Same a a)
-    none = ((λ q. refl), (λ q. refl))
+    (λ q. (tt, tt)))
 
 pub admitted_kept : (S : Scene) → Keeps Admitted S
 admitted_kept S a h =
-    let s = same_wave S a in
-    ((λ q. record { wave = ap is_finite_of (s.0 q) ∙ h.wave }), (λ q. record { wave = ap is_finite_of (s.1 q) ∙ h.wave }))
+    let s : Step = take_step_of S a in
+    let made : EachMade (Same a) s = same_wave S a in
+    let kept : (c : ActiveRay) → Same a c → Admitted c = λ c q. record { wave = ap is_finite_of q ∙ h.wave } in
+    (IfSome_then s.reflected made.0 kept, IfSome_then s.transmitted made.1 kept)

@@ -1,4 +1,5 @@
 -- Weak counts the rays that the threshold left unmade, at clear surfaces and mirrors. Assumes nothing.
+use Rattle.std.specs.Prelude.{is_some}
 use Prim.Native.Nat.{ℕ, ◌≤◌, ◌+◌}
 use mathlib.Core.Path.{◌≡◌, refl, sym, ap, subst, ◌∙◌}
 use mathlib.Core.Logic.{inl, inr}
@@ -10,12 +11,14 @@ use Rattle.rays.specs.declared.Ray.{Ray}
 use Rattle.media.specs.declared.Media.{Media}
 use Rattle.material.specs.declared.SurfaceFinish.TheVariants.{Specular, Mirror}
 use Rattle.scene.specs.declared.NonSeqHit.{NonSeqHit}
-use Rattle.surface.specs.Fresnel.{FresnelInteraction, total, split, compute_snell_fresnel_interaction_of}
+use Rattle.surface.specs.Fresnel.{compute_snell_fresnel_interaction_of}
+use Rattle.surface.specs.declared.FresnelInteraction.{FresnelInteraction}
+use Rattle.surface.specs.declared.FresnelInteraction.TheVariants.{Total, Split}
 use Rattle.detector.specs.declared.DetectorHit.{DetectorHit}
 use Rattle.memory.specs.Memory.{Outcome}
 use Rattle.step.specs.declared.ActiveRay.{ActiveRay}
 use Rattle.step.specs.Rays.{Optics, Scene, Step, End, dim, spent, gone, caught, met, refusing}
-use Rattle.step.specs.Steps.{parted_by, mirror_from_of, surface_of, take_step_of}
+use Rattle.step.specs.Steps.{made_if, parted_by, mirror_from_of, surface_of, take_step_of}
 use Rattle.step.proofs.Ways.{index_here, index_beyond, at_mirror, met_mirror, Refuses, by-finish}
 use Rattle.report.specs.declared.tallies.Tallies.{Tallies}
 use Rattle.report.specs.declared.NonSeqTraceReport.{NonSeqTraceReport}
@@ -45,22 +48,22 @@ unmade (met m) f s = cond (is_weak m f) 1 0 + cond (is_faint m s) 1 0
 unmade (refusing n) f s = 0
 
 abbrev Leaves : Step → ℕ → Type 0
-Leaves s n = unmade s.end s.«first» s.second ≡ n
+Leaves s n = unmade s.end (is_some s.reflected) (is_some s.transmitted) ≡ n
 
 parted_leaves : (O : Optics) (a : ActiveRay) (m : Media) (p : FresnelInteraction) → Leaves (parted_by O.config.min_power_threshold a m p) (weak_parted O (value p))
 unfolding parted_by weak_parted weak_one faint_of
-parted_leaves O a m (total r) = go (lt O.config.min_power_threshold r.energy)
+parted_leaves O a m (Total r) = go (lt O.config.min_power_threshold r.energy) _
   where
-    go : (f : Bool) → cond (cond f false true) 1 0 + 0 ≡ cond f 0 1
-    go true = refl
-    go false = refl
-parted_leaves O a m (split r t) = go (lt O.config.min_power_threshold r.energy) (lt O.config.min_power_threshold t.energy)
+    go : (f : Bool) (x : ActiveRay) → cond (cond (is_some (made_if f x)) false true) 1 0 + 0 ≡ cond f 0 1
+    go true x = refl
+    go false x = refl
+parted_leaves O a m (Split r t) = go (lt O.config.min_power_threshold r.energy) (lt O.config.min_power_threshold t.energy) _ _
   where
-    go : (f s : Bool) → cond (cond f false true) 1 0 + cond (cond s false true) 1 0 ≡ cond f 0 1 + cond s 0 1
-    go true true = refl
-    go true false = refl
-    go false true = refl
-    go false false = refl
+    go : (f s : Bool) (x y : ActiveRay) → cond (cond (is_some (made_if f x)) false true) 1 0 + cond (cond (is_some (made_if s y)) false true) 1 0 ≡ cond f 0 1 + cond s 0 1
+    go true true x y = refl
+    go true false x y = refl
+    go false true x y = refl
+    go false false x y = refl
 
 made_leaves : (a : ActiveRay) (rho : Float) (r : Ray) → Leaves (mirror_from_of a (met_mirror a rho) (value r)) 0
 unfolding mirror_from_of
@@ -131,7 +134,7 @@ counted_weak : (r : NonSeqTraceReport) → (counted_of r).tallies.weak ≡ r.tal
 unfolding counted_of
 counted_weak r = refl
 
-after_weak : (r : NonSeqTraceReport) (power : Float) (s : Step) → (report_after_of r power s).tallies.weak ≡ (tallies_after_of r.tallies s.end s.«first» s.second).weak
+after_weak : (r : NonSeqTraceReport) (power : Float) (s : Step) → (report_after_of r power s).tallies.weak ≡ (tallies_after_of r.tallies s.end (is_some s.reflected) (is_some s.transmitted)).weak
 unfolding report_after_of
 after_weak r power s = refl
 
@@ -154,13 +157,13 @@ module _ {M : Type 0} (put : M → DetectorHit → Outcome M) (S : Scene) (given
     next-weak m p l k =
         let t : Tallies = p.report.tallies in
         let pos : 1 ≤ sum_left (heft S.optics.config.max_bounces) given p = weight_pos put S given p k.full l in
-        let a : weak (after put S given weak p) ≡ (tallies_after_of t (step p).end (step p).«first» (step p).second).weak = after_weak p.report _ (step p) in
+        let a : weak (after put S given weak p) ≡ (tallies_after_of t (step p).end (is_some (step p).reflected) (is_some (step p).transmitted)).weak = after_weak p.report _ (step p) in
         next_amount put S given weak m p
         (λ h e.
         counted_weak p.report
-        ∙ sym (a ∙ ap (λ (w : End). (tallies_after_of t w (step p).«first» (step p).second).weak) e ∙ caught_weak t h (step p).«first» (step p).second))
+        ∙ sym (a ∙ ap (λ (w : End). (tallies_after_of t w (is_some (step p).reflected) (is_some (step p).transmitted)).weak) e ∙ caught_weak t h (is_some (step p).reflected) (is_some (step p).transmitted)))
         ∙ a
-        ∙ tallies_weak t (step p).end (step p).«first» (step p).second (omega (arith, k.small.tallies.weak))
+        ∙ tallies_weak t (step p).end (is_some (step p).reflected) (is_some (step p).transmitted) (omega (arith, k.small.tallies.weak))
         ∙ ap (λ (i : ℕ). t.weak + i) (step_leaves S (next_ray given p))
 
     -- after any steps, refused or not, weak counts what the threshold left unmade of the rays taken

@@ -7,7 +7,9 @@ use Rattle.error.specs.Refusals.{Answer, value, refusal}
 use Rattle.material.specs.declared.SurfaceFinish.{SurfaceFinish}
 use Rattle.material.specs.declared.SurfaceFinish.TheVariants.{Specular, Mirror, Absorber}
 use Rattle.scene.specs.declared.NonSeqHit.{NonSeqHit}
-use Rattle.surface.specs.Fresnel.{FresnelInteraction, total, split, compute_snell_fresnel_interaction_of, mirrored_power_of}
+use Rattle.surface.specs.Fresnel.{compute_snell_fresnel_interaction_of, mirrored_power_of}
+use Rattle.surface.specs.declared.FresnelInteraction.{FresnelInteraction}
+use Rattle.surface.specs.declared.FresnelInteraction.TheVariants.{Total, Split}
 use Rattle.detector.specs.declared.DetectorHit.{DetectorHit}
 use Rattle.memory.specs.Memory.{Outcome, done, refused}
 use Rattle.step.specs.declared.ActiveRay.{ActiveRay}
@@ -78,8 +80,8 @@ weak_one O power = cond (lt O.config.min_power_threshold power) 0 1
 
 -- of the rays of a clear surface; a radicand at most 0 has no second ray, and none is left of a step that is refused
 unfoldable pub weak_parted : Optics → Answer FresnelInteraction → ℕ
-weak_parted O (value (total r)) = weak_one O r.energy
-weak_parted O (value (split r t)) = weak_one O r.energy + weak_one O t.energy
+weak_parted O (value (Total r)) = weak_one O r.energy
+weak_parted O (value (Split r t)) = weak_one O r.energy + weak_one O t.energy
 weak_parted O (refusal n) = 0
 
 unfoldable pub weak_between : Optics → ActiveRay → NonSeqHit → Answer Float → Answer Float → ℕ

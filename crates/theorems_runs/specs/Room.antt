@@ -1,5 +1,5 @@
 -- What holds of every ray of a run, and what a step needs so that no guard of the definitions acts.
-use Rattle.std.specs.Prelude.{ℕ, ◌+◌, ◌≤◌, ◌<◌, ◌≡◌, true, length}
+use Rattle.std.specs.Prelude.{ℕ, ◌+◌, ◌≤◌, ◌<◌, ◌≡◌, true, length, IfSome}
 use Rattle.doubles.specs.Doubles.{is_finite_of}
 use Rattle.step.specs.declared.ActiveRay.{ActiveRay}
 use Rattle.step.specs.Rays.{Scene, Step}
@@ -20,7 +20,7 @@ EachGiven P given n = (i : ℕ) → i < n → P (given i)
 
 -- of the rays that a step makes
 abbrev pub EachMade : (ActiveRay → Type 0) → Step → Type 0
-EachMade P e = (e.«first» ≡ true → P e.reflected) × (e.second ≡ true → P e.transmitted)
+EachMade P e = IfSome e.reflected P × IfSome e.transmitted P
 
 -- of a ray of which P holds, a step in S makes only such rays
 abbrev pub Keeps : (ActiveRay → Type 0) → Scene → Type 0
@@ -48,7 +48,7 @@ next_ray given p = (taken_from given p.stack p.left).ray
 
 -- the stack after a step, without a guard
 abbrev pub plain_after : Stack → Step → Stack
-plain_after s e = pushed_if e.second (pushed_if e.«first» (popped s) e.reflected) e.transmitted
+plain_after s e = pushed_if (pushed_if (popped s) e.reflected) e.transmitted
 
 -- a ray that goes on has room for one medium more and for one more of every count
 pub record Going (a : ActiveRay) : Type 0 where

@@ -1,5 +1,5 @@
 -- Sums over the rays that are still to be traced, and what holds of every stack of a run.
-use Rattle.std.specs.Prelude.{ℕ, zero, suc, ◌+◌, ◌-◌, ◌^◌, ◌≤◌, ◌<◌, List, ◌≡◌, Bool, true, false, cond, length, get_or}
+use Rattle.std.specs.Prelude.{ℕ, zero, suc, ◌+◌, ◌-◌, ◌^◌, ◌≤◌, ◌<◌, List, ◌≡◌, Bool, true, false, length, get_or, Option, None, Some}
 use Rattle.step.specs.declared.ActiveRay.{ActiveRay}
 use Rattle.step.specs.Rays.{Step, End, dim, spent, gone, caught, met, refusing}
 use Rattle.report.specs.declared.tallies.Tallies.{Tallies}
@@ -24,9 +24,14 @@ sum_stack f s = sum_first f s.rays s.len
 unfoldable pub sum_left : (ActiveRay → ℕ) → (ℕ → ActiveRay) → Progress → ℕ
 sum_left f given p = sum_stack f p.stack + sum_given f given p.left
 
+-- f of a ray, if there is one
+abbrev pub sum_some : (ActiveRay → ℕ) → Option ActiveRay → ℕ
+sum_some f (Some a) = f a
+sum_some f None = 0
+
 -- over the rays that a step makes
 unfoldable pub sum_made : (ActiveRay → ℕ) → Step → ℕ
-sum_made f s = cond s.«first» (f s.reflected) 0 + cond s.second (f s.transmitted) 0
+sum_made f s = sum_some f s.reflected + sum_some f s.transmitted
 
 -- the most steps that a ray can lead to, itself counted, with at most b bounces
 unfoldable pub heft : ℕ → ActiveRay → ℕ
