@@ -1,6 +1,5 @@
 -- A hit in plain numbers, and a ray from six.
-use Rattle.std.specs.Prelude.{cond, Float}
-use Rattle.std.proofs.Math.Option.{Option, none, some}
+use Rattle.std.specs.Prelude.{cond, Float, Option, None, Some}
 use Rattle.std.specs.Float.{binary64}
 use Rattle.std.specs.Float.Ieee.{of_bits}
 use Rattle.rays.specs.declared.Ray.{Ray}
@@ -56,5 +55,5 @@ missed_of =
     }
 
 unfoldable pub bench_hit_of : Option NonSeqHit → BenchHit
-bench_hit_of (some h) = met_of h
-bench_hit_of none = missed_of
+bench_hit_of (Some h) = met_of h
+bench_hit_of None = missed_of

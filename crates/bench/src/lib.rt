@@ -1,17 +1,16 @@
 // Loops for the drivers in bench/, exported to Rust.
 #![tactic(auto)]
 
-ghost use Rattle.std.specs.Prelude.{◌≡◌, cond};
+ghost use Rattle.std.specs.Prelude.{◌≡◌};
 ghost use Rattle.std.specs.Float.Ieee.{of_bits};
 ghost use Rattle.std.specs.Float.{binary64};
-ghost use Rattle.scene.specs.Objects.{as_hit};
 ghost use Rattle.scene.specs.Solids.{object_at_of};
 ghost use Rattle.scene.specs.Closest.{closest_object_of};
 ghost use Rattle.bench.specs.Loops.{bench_root_sum_of, bench_root_chain_of};
 ghost use Rattle.bench.specs.Hits.{bench_ray, met_of, missed_of, bench_hit_of};
 
 use rays::{Ray, Vec3};
-use scene::{Intersection, NonSeqHit};
+use scene::{NonSeqHit, Solids};
 
 // A hit in plain numbers; all zero but for `met` where there is none.
 #[repr(C)]
@@ -37,10 +36,8 @@ pub fn bench_root_sum(xs: &[f64]) -> f64
     ensures { result ≡ bench_root_sum_of (of_bits binary64 0) xs.now }
 {
     let mut t = 0.0;
-    let mut i: usize = 0;
-    while i < xs.len() {
-        t = t + doubles::sqrt(xs[i]);
-        i += 1;
+    for x in xs {
+        t += doubles::sqrt(*x);
     }
     t
 }
@@ -50,23 +47,13 @@ pub fn bench_root_chain(xs: &[f64]) -> f64
     ensures { result ≡ bench_root_chain_of (of_bits binary64 0) xs.now }
 {
     let mut t = 0.0;
-    let mut i: usize = 0;
-    while i < xs.len() {
-        t = doubles::sqrt(xs[i] + t);
-        i += 1;
+    for x in xs {
+        t = doubles::sqrt(*x + t);
     }
     t
 }
 
-fn flag(b: bool) -> u32
-    ensures { result ≡ cond b 1 0 }
-{
-    if b {
-        return 1;
-    }
-    0
-}
-
+#[tactic(auto, unfolding(crate::specs::Hits::met_of))]
 fn met(h: NonSeqHit) -> BenchHit
     ensures { result ≡ met_of h }
 {
@@ -77,7 +64,7 @@ fn met(h: NonSeqHit) -> BenchHit
     BenchHit {
         met: 1,
         solid: id.0,
-        entering: flag(h.entering),
+        entering: h.entering as u32,
         t: h.t,
         x: p.x,
         y: p.y,
@@ -91,6 +78,7 @@ fn met(h: NonSeqHit) -> BenchHit
     }
 }
 
+#[tactic(auto, unfolding(crate::specs::Hits::missed_of))]
 fn missed() -> BenchHit
     ensures { result ≡ missed_of }
 {
@@ -111,16 +99,18 @@ fn missed() -> BenchHit
     }
 }
 
-fn bench_hit(h: Intersection) -> BenchHit
-    ensures { result ≡ bench_hit_of (as_hit h) }
+#[tactic(auto, unfolding(crate::specs::Hits::bench_hit_of))]
+fn bench_hit(h: Option<NonSeqHit>) -> BenchHit
+    ensures { result ≡ bench_hit_of h }
 {
     match h {
-        Intersection::Hit(m) => met(m),
-        Intersection::Miss => missed(),
+        Some(m) => met(m),
+        None => missed(),
     }
 }
 
 // The nearest solid along the ray from (ox, oy, oz) along (dx, dy, dz).
+#[tactic(auto, unfolding(crate::specs::Hits::bench_ray, crate::specs::Hits::bench_hit_of))]
 pub fn bench_closest(
     solid_values: &[f64],
     solid_tags: &[u32],
@@ -148,5 +138,10 @@ pub fn bench_closest(
         wavelength_nm: 550.0,
         energy: 1.0,
     };
-    bench_hit(scene::closest_object(solid_values, solid_tags, count, ray))
+    let solids = Solids {
+        values: solid_values,
+        tags: solid_tags,
+        count,
+    };
+    bench_hit(solids.closest_object(ray))
 }

@@ -5,8 +5,8 @@ use host_detectors::HostFiltered;
 use host_tracing::HostConfig;
 use report::NonSeqTraceReport;
 use scene::{SOLID_DOUBLES, SOLID_WHOLES};
-use test_words::words::Ran;
-use test_words::{digest, files, lists, world};
+use test_words::words::{Fault, Ran, done_if};
+use test_words::{digest, lists, world};
 
 fn used(numbers: &[u64]) -> usize {
     lists::number_at(numbers, world::USED) as usize
@@ -25,7 +25,7 @@ fn given_hit(numbers: &[u64]) -> DetectorHit {
     }
 }
 
-fn record(
+pub fn record(
     values: &[f64],
     tags: &[u32],
     flux: &mut [f64],
@@ -47,15 +47,15 @@ fn record(
     world::put_records(numbers, after, r.used);
     world::tell_refusal(numbers, r.refusal, r.place);
     world::tell(numbers, 2, r.used as u64);
-    Ran::Done
+    Ok(())
 }
 
 fn tell_filtered(numbers: &mut [u64], r: HostFiltered, work: &[f64]) -> Ran {
     world::tell_refusal(numbers, r.refusal, r.place);
     world::tell_double(numbers, 2, r.total_flux_watts);
     world::tell(numbers, 3, r.hit_count as u64);
-    world::tell(numbers, 4, digest::with_doubles(digest::START, work));
-    Ran::Done
+    world::tell(numbers, 4, digest::with_list(digest::START, work));
+    Ok(())
 }
 
 fn refiltered(
@@ -85,7 +85,7 @@ pub fn refilter(
 ) -> Ran {
     let mut work = [0.0f64; world::LENT_ROOM];
     let n = world::given(numbers, 2);
-    lists::fill_doubles(&mut work, 0.5);
+    lists::count_from(&mut work, 0.5);
     if n <= world::LENT_ROOM {
         return refiltered(
             values,
@@ -97,20 +97,20 @@ pub fn refilter(
             numbers,
         );
     }
-    Ran::Past
+    Err(Fault::Past)
 }
 
 fn config(values: &[f64], tags: &[u32]) -> HostConfig {
     HostConfig {
-        min_power_threshold: lists::double_at(values, world::RUN_VALUES),
-        max_bounces: lists::whole_at(tags, world::RUN_TAGS),
-        ambient: lists::whole_at(tags, world::RUN_TAGS + 2),
-        a: lists::double_at(values, world::RUN_VALUES + 1),
-        b: lists::double_at(values, world::RUN_VALUES + 2),
-        c: lists::double_at(values, world::RUN_VALUES + 3),
-        d: lists::double_at(values, world::RUN_VALUES + 4),
-        e: lists::double_at(values, world::RUN_VALUES + 5),
-        f: lists::double_at(values, world::RUN_VALUES + 6),
+        min_power_threshold: lists::number_at(values, world::RUN_VALUES),
+        max_bounces: lists::number_at(tags, world::RUN_TAGS),
+        ambient: lists::number_at(tags, world::RUN_TAGS + 2),
+        a: lists::number_at(values, world::RUN_VALUES + 1),
+        b: lists::number_at(values, world::RUN_VALUES + 2),
+        c: lists::number_at(values, world::RUN_VALUES + 3),
+        d: lists::number_at(values, world::RUN_VALUES + 4),
+        e: lists::number_at(values, world::RUN_VALUES + 5),
+        f: lists::number_at(values, world::RUN_VALUES + 6),
     }
 }
 
@@ -143,52 +143,39 @@ fn is_inside(solids: usize, rays: usize) -> bool {
 }
 
 // What `trace` sends: the solids that are said to be there, and N rays from ray FROM on.
-fn send(numbers: &mut [u64]) -> bool {
+fn send(numbers: &mut [u64]) -> Ran {
     let solids = lists::low_at(numbers, world::SOLIDS) as usize;
     let from = world::given_low(numbers, 0) as usize;
     let n = world::given_low(numbers, 1) as usize;
     if is_inside(solids, from + n) {
         let all = [
-            solids * SOLID_DOUBLES,
-            solids * SOLID_WHOLES,
-            n * RAY_DOUBLES,
-            n * RAY_WHOLES,
-            n,
-            from * RAY_DOUBLES,
-            from * RAY_WHOLES,
+            (solids * SOLID_DOUBLES) as u64,
+            (solids * SOLID_WHOLES) as u64,
+            (n * RAY_DOUBLES) as u64,
+            (n * RAY_WHOLES) as u64,
+            n as u64,
+            (from * RAY_DOUBLES) as u64,
+            (from * RAY_WHOLES) as u64,
         ];
-        return lists::put_sizes(numbers, world::GIVEN, &all);
+        lists::put_numbers(numbers, world::GIVEN, &all);
+        return Ok(());
     }
-    false
+    Err(Fault::Past)
 }
 
 // What `trace_lent` sends: so many places from the starts of the lists on, if they are there.
-fn send_lent(numbers: &mut [u64]) -> bool {
+fn send_lent(numbers: &mut [u64]) -> Ran {
     let solids = (world::given(numbers, 0) <= world::SOLID_ROOM * SOLID_DOUBLES)
         & (world::given(numbers, 1) <= world::SOLID_ROOM * SOLID_WHOLES);
     let rays = (world::given(numbers, 2) <= world::RAY_ROOM * RAY_DOUBLES)
         & (world::given(numbers, 3) <= world::RAY_ROOM * RAY_WHOLES);
     lists::clear_numbers(numbers, world::GIVEN + 5, 2);
-    solids & rays
+    done_if(solids & rays)
 }
 
-// The slices of solids and rays that are sent.
-fn solid_values<'a>(values: &'a [f64], numbers: &[u64]) -> &'a [f64] {
-    lists::doubles_from(values, world::SOLID_VALUES, world::given(numbers, 0))
-}
-
-fn solid_tags<'a>(tags: &'a [u32], numbers: &[u64]) -> &'a [u32] {
-    lists::wholes_from(tags, world::SOLID_TAGS, world::given(numbers, 1))
-}
-
-fn ray_values<'a>(values: &'a [f64], numbers: &[u64]) -> &'a [f64] {
-    let at = files::plus(world::RAY_VALUES, world::given(numbers, 5));
-    lists::doubles_from(values, at, world::given(numbers, 2))
-}
-
-fn ray_tags<'a>(tags: &'a [u32], numbers: &[u64]) -> &'a [u32] {
-    let at = files::plus(world::RAY_TAGS, world::given(numbers, 6));
-    lists::wholes_from(tags, at, world::given(numbers, 3))
+// Places of a list that are sent, from `start` on: as many as the line gives at place i.
+fn sent<'a, T>(list: &'a [T], start: usize, numbers: &[u64], i: usize) -> &'a [T] {
+    lists::part_from(list, start, world::given(numbers, i))
 }
 
 // A tracing of what is sent; it leaves records, number used and report.
@@ -201,13 +188,15 @@ fn traced(
     hit_tags: &mut [u32],
     numbers: &mut [u64],
 ) -> Ran {
+    let ray_values = world::RAY_VALUES.wrapping_add(world::given(numbers, 5));
+    let ray_tags = world::RAY_TAGS.wrapping_add(world::given(numbers, 6));
     let r = host_tracing::nonseq_trace_rays(
         config(values, tags),
-        solid_values(values, numbers),
-        solid_tags(tags, numbers),
+        sent(values, world::SOLID_VALUES, numbers, 0),
+        sent(tags, world::SOLID_TAGS, numbers, 1),
         lists::low_at(numbers, world::SOLIDS),
-        ray_values(values, numbers),
-        ray_tags(tags, numbers),
+        sent(values, ray_values, numbers, 2),
+        sent(tags, ray_tags, numbers, 3),
         world::given_low(numbers, 4),
         world::all_detectors(values, tags, numbers),
         flux,
@@ -222,12 +211,10 @@ fn traced(
     world::tell_refusal(numbers, r.refusal, r.place);
     world::tell(numbers, 2, r.used as u64);
     put_report(numbers, report);
-    Ran::Done
+    Ok(())
 }
 
-// The calls that write the memory: 16 `trace`, 17 `trace_lent`, 18 `record`.
-pub fn call_memory(
-    verb: usize,
+pub fn trace(
     values: &[f64],
     tags: &[u32],
     flux: &mut [f64],
@@ -236,19 +223,19 @@ pub fn call_memory(
     hit_tags: &mut [u32],
     numbers: &mut [u64],
 ) -> Ran {
-    if is_sent(verb, numbers) {
-        return traced(values, tags, flux, hits, hit_values, hit_tags, numbers);
-    }
-    if verb == 18 {
-        return record(values, tags, flux, hits, hit_values, hit_tags, numbers);
-    }
-    Ran::Past
+    send(numbers)?;
+    traced(values, tags, flux, hits, hit_values, hit_tags, numbers)
 }
 
-fn is_sent(verb: usize, numbers: &mut [u64]) -> bool {
-    match verb {
-        16 => send(numbers),
-        17 => send_lent(numbers),
-        _ => false,
-    }
+pub fn trace_lent(
+    values: &[f64],
+    tags: &[u32],
+    flux: &mut [f64],
+    hits: &mut [u32],
+    hit_values: &mut [f64],
+    hit_tags: &mut [u32],
+    numbers: &mut [u64],
+) -> Ran {
+    send_lent(numbers)?;
+    traced(values, tags, flux, hits, hit_values, hit_tags, numbers)
 }

@@ -1,5 +1,5 @@
 // Lines that set up what the calls after them work on.
-use test_words::words::{Ran, done_if};
+use test_words::words::{Fault, Ran, done_if};
 use test_words::{files, lists, words, world};
 
 // The next N bytes are the scene text, and a newline follows them.
@@ -12,7 +12,7 @@ pub fn text(all: &[u8], text: &mut [u8], numbers: &mut [u64]) -> Ran {
         printing::put_all(text, 0, files::front(behind, n));
         return done_if(n <= world::TEXT_ROOM);
     }
-    Ran::Missing
+    Err(Fault::Missing)
 }
 
 // The scene text is a file of that name; `text` has a byte more than the room.
@@ -22,7 +22,7 @@ pub fn file(rt: &HostRuntime, all: &[u8], text: &mut [u8], numbers: &mut [u64]) 
     if 0 < n {
         return done_if(n <= world::TEXT_ROOM);
     }
-    Ran::Missing
+    Err(Fault::Missing)
 }
 
 pub fn byte(text: &mut [u8], numbers: &[u64]) -> Ran {
@@ -30,24 +30,24 @@ pub fn byte(text: &mut [u8], numbers: &[u64]) -> Ran {
     let b = (world::given_low(numbers, 1) % 256) as u8;
     let inside = i < lists::number_at(numbers, world::TEXT) as usize;
     if inside & (world::given(numbers, 1) < 256) {
-        return done_if(lists::put_byte(text, i, b));
+        return done_if(lists::put_number(text, i, b));
     }
-    Ran::Past
+    Err(Fault::Past)
 }
 
 pub fn cut(numbers: &mut [u64]) -> Ran {
     let n = world::given(numbers, 0) as u64;
     if n <= lists::number_at(numbers, world::TEXT) {
         lists::put_number(numbers, world::TEXT, n);
-        return Ran::Done;
+        return Ok(());
     }
-    Ran::Past
+    Err(Fault::Past)
 }
 
 // A number that the script says.
 pub fn number(numbers: &mut [u64], i: usize) -> Ran {
     lists::put_number(numbers, i, world::given(numbers, 0) as u64);
-    Ran::Done
+    Ok(())
 }
 
 // Whether the room has so many places of each.
@@ -74,58 +74,40 @@ fn put_lengths(numbers: &mut [u64]) -> Ran {
             world::HIT_TAGS_LENT,
             world::given(numbers, 3) as u64,
         );
-        return Ran::Done;
+        return Ok(());
     }
-    Ran::Past
+    Err(Fault::Past)
 }
 
 // The pattern goes to all places, also to those that are not lent.
-fn lend(
+pub fn lend(
     flux: &mut [f64],
     hits: &mut [u32],
     hit_values: &mut [f64],
     hit_tags: &mut [u32],
     numbers: &mut [u64],
 ) -> Ran {
-    lists::fill_doubles(flux, 0.25);
-    lists::fill_wholes(hits, 1);
-    lists::fill_doubles(hit_values, 1000.5);
-    lists::fill_wholes(hit_tags, 5000);
+    lists::count_from(flux, 0.25);
+    lists::count_from(hits, 1);
+    lists::count_from(hit_values, 1000.5);
+    lists::count_from(hit_tags, 5000);
     put_lengths(numbers)
 }
 
-fn empty(flux: &mut [f64], hits: &mut [u32], numbers: &mut [u64]) -> Ran {
-    lists::clear_doubles(flux);
-    lists::clear_wholes(hits);
+pub fn empty(flux: &mut [f64], hits: &mut [u32], numbers: &mut [u64]) -> Ran {
+    flux.fill(0.0);
+    hits.fill(0);
     lists::clear_numbers(numbers, world::TOTALS, 16);
     lists::put_number(numbers, world::USED, 0);
-    Ran::Done
+    Ok(())
 }
 
-// A double into place i of n from `first` on.
-fn set_double(list: &mut [f64], first: usize, n: usize, numbers: &[u64]) -> Ran {
-    let i = world::given(numbers, 1);
+// A number into place i of n from `first` on.
+fn set_number<T: Copy>(list: &mut [T], first: usize, n: usize, i: usize, x: T) -> Ran {
     if i < n {
-        return done_if(lists::put_double(
-            list,
-            files::plus(first, i),
-            world::given_double(numbers, 2),
-        ));
+        return done_if(lists::put_number(list, first.wrapping_add(i), x));
     }
-    Ran::Past
-}
-
-fn set_whole(list: &mut [u32], first: usize, n: usize, numbers: &[u64]) -> Ran {
-    let i = world::given(numbers, 1);
-    if i < n {
-        return done_if(lists::put_whole(list, files::plus(first, i), world::given_low(numbers, 2)));
-    }
-    Ran::Past
-}
-
-// Whether the list of that number is one of the eight.
-pub fn is_read(k: usize) -> bool {
-    (k < 4) | ((7 <= k) & (k < 11))
+    Err(Fault::Past)
 }
 
 // A place of the eight lists: of doubles, of whole numbers.
@@ -133,12 +115,13 @@ fn set_value(values: &mut [f64], numbers: &[u64]) -> Ran {
     let solids = world::DETECTOR_VALUES - world::SOLID_VALUES;
     let detectors = world::RAY_VALUES - world::DETECTOR_VALUES;
     let rays = world::DOUBLES - world::RAY_VALUES;
-    let k = world::given(numbers, 0);
-    match k {
-        0 => set_double(values, world::RUN_VALUES, world::SOLID_VALUES, numbers),
-        1 => set_double(values, world::SOLID_VALUES, solids, numbers),
-        2 => set_double(values, world::DETECTOR_VALUES, detectors, numbers),
-        _ => set_double(values, world::RAY_VALUES, rays, numbers),
+    let i = world::given(numbers, 1);
+    let x = world::given_double(numbers, 2);
+    match world::given(numbers, 0) {
+        0 => set_number(values, world::RUN_VALUES, world::SOLID_VALUES, i, x),
+        1 => set_number(values, world::SOLID_VALUES, solids, i, x),
+        2 => set_number(values, world::DETECTOR_VALUES, detectors, i, x),
+        _ => set_number(values, world::RAY_VALUES, rays, i, x),
     }
 }
 
@@ -146,34 +129,21 @@ fn set_tag(tags: &mut [u32], numbers: &[u64]) -> Ran {
     let solids = world::DETECTOR_TAGS - world::SOLID_TAGS;
     let detectors = world::RAY_TAGS - world::DETECTOR_TAGS;
     let rays = world::WHOLES - world::RAY_TAGS;
-    let k = world::given(numbers, 0);
-    match k {
-        7 => set_whole(tags, world::RUN_TAGS, world::SOLID_TAGS, numbers),
-        8 => set_whole(tags, world::SOLID_TAGS, solids, numbers),
-        9 => set_whole(tags, world::DETECTOR_TAGS, detectors, numbers),
-        _ => set_whole(tags, world::RAY_TAGS, rays, numbers),
+    let i = world::given(numbers, 1);
+    let n = world::given_low(numbers, 2);
+    match world::given(numbers, 0) {
+        7 => set_number(tags, world::RUN_TAGS, world::SOLID_TAGS, i, n),
+        8 => set_number(tags, world::SOLID_TAGS, solids, i, n),
+        9 => set_number(tags, world::DETECTOR_TAGS, detectors, i, n),
+        _ => set_number(tags, world::RAY_TAGS, rays, i, n),
     }
-}
-
-pub fn set_read(values: &mut [f64], tags: &mut [u32], numbers: &[u64]) -> Ran {
-    if world::given(numbers, 0) < 7 {
-        return set_value(values, numbers);
-    }
-    set_tag(tags, numbers)
 }
 
 // A total or a count of the eight detectors.
 fn set_record(first: usize, numbers: &mut [u64]) -> Ran {
     let i = world::given(numbers, 1);
-    if i < 8 {
-        lists::put_number(
-            numbers,
-            files::plus(first, i),
-            world::given(numbers, 2) as u64,
-        );
-        return Ran::Done;
-    }
-    Ran::Past
+    let n = world::given(numbers, 2) as u64;
+    set_number(numbers, first, 8, i, n)
 }
 
 // How many places of a lent slice there are.
@@ -181,42 +151,27 @@ fn lent(numbers: &[u64], i: usize) -> usize {
     lists::number_at(numbers, i) as usize
 }
 
-// A place of what is lent, or of the records.
-fn set_lent(
+// A place of a list by its number: one that is read, one that is lent, or the records.
+pub fn set(
+    values: &mut [f64],
+    tags: &mut [u32],
     flux: &mut [f64],
     hits: &mut [u32],
     hit_values: &mut [f64],
     hit_tags: &mut [u32],
     numbers: &mut [u64],
 ) -> Ran {
-    let k = world::given(numbers, 0);
-    match k {
+    let i = world::given(numbers, 1);
+    let x = world::given_double(numbers, 2);
+    let n = world::given_low(numbers, 2);
+    match world::given(numbers, 0) {
+        0..=3 => set_value(values, numbers),
         4 => set_record(world::TOTALS, numbers),
-        5 => set_double(flux, 0, lent(numbers, world::FLUX_LENT), numbers),
-        6 => set_double(
-            hit_values,
-            0,
-            lent(numbers, world::HIT_VALUES_LENT),
-            numbers,
-        ),
+        5 => set_number(flux, 0, lent(numbers, world::FLUX_LENT), i, x),
+        6 => set_number(hit_values, 0, lent(numbers, world::HIT_VALUES_LENT), i, x),
+        7..=10 => set_tag(tags, numbers),
         11 => set_record(world::COUNTS, numbers),
-        12 => set_whole(hits, 0, lent(numbers, world::HITS_LENT), numbers),
-        _ => set_whole(hit_tags, 0, lent(numbers, world::HIT_TAGS_LENT), numbers),
-    }
-}
-
-// The lines that set up the memory: 13 `lend`, 14 `empty`, 15 `set`.
-pub fn set_up_memory(
-    verb: usize,
-    flux: &mut [f64],
-    hits: &mut [u32],
-    hit_values: &mut [f64],
-    hit_tags: &mut [u32],
-    numbers: &mut [u64],
-) -> Ran {
-    match verb {
-        13 => lend(flux, hits, hit_values, hit_tags, numbers),
-        14 => empty(flux, hits, numbers),
-        _ => set_lent(flux, hits, hit_values, hit_tags, numbers),
+        12 => set_number(hits, 0, lent(numbers, world::HITS_LENT), i, n),
+        _ => set_number(hit_tags, 0, lent(numbers, world::HIT_TAGS_LENT), i, n),
     }
 }

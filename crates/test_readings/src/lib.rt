@@ -6,24 +6,24 @@ use host_detectors::{HostCrossing, HostPart};
 use host_numbers::{HostChecked, HostReading};
 use memory::{HIT_DOUBLES, HIT_WHOLES};
 use rays::{Ray, Vec3};
-use test_words::words::{Ran, done_if};
+use test_words::words::{Fault, Ran, done_if};
 use test_words::{digest, lists, world};
 
 fn tell_check(numbers: &mut [u64], r: HostChecked) -> Ran {
     world::tell_refusal(numbers, r.refusal, r.place);
-    Ran::Done
+    Ok(())
 }
 
 fn tell_reading(numbers: &mut [u64], r: HostReading) -> Ran {
     world::tell_refusal(numbers, r.refusal, r.place);
     world::tell_double(numbers, 2, r.value);
-    Ran::Done
+    Ok(())
 }
 
 fn tell_vector(numbers: &mut [u64], i: usize, v: Vec3) {
     world::tell_double(numbers, i, v.x);
-    world::tell_double(numbers, std::num::wrapping_add_usize(i, 1), v.y);
-    world::tell_double(numbers, std::num::wrapping_add_usize(i, 2), v.z);
+    world::tell_double(numbers, i.wrapping_add(1), v.y);
+    world::tell_double(numbers, i.wrapping_add(2), v.z);
 }
 
 fn tell_sizes(numbers: &mut [u64], d: Detector2D) {
@@ -55,7 +55,7 @@ pub fn new(numbers: &mut [u64]) -> Ran {
     let d = r.detector;
     world::tell_refusal(numbers, r.refusal, r.place);
     tell_detector(numbers, d);
-    Ran::Done
+    Ok(())
 }
 
 fn tell_crossing(numbers: &mut [u64], r: HostCrossing) -> Ran {
@@ -64,7 +64,7 @@ fn tell_crossing(numbers: &mut [u64], r: HostCrossing) -> Ran {
     world::tell_double(numbers, 3, r.t);
     world::tell_double(numbers, 4, r.local_x);
     world::tell_double(numbers, 5, r.local_y);
-    Ran::Done
+    Ok(())
 }
 
 fn given_ray(numbers: &[u64]) -> Ray {
@@ -76,33 +76,30 @@ fn given_ray(numbers: &[u64]) -> Ray {
     }
 }
 
-// Calls on one of the eight detectors.
-pub fn check(values: &[f64], tags: &[u32], numbers: &mut [u64]) -> Ran {
+// One of the eight detectors, which the line gives first.
+fn given_detector(values: &[f64], tags: &[u32], numbers: &[u64]) -> Result<Detector2D, Fault> {
     let k = world::given(numbers, 0);
     if k < 8 {
-        let d = world::detector(values, tags, numbers, k);
-        return tell_check(numbers, host_detectors::nonseq_check_detector(d));
+        return Ok(world::detector(values, tags, numbers, k));
     }
-    Ran::Past
+    Err(Fault::Past)
+}
+
+// Calls on it.
+pub fn check(values: &[f64], tags: &[u32], numbers: &mut [u64]) -> Ran {
+    let d = given_detector(values, tags, numbers)?;
+    tell_check(numbers, host_detectors::nonseq_check_detector(d))
 }
 
 pub fn cross(values: &[f64], tags: &[u32], numbers: &mut [u64]) -> Ran {
-    let k = world::given(numbers, 0);
-    if k < 8 {
-        let d = world::detector(values, tags, numbers, k);
-        let ray = given_ray(numbers);
-        return tell_crossing(numbers, host_detectors::nonseq_intersect_ray(d, ray));
-    }
-    Ran::Past
+    let d = given_detector(values, tags, numbers)?;
+    let ray = given_ray(numbers);
+    tell_crossing(numbers, host_detectors::nonseq_intersect_ray(d, ray))
 }
 
 pub fn area(values: &[f64], tags: &[u32], numbers: &mut [u64]) -> Ran {
-    let k = world::given(numbers, 0);
-    if k < 8 {
-        let d = world::detector(values, tags, numbers, k);
-        return tell_reading(numbers, host_detectors::nonseq_pixel_area_m2(d));
-    }
-    Ran::Past
+    let d = given_detector(values, tags, numbers)?;
+    tell_reading(numbers, host_detectors::nonseq_pixel_area_m2(d))
 }
 
 // Calls on all that are said to be there.
@@ -115,7 +112,7 @@ fn tell_part(numbers: &mut [u64], r: HostPart) -> Ran {
     world::tell_refusal(numbers, r.refusal, r.place);
     world::tell(numbers, 2, r.first as u64);
     world::tell(numbers, 3, r.pixels as u64);
-    Ran::Done
+    Ok(())
 }
 
 pub fn part(values: &[f64], tags: &[u32], numbers: &mut [u64]) -> Ran {
@@ -137,8 +134,8 @@ pub fn irradiance(values: &[f64], tags: &[u32], flux: &[f64], numbers: &mut [u64
 
 pub fn pixel(flux: &[f64], hits: &[u32], numbers: &mut [u64]) -> Ran {
     let i = world::given(numbers, 0);
-    world::tell_double(numbers, 0, lists::double_at(flux, i));
-    world::tell(numbers, 1, lists::whole_at(hits, i) as u64);
+    world::tell_double(numbers, 0, lists::number_at(flux, i));
+    world::tell(numbers, 1, lists::number_at(hits, i) as u64);
     done_if((i < flux.len()) & (i < hits.len()))
 }
 
@@ -147,36 +144,32 @@ pub fn caught(numbers: &mut [u64]) -> Ran {
     if k < 8 {
         world::tell(numbers, 0, lists::number_at(numbers, world::TOTALS + k));
         world::tell(numbers, 1, lists::number_at(numbers, world::COUNTS + k));
-        return Ran::Done;
+        return Ok(());
     }
-    Ran::Past
+    Err(Fault::Past)
 }
 
 // The four doubles of a hit, and its four whole numbers behind them.
 fn tell_hit(values: &[f64], tags: &[u32], numbers: &mut [u64]) {
-    let mut i: usize = 0;
-    while i < 4 {
-        world::tell_double(numbers, i, lists::double_at(values, i));
-        world::tell(numbers, i + 4, lists::whole_at(tags, i) as u64);
-        i += 1;
+    for i in 0..4 {
+        world::tell_double(numbers, i, lists::number_at(values, i));
+        world::tell(numbers, i + 4, u64::from(lists::number_at(tags, i)));
     }
 }
 
 pub fn hit(hit_values: &[f64], hit_tags: &[u32], numbers: &mut [u64]) -> Ran {
     let i = world::given_low(numbers, 0) as usize;
-    let x = lists::doubles_from(hit_values, HIT_DOUBLES * i, HIT_DOUBLES);
-    let n = lists::wholes_from(hit_tags, HIT_WHOLES * i, HIT_WHOLES);
+    let x = lists::part_from(hit_values, HIT_DOUBLES * i, HIT_DOUBLES);
+    let n = lists::part_from(hit_tags, HIT_WHOLES * i, HIT_WHOLES);
     tell_hit(x, n, numbers);
     done_if((x.len() == HIT_DOUBLES) & (n.len() == HIT_WHOLES))
 }
 
 fn records(numbers: &[u64]) -> u64 {
     let mut h = digest::START;
-    let mut k: usize = 0;
-    while k < 8 {
+    for k in 0..8 {
         h = digest::with(h, lists::number_at(numbers, world::TOTALS + k));
         h = digest::with(h, lists::number_at(numbers, world::COUNTS + k));
-        k += 1;
     }
     h
 }
@@ -188,14 +181,14 @@ pub fn memory(
     hit_tags: &[u32],
     numbers: &mut [u64],
 ) -> Ran {
-    let a = digest::with_doubles(records(numbers), flux);
-    let b = digest::with_wholes(a, hits);
-    let c = digest::with_doubles(b, hit_values);
-    let d = digest::with_wholes(c, hit_tags);
+    let a = digest::with_list(records(numbers), flux);
+    let b = digest::with_list(a, hits);
+    let c = digest::with_list(b, hit_values);
+    let d = digest::with_list(c, hit_tags);
     world::tell(
         numbers,
         0,
         digest::with(d, lists::number_at(numbers, world::USED)),
     );
-    Ran::Done
+    Ok(())
 }

@@ -1,5 +1,5 @@
 // Whether a line went as expected, and what is said where it did not.
-use test_words::words::Ran;
+use test_words::words::{Fault, Ran};
 use test_words::{files, lists, words, world};
 
 pub(crate) fn say(t: &[u8]) {
@@ -67,10 +67,10 @@ fn answered(name: &[u8], line: &[u8], kinds: &[u8], numbers: &mut [u64]) {
 
 pub(crate) fn judge(name: &[u8], line: &[u8], kinds: &[u8], ran: Ran, numbers: &mut [u64]) {
     match ran {
-        Ran::Unknown => fault(name, b"no such verb, or not here", numbers),
-        Ran::Malformed => fault(name, b"its words are not those of its verb", numbers),
-        Ran::Past => fault(name, b"a place or a length is past the room", numbers),
-        Ran::Missing => fault(name, b"a file or bytes of it are missing", numbers),
-        Ran::Done => answered(name, line, kinds, numbers),
+        Err(Fault::Unknown) => fault(name, b"no such verb, or not here", numbers),
+        Err(Fault::Malformed) => fault(name, b"its words are not those of its verb", numbers),
+        Err(Fault::Past) => fault(name, b"a place or a length is past the room", numbers),
+        Err(Fault::Missing) => fault(name, b"a file or bytes of it are missing", numbers),
+        Ok(()) => answered(name, line, kinds, numbers),
     }
 }

@@ -8,7 +8,8 @@ mod script;
 
 ghost use Rattle.std.specs.Prelude.{◌<◌};
 
-use test_words::words::Ran;
+use test_words::verbs::Verb;
+use test_words::words::Fault;
 use test_words::{files, lists, words, world};
 
 // A byte more than a file may have.
@@ -29,59 +30,39 @@ fn later(at: usize, next: usize) -> usize
 
 // Whether a line is empty or a remark.
 fn is_passed_over(line: &[u8]) -> bool {
-    if 0 < line.len() {
-        return line[0] == b'#';
-    }
-    true
+    line.is_empty() || line[0] == b'#'
 }
 
 // Whether a line of that verb may stand here: `script` outside of a script, all else inside.
-fn is_here(verb: usize, numbers: &[u64]) -> bool {
-    let inside = lists::number_at(numbers, world::INSIDE);
-    if verb == 0 {
-        return inside == 0;
-    }
-    (verb < script::VERBS) & (inside == 1)
+fn is_here(verb: Verb, numbers: &[u64]) -> bool {
+    let inside = lists::number_at(numbers, world::INSIDE) == 1;
+    inside != (verb == Verb::Script)
 }
 
-// The verb of the line where the file stands, if the line can be run: its words are read then. Else what is wrong is
-// told, and there is no such verb.
-fn read_line(name: &[u8], table: &[u8], all: &[u8], numbers: &mut [u64]) -> usize {
-    let line = words::line_in(all, numbers);
+// The verb of a line that can be run: its words are read then.
+fn read_line(table: &[u8], line: &[u8], numbers: &mut [u64]) -> Result<Verb, Fault> {
     let asked = words::asked(line);
-    let verb = words::found_in(table, words::word(asked, 0));
-    if is_passed_over(line) {
-        return script::VERBS;
+    let verb = words::verb_named(table, words::word(asked, 0)).ok_or(Fault::Unknown)?;
+    if !is_here(verb, numbers) {
+        return Err(Fault::Unknown);
     }
-    if is_here(verb, numbers) {
-        if words::read(asked, words::kinds_given(table, verb), numbers) {
-            return verb;
-        }
-        judge::judge(name, line, b"-", Ran::Malformed, numbers);
-        return script::VERBS;
+    if !words::read(asked, words::kinds_given(table, verb), numbers) {
+        return Err(Fault::Malformed);
     }
-    judge::judge(name, line, b"-", Ran::Unknown, numbers);
-    script::VERBS
+    Ok(verb)
 }
 
 // The line and what belongs to it are behind.
 fn go_on(all: &[u8], numbers: &mut [u64]) {
-    let from = files::plus(words::end_in(all, numbers), 1);
-    let to = files::plus(from, lists::number_at(numbers, world::BEHIND) as usize);
+    let from = words::end_in(all, numbers).wrapping_add(1);
+    let to = from.wrapping_add(lists::number_at(numbers, world::BEHIND) as usize);
     let lines = fields::count_parts(files::between(all, from, to), b'\n');
     lists::put_number(numbers, world::AT, to as u64);
     lists::raise(numbers, world::LINE, lines as u64);
     lists::put_number(numbers, world::BEHIND, 0);
 }
 
-// A line that was run: judged, and then behind.
-fn judge_line(name: &[u8], table: &[u8], all: &[u8], verb: usize, ran: Ran, numbers: &mut [u64]) {
-    let line = words::line_in(all, numbers);
-    judge::judge(name, line, words::kinds_told(table, verb), ran, numbers);
-    go_on(all, numbers);
-}
-
-// The line where the file stands.
+// The line where the file stands: run and judged.
 fn step(
     rt: &HostRuntime,
     name: &[u8],
@@ -97,14 +78,20 @@ fn step(
     numbers: &mut [u64],
     written: &mut [u8],
 ) {
-    let verb = read_line(name, table, all, numbers);
-    if verb < script::VERBS {
-        let ran = script::run(
-            rt, verb, all, text, values, tags, flux, hits, hit_values, hit_tags, numbers, written,
-        );
-        return judge_line(name, table, all, verb, ran, numbers);
+    let line = words::line_in(all, numbers);
+    if is_passed_over(line) {
+        return;
     }
-    go_on(all, numbers)
+    match read_line(table, line, numbers) {
+        Ok(verb) => {
+            let ran = script::run(
+                rt, verb, all, text, values, tags, flux, hits, hit_values, hit_tags, numbers,
+                written,
+            );
+            judge::judge(name, line, words::kinds_told(table, verb), ran, numbers);
+        }
+        Err(fault) => judge::judge(name, line, b"-", Err(fault), numbers),
+    }
 }
 
 // All lines of a file.
@@ -117,6 +104,7 @@ fn run_lines(rt: &HostRuntime, name: &[u8], table: &[u8], all: &[u8], numbers: &
     let mut hit_values = [0.0f64; world::LENT_ROOM];
     let mut hit_tags = [0u32; world::LENT_ROOM];
     let mut written = [0u8; world::WRITTEN_ROOM];
+    // A cursor and no index: a line says itself how much behind it belongs to it.
     let mut at: usize = 0;
     while at < all.len() {
         step(
@@ -134,6 +122,7 @@ fn run_lines(rt: &HostRuntime, name: &[u8], table: &[u8], all: &[u8], numbers: &
             numbers,
             &mut written,
         );
+        go_on(all, numbers);
         at = later(at, lists::number_at(numbers, world::AT) as usize);
     }
 }
@@ -217,18 +206,14 @@ fn run_indexed(rt: &HostRuntime, line: &[u8], table: &[u8], numbers: &mut [u64])
 }
 
 fn run_all(rt: &HostRuntime, index: &[u8], table: &[u8], numbers: &mut [u64]) {
-    let mut at: usize = 0;
-    while at < index.len() {
-        let end = fields::end_at(index, at, b'\n');
-        run_indexed(rt, files::between(index, at, end), table, numbers);
-        at = later(at, files::plus(end, 1));
+    for line in index.split_inclusive(|b| *b == b'\n') {
+        run_indexed(rt, line.strip_suffix(b"\n").unwrap_or(line), table, numbers);
     }
 }
 
 // Whether a text ends with a newline.
 fn is_ended(t: &[u8]) -> bool {
-    let last = std::num::wrapping_sub_usize(t.len(), 1);
-    fields::is_byte(files::between(t, last, t.len()), b'\n')
+    t.ends_with(b"\n")
 }
 
 // What is wrong with the index and the table of verbs.

@@ -5,7 +5,7 @@ use given_rays::{RAY_DOUBLES, RAY_ROOM_DOUBLES, RAY_ROOM_WHOLES, RAY_WHOLES};
 use host_texts::{HostScene, HostText};
 use report::{Ledger, NonSeqTraceReport, Tallies};
 use scene::{SOLID_DOUBLES, SOLID_WHOLES};
-use test_words::words::Ran;
+use test_words::words::{Fault, Ran};
 use test_words::{digest, files, lists, words, world};
 
 // The digest with one block's lists more, its doubles and its whole numbers.
@@ -18,8 +18,8 @@ fn with_lines(
     from: usize,
     wholes: usize,
 ) -> u64 {
-    let r = digest::with_doubles(h, lists::doubles_from(values, at, doubles));
-    digest::with_wholes(r, lists::wholes_from(tags, from, wholes))
+    let r = digest::with_list(h, lists::part_from(values, at, doubles));
+    digest::with_list(r, lists::part_from(tags, from, wholes))
 }
 
 // The digest of the run and of n solids.
@@ -33,7 +33,7 @@ fn with_solids(values: &[f64], tags: &[u32], n: usize) -> u64 {
         world::RUN_TAGS,
         world::SOLID_TAGS,
     );
-    let k = lists::at_most(n, world::SOLID_ROOM);
+    let k = n.min(world::SOLID_ROOM);
     with_lines(
         h,
         values,
@@ -47,8 +47,8 @@ fn with_solids(values: &[f64], tags: &[u32], n: usize) -> u64 {
 
 // The digest of what was read, each list as long as its lines ask.
 fn digest_of(values: &[f64], tags: &[u32], r: HostScene) -> u64 {
-    let d = lists::at_most(r.detectors as usize, 8);
-    let n = lists::at_most(r.rays as usize, world::RAY_ROOM);
+    let d = (r.detectors as usize).min(8);
+    let n = (r.rays as usize).min(world::RAY_ROOM);
     let h = with_lines(
         with_solids(values, tags, r.solids as usize),
         values,
@@ -69,57 +69,48 @@ fn digest_of(values: &[f64], tags: &[u32], r: HostScene) -> u64 {
     )
 }
 
-// The four lists of doubles, of whole numbers, out of where they belong and back.
-fn take_values(
-    values: &[f64],
-    run_values: &mut [f64],
-    solid_values: &mut [f64],
-    detector_values: &mut [f64],
-    ray_values: &mut [f64],
+// Where the four lists of doubles, of whole numbers, start.
+const VALUES: [usize; 4] = [
+    world::RUN_VALUES,
+    world::SOLID_VALUES,
+    world::DETECTOR_VALUES,
+    world::RAY_VALUES,
+];
+
+const TAGS: [usize; 4] = [
+    world::RUN_TAGS,
+    world::SOLID_TAGS,
+    world::DETECTOR_TAGS,
+    world::RAY_TAGS,
+];
+
+// Four lists out of where they belong and back.
+fn take_four<T: Copy + Default>(
+    all: &[T],
+    starts: [usize; 4],
+    run: &mut [T],
+    solids: &mut [T],
+    detectors: &mut [T],
+    rays: &mut [T],
 ) {
-    lists::take_doubles(run_values, values, world::RUN_VALUES);
-    lists::take_doubles(solid_values, values, world::SOLID_VALUES);
-    lists::take_doubles(detector_values, values, world::DETECTOR_VALUES);
-    lists::take_doubles(ray_values, values, world::RAY_VALUES);
+    lists::take_numbers(run, all, starts[0]);
+    lists::take_numbers(solids, all, starts[1]);
+    lists::take_numbers(detectors, all, starts[2]);
+    lists::take_numbers(rays, all, starts[3]);
 }
 
-fn take_tags(
-    tags: &[u32],
-    run_tags: &mut [u32],
-    solid_tags: &mut [u32],
-    detector_tags: &mut [u32],
-    ray_tags: &mut [u32],
+fn put_four<T: Copy>(
+    all: &mut [T],
+    starts: [usize; 4],
+    run: &[T],
+    solids: &[T],
+    detectors: &[T],
+    rays: &[T],
 ) {
-    lists::take_wholes(run_tags, tags, world::RUN_TAGS);
-    lists::take_wholes(solid_tags, tags, world::SOLID_TAGS);
-    lists::take_wholes(detector_tags, tags, world::DETECTOR_TAGS);
-    lists::take_wholes(ray_tags, tags, world::RAY_TAGS);
-}
-
-fn put_values(
-    values: &mut [f64],
-    run_values: &[f64],
-    solid_values: &[f64],
-    detector_values: &[f64],
-    ray_values: &[f64],
-) {
-    lists::put_doubles(values, world::RUN_VALUES, run_values);
-    lists::put_doubles(values, world::SOLID_VALUES, solid_values);
-    lists::put_doubles(values, world::DETECTOR_VALUES, detector_values);
-    lists::put_doubles(values, world::RAY_VALUES, ray_values);
-}
-
-fn put_tags(
-    tags: &mut [u32],
-    run_tags: &[u32],
-    solid_tags: &[u32],
-    detector_tags: &[u32],
-    ray_tags: &[u32],
-) {
-    lists::put_wholes(tags, world::RUN_TAGS, run_tags);
-    lists::put_wholes(tags, world::SOLID_TAGS, solid_tags);
-    lists::put_wholes(tags, world::DETECTOR_TAGS, detector_tags);
-    lists::put_wholes(tags, world::RAY_TAGS, ray_tags);
+    lists::put_numbers(all, starts[0], run);
+    lists::put_numbers(all, starts[1], solids);
+    lists::put_numbers(all, starts[2], detectors);
+    lists::put_numbers(all, starts[3], rays);
 }
 
 // A scene text over what the lists hold.
@@ -132,15 +123,17 @@ fn read_into(text: &[u8], values: &mut [f64], tags: &mut [u32]) -> HostScene {
     let mut detector_tags = [0u32; 8 * world::DETECTOR_WHOLES];
     let mut ray_values = [0.0f64; RAY_ROOM_DOUBLES];
     let mut ray_tags = [0u32; RAY_ROOM_WHOLES];
-    take_values(
+    take_four(
         values,
+        VALUES,
         &mut run_values,
         &mut solid_values,
         &mut detector_values,
         &mut ray_values,
     );
-    take_tags(
+    take_four(
         tags,
+        TAGS,
         &mut run_tags,
         &mut solid_tags,
         &mut detector_tags,
@@ -157,14 +150,22 @@ fn read_into(text: &[u8], values: &mut [f64], tags: &mut [u32]) -> HostScene {
         &mut ray_values,
         &mut ray_tags,
     );
-    put_values(
+    put_four(
         values,
+        VALUES,
         &run_values,
         &solid_values,
         &detector_values,
         &ray_values,
     );
-    put_tags(tags, &run_tags, &solid_tags, &detector_tags, &ray_tags);
+    put_four(
+        tags,
+        TAGS,
+        &run_tags,
+        &solid_tags,
+        &detector_tags,
+        &ray_tags,
+    );
     r
 }
 
@@ -190,9 +191,8 @@ fn put_counts(r: HostScene, numbers: &mut [u64]) -> Ran {
         lists::clear_numbers(numbers, world::TOTALS, 16);
         lists::put_number(numbers, world::SOLIDS, r.solids as u64);
         lists::put_number(numbers, world::DETECTORS, r.detectors as u64);
-        return Ran::Done;
     }
-    Ran::Done
+    Ok(())
 }
 
 pub fn read(text: &[u8], values: &mut [f64], tags: &mut [u32], numbers: &mut [u64]) -> Ran {
@@ -207,14 +207,14 @@ fn tell_text(numbers: &mut [u64], i: usize, length: usize, buf: &[u8]) -> Ran {
     world::tell(numbers, i, length as u64);
     world::tell(
         numbers,
-        files::plus(i, 1),
-        digest::with_bytes(digest::START, buf),
+        i.wrapping_add(1),
+        digest::with_list(digest::START, buf),
     );
     lists::put_number(numbers, world::WRITTEN, 0);
     if length <= buf.len() {
         lists::put_number(numbers, world::WRITTEN, length as u64);
     }
-    Ran::Done
+    Ok(())
 }
 
 fn last_ledger(numbers: &[u64]) -> Ledger {
@@ -254,7 +254,7 @@ fn put_answer(
     numbers: &[u64],
     buf: &mut [u8],
 ) -> HostText {
-    lists::dot(buf);
+    buf.fill(b'.');
     host_texts::nonseq_put_answer(
         buf,
         last_report(numbers),
@@ -282,7 +282,7 @@ pub fn answer(
 }
 
 pub fn refusal(numbers: &mut [u64], buf: &mut [u8]) -> Ran {
-    lists::dot(buf);
+    buf.fill(b'.');
     let n = world::given_low(numbers, 0);
     let place = world::given_low(numbers, 1);
     let length = host_texts::nonseq_put_refusal(buf, n, place);
@@ -290,7 +290,7 @@ pub fn refusal(numbers: &mut [u64], buf: &mut [u8]) -> Ran {
 }
 
 pub fn map(text: &[u8], numbers: &mut [u64], buf: &mut [u8]) -> Ran {
-    lists::dot(buf);
+    buf.fill(b'.');
     let length = host_texts::nonseq_stray_map(buf, text);
     tell_text(numbers, 0, length, buf)
 }
@@ -304,15 +304,11 @@ pub fn written(rt: &HostRuntime, all: &[u8], buf: &[u8], numbers: &mut [u64]) ->
         &mut stored,
     );
     let made = files::front(buf, lists::number_at(numbers, world::WRITTEN) as usize);
-    world::tell(
-        numbers,
-        0,
-        lists::one_if(files::is(made, files::front(&stored, n))),
-    );
+    world::tell(numbers, 0, u64::from(made == files::front(&stored, n)));
     if 0 < n {
-        return Ran::Done;
+        return Ok(());
     }
-    Ran::Missing
+    Err(Fault::Missing)
 }
 
 pub fn ratio(numbers: &mut [u64]) -> Ran {
@@ -328,5 +324,5 @@ pub fn ratio(numbers: &mut [u64]) -> Ran {
         0,
         host_texts::nonseq_energy_conservation_ratio(ledger),
     );
-    Ran::Done
+    Ok(())
 }

@@ -1,6 +1,5 @@
 -- Whether a stored line agrees with the definitions that the functions equal.
-use Rattle.std.specs.Prelude.{ℕ, Bool, false, ◌&&◌, List, from_bits, Float}
-use Rattle.std.proofs.Math.Option.{Option, none, some}
+use Rattle.std.specs.Prelude.{ℕ, Bool, false, ◌&&◌, List, from_bits, Float, Option, None, Some}
 use Rattle.std.specs.Float.{binary64}
 use Rattle.std.specs.Float.Ieee.{add}
 use Rattle.error.specs.Refusals.{Checked, passed, refused_at}
@@ -83,8 +82,8 @@ is_crossing_at_of l d c =
     d.res_y)))
 
 unfoldable pub is_crossing_of : List ℕ → Detector2D → Option Crossing → Bool
-is_crossing_of l d (some c) = has_shape_of l 25 19 && is_crossing_at_of l d c
-is_crossing_of l d none = has_shape_of l 21 19 && is_dash_of l 20
+is_crossing_of l d (Some c) = has_shape_of l 25 19 && is_crossing_at_of l d c
+is_crossing_of l d None = has_shape_of l 21 19 && is_dash_of l 20
 
 unfoldable pub crossing_line_of : List ℕ → Bool
 crossing_line_of l =

@@ -1,7 +1,6 @@
 -- Whether a stored line agrees with the definitions that the functions equal. So the number of lines that agree says
 -- how the definitions do on the stored answers.
-use Rattle.std.specs.Prelude.{ℕ, zero, suc, ◌+◌, Bool, false, cond, ◌&&◌, List, length, drop, ◌==◌, from_bits, nat_lt, slice_index, Float}
-use Rattle.std.proofs.Math.Option.{Option, none, some}
+use Rattle.std.specs.Prelude.{ℕ, zero, suc, ◌+◌, Bool, false, cond, ◌&&◌, List, length, drop, ◌==◌, from_bits, nat_lt, slice_index, Float, Option, None, Some}
 use Rattle.std.specs.Float.{binary64}
 use Rattle.std.specs.Float.Ieee.{to_unsigned}
 use Rattle.doubles.specs.Doubles.{abs_of, max_zero_of, clamp_of, is_finite_of}
@@ -11,7 +10,7 @@ use Rattle.source.specs.declared.Rng64.{Rng64}
 use Rattle.source.specs.Random.{new_of, next_u64_of, next_f64_of}
 use Rattle.material.specs.declared.OpticalMedium.{OpticalMedium}
 use Rattle.material.specs.Media.{numbered_medium_of, refractive_index_of}
-use Rattle.fields.specs.Number.{Read, number, malformed, read_bits_of, read_whole_of}
+use Rattle.fields.specs.Number.{read_bits_of, read_whole_of}
 use Rattle.test_vectors.specs.declared.lines.Kind.{Kind}
 use Rattle.test_vectors.specs.declared.lines.Kind.TheVariants.{Root, Double, Draw, State, Vector, Matrix, Index}
 use Rattle.test_vectors.specs.declared.lines.Kind.TheVariants.{Shape, Solid, Crossing, Recording}
@@ -105,13 +104,13 @@ is_answer_of t (value n) = is_double_of t n
 is_answer_of t (refusal n) = is_refusal_of t n
 
 unfoldable pub index_agrees : List ℕ → Option OpticalMedium → Bool
-index_agrees l (some m) =
+index_agrees l (Some m) =
     (has_shape_of l 10 8 && are_bits_of l 1 8) && is_answer_of (part_in l 9) (refractive_index_of m (double_at_of l 7))
-index_agrees l none = false
+index_agrees l None = false
 
-unfoldable pub index_of_medium : Read → List ℕ → Bool
-index_of_medium (number n) l = index_agrees l (medium_of n l)
-index_of_medium malformed l = false
+unfoldable pub index_of_medium : Option ℕ → List ℕ → Bool
+index_of_medium (Some n) l = index_agrees l (medium_of n l)
+index_of_medium None l = false
 
 -- medium, its six coefficients, wavelength = index, or r with the number of the refusal
 unfoldable pub index_line_of : List ℕ → Bool

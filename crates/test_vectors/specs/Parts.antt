@@ -1,12 +1,12 @@
 -- The parts of a stored line, which stand between spaces, read as numbers and compared.
-use Rattle.std.specs.Prelude.{ℕ, zero, suc, ◌+◌, ◌-◌, ◌%◌, ◌^◌, Bool, true, false, cond, ◌&&◌, List, [], length, ◌==◌, from_bits, slice_index_or, to_bits, Float}
+use Rattle.std.specs.Prelude.{ℕ, zero, suc, ◌+◌, ◌-◌, ◌%◌, ◌^◌, Bool, true, false, cond, ◌&&◌, List, [], length, ◌==◌, from_bits, slice_index_or, to_bits, Float, Option, None, Some, is_some, unwrap_or}
 use Rattle.std.specs.Float.{binary64}
 use Rattle.rays.specs.declared.vector.Vec3.{Vec3}
 use Rattle.rays.specs.declared.matrix.Row.{Row}
 use Rattle.rays.specs.declared.matrix.Mat4.{Mat4}
 use Rattle.rays.specs.Vectors.{vec3}
 use Rattle.fields.specs.Split.{split, is_byte_of}
-use Rattle.fields.specs.Number.{Read, number, malformed, read_bits_of, read_whole_of}
+use Rattle.fields.specs.Number.{read_bits_of, read_whole_of}
 
 abbrev pub part_in : List ℕ → ℕ → List ℕ
 part_in l k = slice_index_or (split 32 l) k []
@@ -15,17 +15,15 @@ part_in l k = slice_index_or (split 32 l) k []
 unfoldable pub has_shape_of : List ℕ → ℕ → ℕ → Bool
 has_shape_of l n k = cond (length (split 32 l) == n) (is_byte_of (part_in l k) 61) false
 
-abbrev pub is_read : Read → Bool
-is_read (number a) = true
-is_read malformed = false
+abbrev pub is_read : Option ℕ → Bool
+is_read a = is_some a
 
-abbrev pub is_number : Read → ℕ → Bool
-is_number (number a) b = a == b
-is_number malformed b = false
+abbrev pub is_number : Option ℕ → ℕ → Bool
+is_number (Some a) b = a == b
+is_number None b = false
 
-abbrev pub number_or0 : Read → ℕ
-number_or0 (number a) = a
-number_or0 malformed = 0
+abbrev pub number_or0 : Option ℕ → ℕ
+number_or0 a = unwrap_or a 0
 
 unfoldable pub bits_at_of : List ℕ → ℕ → ℕ
 bits_at_of l k = number_or0 (read_bits_of (part_in l k))

@@ -1,8 +1,7 @@
 -- Whether a stored line agrees with the definitions that the functions equal.
-use Rattle.std.specs.Prelude.{ℕ, Bool, false, cond, ◌&&◌, List, from_bits}
-use Rattle.std.proofs.Math.Option.{Option, none, some}
+use Rattle.std.specs.Prelude.{ℕ, Bool, false, cond, ◌&&◌, List, from_bits, Option, None, Some}
 use Rattle.std.specs.Float.{binary64}
-use Rattle.fields.specs.Number.{Read, number, malformed, read_whole_of}
+use Rattle.fields.specs.Number.{read_whole_of}
 use Rattle.rays.specs.declared.Ray.{Ray}
 use Rattle.geometry.specs.declared.LocalHit.{LocalHit}
 use Rattle.geometry.specs.declared.PrimitiveGeometry.{PrimitiveGeometry}
@@ -19,11 +18,11 @@ unfoldable pub shape_in_of : ℕ → List ℕ → ℕ → Option PrimitiveGeomet
 shape_in_of n l k = let v = vec_at_of l k in numbered_geometry_of n v.x v.y v.z
 
 unfoldable pub is_local_hit_of : List ℕ → Option LocalHit → Bool
-is_local_hit_of l (some h) = has_shape_of l 15 10 && (is_double_of (part_in l 11) h.t && is_vec_of l 12 h.normal)
-is_local_hit_of l none = has_shape_of l 12 10 && is_dash_of l 11
+is_local_hit_of l (Some h) = has_shape_of l 15 10 && (is_double_of (part_in l 11) h.t && is_vec_of l 12 h.normal)
+is_local_hit_of l None = has_shape_of l 12 10 && is_dash_of l 11
 
 unfoldable pub shape_agrees : List ℕ → Option PrimitiveGeometry → Bool
-shape_agrees l (some g) =
+shape_agrees l (Some g) =
     let r : Ray = record {
       origin = vec_at_of l 4;
       direction = vec_at_of l 7;
@@ -31,11 +30,11 @@ shape_agrees l (some g) =
       energy = from_bits binary64 0;
     } in
     are_bits_of l 1 10 && is_local_hit_of l (intersect_local_of g r)
-shape_agrees l none = false
+shape_agrees l None = false
 
-unfoldable pub shape_numbered : Read → List ℕ → Bool
-shape_numbered (number n) l = shape_agrees l (shape_in_of n l 1)
-shape_numbered malformed l = false
+unfoldable pub shape_numbered : Option ℕ → List ℕ → Bool
+shape_numbered (Some n) l = shape_agrees l (shape_in_of n l 1)
+shape_numbered None l = false
 
 unfoldable pub shape_line_of : List ℕ → Bool
 shape_line_of l = shape_numbered (read_whole_of (part_in l 0)) l
@@ -69,19 +68,19 @@ is_hit_at_of l h =
     (is_vec_of l 53 h.geometric_normal && is_number (read_whole_of (part_in l 56)) (cond h.entering 1 0))))
 
 unfoldable pub is_hit_of : List ℕ → Option NonSeqHit → Bool
-is_hit_of l (some h) = has_shape_of l 57 45 && is_hit_at_of l h
-is_hit_of l none = has_shape_of l 47 45 && is_dash_of l 46
+is_hit_of l (Some h) = has_shape_of l 57 45 && is_hit_at_of l h
+is_hit_of l None = has_shape_of l 47 45 && is_dash_of l 46
 
 unfoldable pub solid_agrees : List ℕ → Option PrimitiveGeometry → Bool
-solid_agrees l (some g) =
+solid_agrees l (Some g) =
     let o = object_in_of g l in
     (is_number (read_whole_of (part_in l 1)) (cond o.is_active 1 0) && are_bits_of l 2 45) && is_hit_of l
     (intersect_of o (ray_in_of l))
-solid_agrees l none = false
+solid_agrees l None = false
 
-unfoldable pub solid_numbered : Read → List ℕ → Bool
-solid_numbered (number n) l = solid_agrees l (shape_in_of n l 2)
-solid_numbered malformed l = false
+unfoldable pub solid_numbered : Option ℕ → List ℕ → Bool
+solid_numbered (Some n) l = solid_agrees l (shape_in_of n l 2)
+solid_numbered None l = false
 
 unfoldable pub solid_line_of : List ℕ → Bool
 solid_line_of l = solid_numbered (read_whole_of (part_in l 0)) l

@@ -1,22 +1,20 @@
 // Whether a stored line is what the functions answer.
 ghost use Rattle.std.specs.Prelude.{◌≡◌};
-ghost use Rattle.error.specs.Refusals.{number_of};
-ghost use Rattle.material.specs.Media.{as_index, as_medium};
+ghost use Rattle.error.specs.Refusals.{as_answer, number_of};
 ghost use Rattle.test_vectors.specs.Parts.{part_in};
 ghost use Rattle.test_vectors.specs.Lines.{root_line_of, double_line_of, draws_agree_of, draw_line_of, state_line_of, medium_of, is_refusal_of, is_answer_of, index_line_of, pair_agrees_of, one_agrees_of, vector_line_of, matrix_line_of, line_agrees_of};
 
 use crate::parts::{
-    are_bits, bits_at, both, double_at, has_shape, is_bits, is_double, is_given, is_vec, is_whole,
-    mat_at, one_if, vec_at,
+    are_bits, bits_at, double_at, has_shape, is_bits, is_double, is_given, is_vec, is_whole,
+    mat_at, vec_at,
 };
 use error::NonSeqError;
-use fields::ReadWhole;
-use material::{NumberedMedium, OpticalMedium, RefractiveIndex};
+use material::OpticalMedium;
 use rays::{Ray, Vec3};
 use source::Rng64;
 
 // What a file's lines say.
-#[derive(Clone, Copy)]
+#[derive(Clone, Copy, PartialEq, Eq)]
 pub enum Kind {
     // x = the root of x
     Root,
@@ -44,14 +42,16 @@ pub enum Kind {
     Recording,
 }
 
+#[tactic(auto, unfolding(crate::specs::Lines::root_line_of))]
 fn root_line(line: &[u8]) -> bool
     ensures { result ≡ root_line_of line.now }
 {
     let x = doubles::from_bits(bits_at(line, 0));
     let ok = is_given(line, 3, 1);
-    both(ok, is_double(line, 2, doubles::sqrt(x)))
+    ok && is_double(line, 2, doubles::sqrt(x))
 }
 
+#[tactic(auto, unfolding(crate::specs::Lines::double_line_of))]
 fn double_line(line: &[u8]) -> bool
     ensures { result ≡ double_line_of line.now }
 {
@@ -60,9 +60,9 @@ fn double_line(line: &[u8]) -> bool
     let a = is_double(line, 2, doubles::abs(x));
     let b = is_double(line, 3, doubles::max_zero(x));
     let c = is_double(line, 4, doubles::clamp(x, 0.0, 0.999999));
-    let d = is_whole(line, 5, one_if(doubles::is_finite(x)));
+    let d = is_whole(line, 5, u32::from(doubles::is_finite(x)));
     let e = is_bits(line, 6, doubles::to_usize(x) as u64);
-    both(ok, both(a, both(b, both(c, both(d, e)))))
+    ok && a && b && c && d && e
 }
 
 // Whether the parts of a line from k on are n drawn numbers and then one drawn double.
@@ -70,27 +70,26 @@ fn draws_agree(line: &[u8], rng: Rng64) -> bool
     ensures { result ≡ draws_agree_of line.now 5 2 rng }
 {
     let mut g = rng;
-    let mut k: usize = 2;
-    while k < 7 {
+    for k in 2..7 {
         let drawn = g.next_u64();
-        if is_bits(line, k, drawn.value) {
-            g = drawn.rng;
-            k += 1;
-        } else {
+        if !is_bits(line, k, drawn.value) {
             return false;
         }
+        g = drawn.rng;
     }
     let last = g.next_f64();
     is_double(line, 7, last.value)
 }
 
+#[tactic(auto, unfolding(crate::specs::Lines::draw_line_of))]
 fn draw_line(line: &[u8]) -> bool
     ensures { result ≡ draw_line_of line.now }
 {
     let ok = is_given(line, 8, 1);
-    both(ok, draws_agree(line, Rng64::new(bits_at(line, 0))))
+    ok && draws_agree(line, Rng64::new(bits_at(line, 0)))
 }
 
+#[tactic(auto, unfolding(crate::specs::Lines::state_line_of))]
 fn state_line(line: &[u8]) -> bool
     ensures { result ≡ state_line_of line.now }
 {
@@ -100,13 +99,11 @@ fn state_line(line: &[u8]) -> bool
     };
     let drawn = g.next_u64();
     let next = drawn.rng;
-    both(
-        ok,
-        both(is_bits(line, 2, next.state), is_bits(line, 3, drawn.value)),
-    )
+    ok && is_bits(line, 2, next.state) && is_bits(line, 3, drawn.value)
 }
 
 // What a vector line says of a and b.
+#[tactic(auto, unfolding(crate::specs::Lines::pair_agrees_of))]
 fn pair_agrees(line: &[u8], a: Vec3, b: Vec3) -> bool
     ensures { result ≡ pair_agrees_of line.now a b }
 {
@@ -114,10 +111,11 @@ fn pair_agrees(line: &[u8], a: Vec3, b: Vec3) -> bool
     let cross = is_vec(line, 9, a.cross(b));
     let sum = is_vec(line, 12, a.plus(b));
     let difference = is_vec(line, 15, a.minus(b));
-    both(both(dot, cross), both(sum, difference))
+    dot && cross && sum && difference
 }
 
 // What it says of a and k, and of a alone.
+#[tactic(auto, unfolding(crate::specs::Lines::one_agrees_of))]
 fn one_agrees(line: &[u8], a: Vec3, k: f64) -> bool
     ensures { result ≡ one_agrees_of line.now a k }
 {
@@ -126,9 +124,10 @@ fn one_agrees(line: &[u8], a: Vec3, k: f64) -> bool
     let negated = is_vec(line, 24, a.negate());
     let norm = is_double(line, 27, a.norm());
     let unit = is_vec(line, 28, a.normalize());
-    both(both(scaled, divided), both(negated, both(norm, unit)))
+    scaled && divided && negated && norm && unit
 }
 
+#[tactic(auto, unfolding(crate::specs::Lines::vector_line_of))]
 fn vector_line(line: &[u8]) -> bool
     ensures { result ≡ vector_line_of line.now }
 {
@@ -141,13 +140,11 @@ fn vector_line(line: &[u8]) -> bool
         wavelength_nm: 0.0,
         energy: 0.0,
     };
-    let values = both(pair_agrees(line, a, b), one_agrees(line, a, k));
-    both(
-        is_given(line, 34, 7),
-        both(values, is_vec(line, 31, ray.at(k))),
-    )
+    let values = pair_agrees(line, a, b) && one_agrees(line, a, k);
+    is_given(line, 34, 7) && values && is_vec(line, 31, ray.at(k))
 }
 
+#[tactic(auto, unfolding(crate::specs::Lines::matrix_line_of))]
 fn matrix_line(line: &[u8]) -> bool
     ensures { result ≡ matrix_line_of line.now }
 {
@@ -156,12 +153,13 @@ fn matrix_line(line: &[u8]) -> bool
     let p = is_vec(line, 20, m.transform_point(v));
     let d = is_vec(line, 23, m.transform_direction(v));
     let n = is_vec(line, 26, m.transform_normal(v));
-    both(is_given(line, 29, 19), both(p, both(d, n)))
+    is_given(line, 29, 19) && p && d && n
 }
 
 // The medium of an index line, by its number and coefficients.
-fn medium(number: u32, line: &[u8]) -> NumberedMedium
-    ensures { as_medium result ≡ medium_of number line.now }
+#[tactic(auto, unfolding(crate::specs::Lines::medium_of))]
+fn medium(number: u32, line: &[u8]) -> Option<OpticalMedium>
+    ensures { result ≡ medium_of number line.now }
 {
     OpticalMedium::numbered(
         number,
@@ -175,45 +173,39 @@ fn medium(number: u32, line: &[u8]) -> NumberedMedium
 }
 
 // Whether a part is r and the number of a refusal.
+#[tactic(auto, using(crate::proofs::Loops::all_but_first), unfolding(crate::specs::Lines::is_refusal_of))]
 fn is_refusal(part: &[u8], e: NonSeqError) -> bool
     ensures { result ≡ is_refusal_of part.now (number_of e) }
 {
-    if 0 < part.len() {
-        if part[0] == b'r' {
-            return match fields::read_whole(&part[1..]) {
-                ReadWhole::Whole(n) => n == e.number(),
-                ReadWhole::Malformed => false,
-            };
-        }
-    }
-    false
+    0 < part.len() && part[0] == b'r' && fields::read_whole(&part[1..]) == Some(e.number())
 }
 
 // Whether part 9 of a line is what an index answers.
-fn is_answer(line: &[u8], r: RefractiveIndex) -> bool
-    ensures { result ≡ is_answer_of (part_in line.now 9) (as_index r) }
+#[tactic(auto, unfolding(crate::specs::Lines::is_answer_of))]
+fn is_answer(line: &[u8], r: Result<f64, NonSeqError>) -> bool
+    ensures { result ≡ is_answer_of (part_in line.now 9) (as_answer r) }
 {
     match r {
-        RefractiveIndex::Index(n) => is_double(line, 9, n),
-        RefractiveIndex::Refused(e) => is_refusal(fields::part(line, b' ', 9), e),
+        Ok(n) => is_double(line, 9, n),
+        Err(e) => is_refusal(fields::part(line, b' ', 9), e),
     }
 }
 
+#[tactic(auto, unfolding(crate::specs::Lines::index_agrees, crate::specs::Lines::index_line_of, crate::specs::Lines::index_of_medium))]
 fn index_line(line: &[u8]) -> bool
     ensures { result ≡ index_line_of line.now }
 {
-    match fields::read_whole(fields::part(line, b' ', 0)) {
-        ReadWhole::Whole(number) => match medium(number, line) {
-            NumberedMedium::Medium(m) => {
-                let ok = both(has_shape(line, 10, 8), are_bits(line, 1, 8));
-                both(ok, is_answer(line, m.refractive_index(double_at(line, 7))))
-            }
-            NumberedMedium::Nothing => false,
-        },
-        ReadWhole::Malformed => false,
-    }
+    let Some(number) = fields::read_whole(fields::part(line, b' ', 0)) else {
+        return false;
+    };
+    let Some(m) = medium(number, line) else {
+        return false;
+    };
+    let ok = has_shape(line, 10, 8) && are_bits(line, 1, 8);
+    ok && is_answer(line, m.refractive_index(double_at(line, 7)))
 }
 
+#[tactic(auto, unfolding(crate::specs::Lines::line_agrees_of))]
 pub fn line_agrees(kind: Kind, line: &[u8]) -> bool
     ensures { result ≡ line_agrees_of kind line.now }
 {

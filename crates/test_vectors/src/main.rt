@@ -8,14 +8,14 @@ mod parts;
 mod solid_lines;
 mod tally;
 
-ghost use Rattle.std.specs.Prelude.{◌≡◌, ◌≤◌, length};
+ghost use Rattle.std.specs.Prelude.{◌≡◌};
 ghost use Rattle.fields.specs.Split.{text_lines};
 ghost use Rattle.test_vectors.specs.Count.{tally_lines_of, empty_of};
 ghost use Rattle.test_vectors.specs.Lines.{line_agrees_of};
 
 use lines::Kind;
 use std::fs::File;
-use std::io::Read;
+use std::os::fd::AsRawFd;
 use tally::Tally;
 
 // Of the lines of a text.
@@ -23,6 +23,7 @@ fn tally_lines(kind: Kind, text: &[u8]) -> Tally
     ensures { result ≡ tally_lines_of (line_agrees_of kind) empty_of (text_lines text.now) }
 {
     let mut t = Tally::empty();
+    // A cursor and no index: the next line begins behind the end of this one, and `text_lines` has none behind the last newline.
     let mut at: usize = 0;
     while at < text.len() {
         let e = fields::end_at(text, at, b'\n');
@@ -47,24 +48,9 @@ fn report(name: &[u8], t: Tally) {
     io::write_all(1, b"\n");
 }
 
-// What an open file has left, as far as buf has room: how many bytes were read. A failure ends it as the end does.
-fn read_open(file: &mut File, buf: &mut [u8]) -> usize
-    ensures { result ≤ length buf.new }
-{
-    let mut done: usize = 0;
-    while done < buf.len() {
-        let n = file.read(&mut buf[done..]).unwrap_or(0);
-        if n == 0 {
-            return done;
-        }
-        done += n;
-    }
-    done
-}
-
 // The lines of an open file, which is read into text.
-fn run_into(kind: Kind, path: &str, file: &mut File, text: &mut [u8]) {
-    let n = read_open(file, text);
+fn run_into(kind: Kind, path: &str, file: &File, text: &mut [u8]) {
+    let n = io::read_full(file.as_raw_fd(), text);
     if n == text.len() {
         io::write_all(1, path.as_bytes());
         io::write_all(1, b" does not fit the buffer\n");
@@ -79,7 +65,7 @@ fn room() -> [u8; 524288] {
     [0; 524288]
 }
 
-fn run_open(kind: Kind, path: &str, file: &mut File) {
+fn run_open(kind: Kind, path: &str, file: &File) {
     let mut text = room();
     run_into(kind, path, file, &mut text);
 }
@@ -87,7 +73,7 @@ fn run_open(kind: Kind, path: &str, file: &mut File) {
 // One file. One that is missing or does not fit is said to be so.
 fn run(rt: &HostRuntime, kind: Kind, path: &str) {
     match File::open(rt, path) {
-        Ok(mut file) => run_open(kind, path, &mut file),
+        Ok(file) => run_open(kind, path, &file),
         Err(error) => {
             let _ = eprintln!(rt; "{path}: {error}");
         }

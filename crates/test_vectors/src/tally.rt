@@ -3,7 +3,7 @@ ghost use Rattle.std.specs.Prelude.{◌≡◌};
 ghost use Rattle.test_vectors.specs.Count.{empty_of, count_of};
 
 // Counts are kept modulo 2^64.
-#[derive(Clone, Copy)]
+#[derive(Clone, Copy, PartialEq, Eq)]
 pub struct Tally {
     pub lines: u64,
     pub agree: u64,
@@ -12,6 +12,7 @@ pub struct Tally {
 }
 
 impl Tally {
+    #[tactic(auto, unfolding(crate::specs::Count::empty_of))]
     pub fn empty() -> Self
         ensures { result ≡ empty_of }
     {
@@ -23,14 +24,15 @@ impl Tally {
     }
 
     // One line more.
+    #[tactic(auto, unfolding(crate::specs::Count::count_of))]
     pub fn count(self, agrees: bool) -> Self
         ensures { result ≡ count_of self agrees }
     {
-        let lines = std::num::wrapping_add_u64(self.lines, 1);
+        let lines = self.lines.wrapping_add(1);
         if agrees {
             return Tally {
                 lines,
-                agree: std::num::wrapping_add_u64(self.agree, 1),
+                agree: self.agree.wrapping_add(1),
                 first: self.first,
             };
         }

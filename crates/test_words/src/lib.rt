@@ -5,5 +5,6 @@
 pub mod digest;
 pub mod files;
 pub mod lists;
+pub mod verbs;
 pub mod words;
 pub mod world;

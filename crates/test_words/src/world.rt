@@ -103,28 +103,28 @@ pub const NUMBERS: usize = 84;
 
 // What the line gives at place i: as it is, as a number below 2^32, as a double.
 pub fn given(numbers: &[u64], i: usize) -> usize {
-    lists::number_at(numbers, std::num::wrapping_add_usize(GIVEN, i)) as usize
+    lists::number_at(numbers, GIVEN.wrapping_add(i)) as usize
 }
 
 pub fn given_low(numbers: &[u64], i: usize) -> u32 {
-    lists::low_at(numbers, std::num::wrapping_add_usize(GIVEN, i))
+    lists::low_at(numbers, GIVEN.wrapping_add(i))
 }
 
 pub fn given_double(numbers: &[u64], i: usize) -> f64 {
-    lists::bits_at(numbers, std::num::wrapping_add_usize(GIVEN, i))
+    lists::bits_at(numbers, GIVEN.wrapping_add(i))
 }
 
 pub fn given_vector(numbers: &[u64], i: usize) -> Vec3 {
     Vec3 {
         x: given_double(numbers, i),
-        y: given_double(numbers, std::num::wrapping_add_usize(i, 1)),
-        z: given_double(numbers, std::num::wrapping_add_usize(i, 2)),
+        y: given_double(numbers, i.wrapping_add(1)),
+        z: given_double(numbers, i.wrapping_add(2)),
     }
 }
 
 // Answers the line at place i: a number, a double.
 pub fn tell(numbers: &mut [u64], i: usize, n: u64) {
-    lists::put_number(numbers, std::num::wrapping_add_usize(TOLD, i), n);
+    lists::put_number(numbers, TOLD.wrapping_add(i), n);
 }
 
 pub fn tell_double(numbers: &mut [u64], i: usize, x: f64) {
@@ -139,54 +139,42 @@ pub fn tell_refusal(numbers: &mut [u64], refusal: u32, place: u32) {
 
 fn vector(values: &[f64], i: usize) -> Vec3 {
     Vec3 {
-        x: lists::double_at(values, i),
-        y: lists::double_at(values, std::num::wrapping_add_usize(i, 1)),
-        z: lists::double_at(values, std::num::wrapping_add_usize(i, 2)),
+        x: lists::number_at(values, i),
+        y: lists::number_at(values, i.wrapping_add(1)),
+        z: lists::number_at(values, i.wrapping_add(2)),
     }
 }
 
 // Detector k of the eight.
 pub fn detector(values: &[f64], tags: &[u32], numbers: &[u64], number: usize) -> Detector2D {
-    let k = lists::at_most(number, 8);
+    let k = number.min(8);
     let a = DETECTOR_VALUES + k * DETECTOR_DOUBLES;
     let b = DETECTOR_TAGS + k * DETECTOR_WHOLES;
     Detector2D {
         center: vector(values, a),
         normal: vector(values, a + 3),
         up: vector(values, a + 6),
-        width_mm: lists::double_at(values, a + 9),
-        height_mm: lists::double_at(values, a + 10),
-        res_x: lists::whole_at(tags, b),
-        res_y: lists::whole_at(tags, b + 1),
+        width_mm: lists::number_at(values, a + 9),
+        height_mm: lists::number_at(values, a + 10),
+        res_x: lists::number_at(tags, b),
+        res_y: lists::number_at(tags, b + 1),
         total_flux_watts: lists::bits_at(numbers, TOTALS + k),
         total_rays_hit: lists::low_at(numbers, COUNTS + k),
     }
 }
 
 pub fn all_detectors(values: &[f64], tags: &[u32], numbers: &[u64]) -> Detectors {
-    let first = detector(values, tags, numbers, 0);
-    let mut list = [first; 8];
-    let mut k: usize = 1;
-    while k < 8 {
-        let d = detector(values, tags, numbers, k);
-        list[k] = d;
-        k += 1;
-    }
     Detectors {
-        list,
+        list: std::array::from_fn(|k| detector(values, tags, numbers, k)),
         count: lists::low_at(numbers, DETECTORS),
     }
 }
 
 // What the eight have caught, and how many hits are used.
 pub fn put_records(numbers: &mut [u64], ds: Detectors, used: usize) {
-    let list = ds.list;
     lists::put_number(numbers, USED, used as u64);
-    let mut k: usize = 0;
-    while k < 8 {
-        let d = list[k];
+    for (k, d) in ds.list.iter().enumerate() {
         lists::put_number(numbers, TOTALS + k, doubles::to_bits(d.total_flux_watts));
-        lists::put_number(numbers, COUNTS + k, d.total_rays_hit as u64);
-        k += 1;
+        lists::put_number(numbers, COUNTS + k, u64::from(d.total_rays_hit));
     }
 }

@@ -14,8 +14,8 @@ more : (t x : Float) (xs : List Float) → bench_root_chain_of t (x ∷ xs) ≡ 
 unfolding bench_root_chain_of
 more t x xs = refl
 
-pub loop-i-preserved : goal.loop-i-preserved
-loop-i-preserved c = turn bench_root_chain_of (λ t x. sqrt_of (add binary64 x t)) none more _ _ _ _ _ c.loop-i-test.true c.sqrt-t.ensures c.loop-i.invariant
+pub loop-x-preserved : goal.loop-x-preserved
+loop-x-preserved c = turn bench_root_chain_of (λ t x. sqrt_of (add binary64 x t)) none more _ _ _ _ _ c.loop-x-test.true c.sqrt-t.ensures c.loop-x.invariant
 
 pub returns : goal.returns
-returns c = done bench_root_chain_of (λ t x. sqrt_of (add binary64 x t)) none more _ _ _ _ c.loop-i-test.false c.loop-i.invariant
+returns c = done bench_root_chain_of (λ t x. sqrt_of (add binary64 x t)) none more _ _ _ _ c.loop-x-test.false c.loop-x.invariant

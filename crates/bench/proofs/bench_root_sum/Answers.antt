@@ -14,9 +14,9 @@ more : (t x : Float) (xs : List Float) → bench_root_sum_of t (x ∷ xs) ≡ be
 unfolding bench_root_sum_of
 more t x xs = refl
 
-pub loop-i-preserved : goal.loop-i-preserved
-loop-i-preserved c = turn bench_root_sum_of (λ t x. add binary64 t (sqrt_of x)) none more _ _ _ _ _ c.loop-i-test.true
-    (ap (add binary64 c.loop-i.t) c.sqrt-t.ensures) c.loop-i.invariant
+pub loop-x-preserved : goal.loop-x-preserved
+loop-x-preserved c = turn bench_root_sum_of (λ t x. add binary64 t (sqrt_of x)) none more _ _ _ _ _ c.loop-x-test.true
+    (ap (add binary64 c.loop-x.t) c.sqrt-t.ensures) c.loop-x.invariant
 
 pub returns : goal.returns
-returns c = done bench_root_sum_of (λ t x. add binary64 t (sqrt_of x)) none more _ _ _ _ c.loop-i-test.false c.loop-i.invariant
+returns c = done bench_root_sum_of (λ t x. add binary64 t (sqrt_of x)) none more _ _ _ _ c.loop-x-test.false c.loop-x.invariant

@@ -1,12 +1,8 @@
 use mathlib.Core.Path.{◌≡◌}
-use Prim.Native.Nat.{◌-◌}
-use lib.ListN.{length, drop}
+use lib.ListN.{drop}
 use lib.Ieee.{binary64, of_bits}
 use Rattle.bench.specs.Loops.{bench_root_sum_of}
 use Rattle.bench.proofs.bench_root_sum.Given as goal
 
-abbrev pub invariant-loop-i : goal.invariant-loop-i
-invariant-loop-i l = bench_root_sum_of l.t (drop l.i l.xs) ≡ bench_root_sum_of (of_bits binary64 0) l.xs
-
-abbrev pub decreases-loop-i : goal.decreases-loop-i
-decreases-loop-i l = length l.xs - l.i
+abbrev pub invariant-loop-x : goal.invariant-loop-x
+invariant-loop-x l = bench_root_sum_of l.t (drop l.x-index l.xs) ≡ bench_root_sum_of (of_bits binary64 0) l.xs
