@@ -25,7 +25,7 @@ pub(crate) trait Listed {
     ghost text: { spec.Held → RayPathFilter → ℕ → List ℕ };
 
     // That of detector d at place `at`, and the place after it.
-    fn put(buf: &mut [u8], at: usize, held: Held<'_>, d: u32, filter: RayPathFilter) -> usize
+    fn put(buf: &mut [u8], at: usize, held: Held<'_, '_>, d: u32, filter: RayPathFilter) -> usize
         ensures { out buf.new result ≡ put_all buf.old at (text (as_held held.entry) filter d) };
 }
 
@@ -38,7 +38,7 @@ pub(crate) struct Pixels;
 impl Listed for Line {
     ghost text = { detector_text };
 
-    fn put(buf: &mut [u8], at: usize, held: Held<'_>, d: u32, filter: RayPathFilter) -> usize {
+    fn put(buf: &mut [u8], at: usize, held: Held<'_, '_>, d: u32, filter: RayPathFilter) -> usize {
         maps::put_detector(buf, at, held, d, filter)
     }
 }
@@ -46,7 +46,7 @@ impl Listed for Line {
 impl Listed for Pixels {
     ghost text = { detector_map_text };
 
-    fn put(buf: &mut [u8], at: usize, held: Held<'_>, d: u32, filter: RayPathFilter) -> usize {
+    fn put(buf: &mut [u8], at: usize, held: Held<'_, '_>, d: u32, filter: RayPathFilter) -> usize {
         maps::put_detector_map(buf, at, held, d, filter)
     }
 }
@@ -55,7 +55,7 @@ impl Listed for Pixels {
 pub(crate) fn put_each<L: Listed>(
     buf: &mut [u8],
     at: usize,
-    held: Held<'_>,
+    held: Held<'_, '_>,
     filter: RayPathFilter,
 ) -> usize
     ensures { out buf.new result ≡ put_all buf.old at

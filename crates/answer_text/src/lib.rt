@@ -63,7 +63,7 @@ pub fn put_refusal(buf: &mut [u8], at: usize, number: u32, place: u32) -> usize
     printing::put_row(buf, p, &wholes, &[])
 }
 
-fn put_detectors(buf: &mut [u8], at: usize, held: Held<'_>, filter: RayPathFilter) -> usize
+fn put_detectors(buf: &mut [u8], at: usize, held: Held<'_, '_>, filter: RayPathFilter) -> usize
     ensures { out buf.new result ≡ put_all buf.old at
         (detectors_text filter (as_held held.entry)) }
 {
@@ -71,7 +71,7 @@ fn put_detectors(buf: &mut [u8], at: usize, held: Held<'_>, filter: RayPathFilte
     detectors_text::put_each::<Line>(buf, p, held, filter)
 }
 
-fn put_maps(buf: &mut [u8], at: usize, held: Held<'_>, filter: RayPathFilter) -> usize
+fn put_maps(buf: &mut [u8], at: usize, held: Held<'_, '_>, filter: RayPathFilter) -> usize
     ensures { out buf.new result ≡ put_all buf.old at
         (maps_text filter (as_held held.entry)) }
 {
@@ -84,7 +84,7 @@ pub fn put_answer(
     buf: &mut [u8],
     at: usize,
     report: NonSeqTraceReport,
-    held: Held<'_>,
+    held: Held<'_, '_>,
     filter: RayPathFilter,
 ) -> usize
     ensures { out buf.new result ≡ put_all buf.old at

@@ -49,7 +49,7 @@ fn grid_at(detectors: Detectors, d: u32) -> Grid
 
 // Total and count of a detector's hits under a filter; zeros where it is refused.
 #[tactic(auto, using(crate::proofs::Shown::total_shown, crate::proofs::Shown::count_shown))]
-fn shown(held: Held<'_>, d: u32, filter: RayPathFilter) -> Tally
+fn shown(held: Held<'_, '_>, d: u32, filter: RayPathFilter) -> Tally
     ensures { (result.total ≡ (shown_of (as_held held.entry) filter d).total)
         × (result.count ≡ (shown_of (as_held held.entry) filter d).count) }
 {
@@ -68,7 +68,7 @@ fn shown(held: Held<'_>, d: u32, filter: RayPathFilter) -> Tally
 pub(crate) fn put_detector(
     buf: &mut [u8],
     at: usize,
-    held: Held<'_>,
+    held: Held<'_, '_>,
     d: u32,
     filter: RayPathFilter,
 ) -> usize
@@ -87,7 +87,7 @@ pub(crate) fn put_detector(
 pub(crate) fn put_detector_map(
     buf: &mut [u8],
     at: usize,
-    held: Held<'_>,
+    held: Held<'_, '_>,
     d: u32,
     filter: RayPathFilter,
 ) -> usize

@@ -12,13 +12,14 @@ use detectors::{Detectors, Placed};
 use error::{NonSeqError, Refusal};
 use memory::is_hit_list;
 
-// What a memory holds for the filters: the detectors, the stored map, the hit list.
+// What a memory holds for the filters: the detectors, the stored map, the hit list. The part that is handed back is of
+// the stored map or the work map (`'a`), so the hit list (`'h`) may end before it.
 #[derive(Clone, Copy)]
-pub struct Held<'a> {
+pub struct Held<'a, 'h> {
     pub detectors: Detectors,
     pub flux: &'a [f64],
-    pub hit_values: &'a [f64],
-    pub hit_tags: &'a [u32],
+    pub hit_values: &'h [f64],
+    pub hit_tags: &'h [u32],
     pub used: usize,
 }
 
@@ -32,7 +33,7 @@ fn stored_part<'a>(p: Placed, stored: &'a [f64]) -> &'a [f64]
     &stored[p.first..p.first + p.detector.pixels()]
 }
 
-impl<'a> Held<'a> {
+impl<'a> Held<'a, '_> {
     // The asked detector, by 3, 5 to 8 and 18, and 4; then 9 unless the stored map, a work map of this length and the
     // hit list are theirs.
     #[tactic(auto, unfolding(crate::specs::Handed::check_filter_of, crate::specs::Handed::check_placed))]

@@ -95,7 +95,7 @@ fn put_whole(buf: &mut [u8], t: &[u8]) -> usize
 
 // Whether the slices are the flux map and the hit list of the detectors, and an answer has room for the pixels.
 #[tactic(auto, unfolding(crate::specs::Texts::is_held_of))]
-fn is_held(held: Held<'_>) -> bool
+fn is_held(held: Held<'_, '_>) -> bool
     ensures { result ≡ is_held_of held.entry.detectors (length held.entry.flux.now) (length held.entry.hit_values.now) (length held.entry.hit_tags.now) held.entry.used }
 {
     held.flux.len() <= memory::TEXT_PIXELS
@@ -105,7 +105,7 @@ fn is_held(held: Held<'_>) -> bool
 
 // 3, 5 to 8 and 18, then 9.
 #[tactic(auto, unfolding(crate::specs::Texts::check_held_of))]
-fn check_held(held: Held<'_>) -> Result<(), Refusal>
+fn check_held(held: Held<'_, '_>) -> Result<(), Refusal>
     ensures { as_checked result ≡ check_held_of held.entry.detectors (length held.entry.flux.now) (length held.entry.hit_values.now) (length held.entry.hit_tags.now) held.entry.used }
 {
     held.detectors.check()?;
@@ -123,7 +123,7 @@ fn check_held(held: Held<'_>) -> Result<(), Refusal>
 fn put_answer(
     buf: &mut [u8],
     report: NonSeqTraceReport,
-    held: Held<'_>,
+    held: Held<'_, '_>,
     filter: RayPathFilter,
 ) -> usize
     requires { length held.flux.now ≤ text_pixels }
@@ -151,7 +151,7 @@ fn refused(r: Refusal) -> HostText
 fn put_checked(
     buf: &mut [u8],
     report: NonSeqTraceReport,
-    held: Held<'_>,
+    held: Held<'_, '_>,
     filter: RayPathFilter,
 ) -> HostText
     ensures { text_put result buf.new ≡ put_checked_of buf.old report filter
