@@ -15,6 +15,13 @@ pub struct Tally {
     pub count: usize,
 }
 
+// Every pixel of the work map 0.
+fn clear(work: &mut [f64])
+    ensures { work.new ≡ replicate (length work.old) #0 }
+{
+    work.fill(0.0);
+}
+
 // Whether a hit is the asked detector's, and the filter lets it through.
 #[tactic(auto, unfolding(crate::specs::Filters::passes_of))]
 fn passes(filter: RayPathFilter, asked: DetectorNo, h: DetectorHit) -> bool
@@ -78,7 +85,7 @@ pub fn refill(
     ensures { as_map result work.new
         ≡ refill_of (passes_of filter asked) d (length work.old) (hits_from hit_values.now hit_tags.now used 0) }
 {
-    work.fill(0.0);
+    clear(work);
     let mut t = Tally {
         total: 0.0,
         count: 0,

@@ -3,7 +3,7 @@ use Rattle.filter.proofs.Sift.{sift_start, sift_again, sift_end, turn_count, sam
 use Rattle.filter.proofs.sifting.refill.Goals as goal
 
 pub loop-i-init : goal.loop-i-init
-loop-i-init c = (refl, omega arith, sift_start _ _ _ (length c.args.work.now) _ _ _ (c.fill.ensures.after (λ y e. e)))
+loop-i-init c = (refl, omega arith, sift_start _ _ _ (length c.args.work.now) _ _ _ c.clear.ensures)
 
 pub loop-i-preserved : goal.loop-i-preserved
 loop-i-preserved c = (
@@ -13,4 +13,4 @@ loop-i-preserved c = (
 )
 
 pub returns : goal.returns
-returns c = same_room _ _ _ _ (length c.args.work.now) _ (c.fill.ensures.after (λ y e. e)) (sift_end _ _ _ _ _ _ _ _ c.loop-i-test.false c.loop-i.invariant.2)
+returns c = same_room _ _ _ _ (length c.args.work.now) _ c.clear.ensures (sift_end _ _ _ _ _ _ _ _ c.loop-i-test.false c.loop-i.invariant.2)
