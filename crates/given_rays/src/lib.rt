@@ -149,6 +149,20 @@ fn check_ray(a: ActiveRay, solids: u32, place: u32) -> Result<(), Refusal>
     Ok(())
 }
 
+// Whether lists of these lengths are those of so many rays (17).
+#[tactic(auto, unfolding(crate::specs::Given::check_lists_of))]
+pub fn check_lists(ray_values: usize, ray_tags: usize, rays: u32) -> Result<(), Refusal>
+    ensures { as_checked result ≡ check_lists_of ray_values ray_tags rays }
+{
+    if ray_values == rays as usize * RAY_DOUBLES && ray_tags == rays as usize * RAY_WHOLES {
+        return Ok(());
+    }
+    Err(Refusal {
+        error: NonSeqError::InvalidSceneText,
+        place: 0,
+    })
+}
+
 impl GivenRays<'_> {
     // Ray i, as it starts.
     #[tactic(auto, unfolding(crate::specs::Given::given_at_of))]
@@ -171,19 +185,10 @@ impl GivenRays<'_> {
     }
 
     // Whether the lists are those of so many rays (17).
-    #[tactic(auto, unfolding(crate::specs::Given::check_lists_of))]
     pub fn check_lists(self) -> Result<(), Refusal>
         ensures { as_checked result ≡ check_lists_of (length self.entry.values.now) (length self.entry.tags.now) self.entry.count }
     {
-        if self.values.len() == self.count as usize * RAY_DOUBLES
-            && self.tags.len() == self.count as usize * RAY_WHOLES
-        {
-            return Ok(());
-        }
-        Err(Refusal {
-            error: NonSeqError::InvalidSceneText,
-            place: 0,
-        })
+        check_lists(self.values.len(), self.tags.len(), self.count)
     }
 
     // The first of the rays that is refused, by 10 or 11.

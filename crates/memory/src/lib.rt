@@ -7,7 +7,7 @@ mod hits;
 mod recording;
 
 pub use hits::hit_at;
-pub use recording::{Memory, is_hit_list};
+pub use recording::{Memory, are_lengths, is_hit_list};
 
 // Doubles and whole numbers of each hit in the two slices of the hit list.
 pub const HIT_DOUBLES: usize = 4;

@@ -1,7 +1,7 @@
 // Recording: one hit added to its pixel, to its detector and to the hit list, wholly or not at all.
 ghost use Rattle.std.specs.Prelude.{◌≡◌, true, ◌*◌, ◌^◌, ◌≤◌, ◌<◌, length};
 ghost use Rattle.detectors.specs.Detectors.{max_detectors};
-ghost use Rattle.memory.specs.Memory.{SameSlices, as_memory, as_outcome, cell_of, in_maps_of, put_of, record_of, are_hits_of, is_hit_list_of, is_memory, record_hit_classified_of};
+ghost use Rattle.memory.specs.Memory.{SameSlices, as_memory, as_outcome, cell_of, in_maps_of, put_of, record_of, are_hits_of, are_lengths_of, is_hit_list_of, is_memory, record_hit_classified_of};
 
 use crate::hits::{are_hits, put_hit_tags, put_hit_values};
 use crate::{HIT_DOUBLES, HIT_WHOLES};
@@ -97,14 +97,18 @@ impl Memory<'_> {
     }
 
     // Whether the slices are the memory of the detectors (else 9).
-    #[tactic(auto, unfolding(crate::specs::Memory::are_lengths_of, crate::specs::Memory::is_memory))]
+    #[tactic(auto, unfolding(crate::specs::Memory::is_memory))]
     pub fn fits(&self) -> bool
         ensures { result ≡ is_memory (as_memory self.now) }
     {
-        let pixels = self.detectors.all_pixels();
-        self.flux.len() == pixels
-            && self.hits.len() == pixels
-            && is_hit_list(self.hit_values.len(), self.hit_tags.len(), self.used)
+        are_lengths(
+            self.detectors,
+            self.flux.len(),
+            self.hits.len(),
+            self.hit_values.len(),
+            self.hit_tags.len(),
+            self.used,
+        )
     }
 
     // The recording that is open to hosts: 3, 5 to 8 and 18, 4 and 9 are judged first and leave all as it is, then
@@ -131,4 +135,20 @@ pub fn is_hit_list(hit_values: usize, hit_tags: usize, used: usize) -> bool
     ensures { result ≡ is_hit_list_of hit_values hit_tags used }
 {
     are_hits(hit_values, hit_tags) && used <= hit_values / HIT_DOUBLES
+}
+
+// Whether slices of these lengths are the memory of these detectors (else 9).
+#[tactic(auto, unfolding(crate::specs::Memory::are_lengths_of))]
+pub fn are_lengths(
+    detectors: Detectors,
+    flux: usize,
+    hits: usize,
+    hit_values: usize,
+    hit_tags: usize,
+    used: usize,
+) -> bool
+    ensures { result ≡ are_lengths_of detectors flux hits hit_values hit_tags used }
+{
+    let pixels = detectors.all_pixels();
+    flux == pixels && hits == pixels && is_hit_list(hit_values, hit_tags, used)
 }

@@ -2,7 +2,7 @@
 ghost use Rattle.std.specs.Prelude.{◌≡◌, length};
 ghost use Rattle.error.specs.Refusals.{as_checked};
 ghost use Rattle.memory.specs.Memory.{as_memory};
-ghost use Rattle.trace.specs.Trace.{as_batch, check_flat_of, check_config_of, check_counts_of, check_rules_of, check_scene_of, check_lengths_of, check_batch};
+ghost use Rattle.trace.specs.Trace.{as_batch, check_flat_of, check_config_of, check_counts_of, check_rules_of, check_scene_of, check_lengths_of, check_trace_of, check_batch};
 
 use detectors::Detectors;
 use error::{NonSeqError, Refusal};
@@ -92,11 +92,18 @@ fn check_scene(
 }
 
 // The memory's slices (9).
-#[tactic(auto, unfolding(crate::specs::Trace::check_lengths_of, memory::specs::Memory::is_memory))]
-fn check_lengths(memory: &Memory<'_>) -> Result<(), Refusal>
-    ensures { as_checked result ≡ check_lengths_of memory.now.detectors (length memory.now.flux.now) (length memory.now.hits.now) (length memory.now.hit_values.now) (length memory.now.hit_tags.now) memory.now.used }
+#[tactic(auto, unfolding(crate::specs::Trace::check_lengths_of))]
+fn check_lengths(
+    detectors: Detectors,
+    flux: usize,
+    hits: usize,
+    hit_values: usize,
+    hit_tags: usize,
+    used: usize,
+) -> Result<(), Refusal>
+    ensures { as_checked result ≡ check_lengths_of detectors flux hits hit_values hit_tags used }
 {
-    if memory.fits() {
+    if memory::are_lengths(detectors, flux, hits, hit_values, hit_tags, used) {
         return Ok(());
     }
     Err(Refusal {
@@ -105,9 +112,29 @@ fn check_lengths(memory: &Memory<'_>) -> Result<(), Refusal>
     })
 }
 
-// All checks of a tracing.
-#[tactic(auto, unfolding(crate::specs::Trace::check_batch, crate::specs::Trace::check_trace_of, crate::specs::Trace::checks_with))]
+// All checks of a tracing; flux, hits, hit_values and hit_tags are the lengths of the memory's slices.
+#[tactic(auto, unfolding(crate::specs::Trace::check_trace_of, crate::specs::Trace::checks_with))]
 pub fn check_trace(
+    config: NonSeqTraceConfig,
+    solids: Solids<'_>,
+    given: GivenRays<'_>,
+    detectors: Detectors,
+    flux: usize,
+    hits: usize,
+    hit_values: usize,
+    hit_tags: usize,
+    used: usize,
+) -> Result<(), Refusal>
+    ensures { as_checked result ≡ check_trace_of (as_batch config solids.entry given.entry) detectors flux hits hit_values hit_tags used }
+{
+    check_scene(config, solids, given, detectors)?;
+    check_lengths(detectors, flux, hits, hit_values, hit_tags, used)?;
+    given.check(solids.count)
+}
+
+// The same of a memory that is lent.
+#[tactic(auto, unfolding(crate::specs::Trace::check_batch))]
+pub fn check_batch(
     config: NonSeqTraceConfig,
     solids: Solids<'_>,
     given: GivenRays<'_>,
@@ -115,7 +142,15 @@ pub fn check_trace(
 ) -> Result<(), Refusal>
     ensures { as_checked result ≡ check_batch (as_batch config solids.entry given.entry) (as_memory memory.now) }
 {
-    check_scene(config, solids, given, memory.detectors)?;
-    check_lengths(memory)?;
-    given.check(solids.count)
+    check_trace(
+        config,
+        solids,
+        given,
+        memory.detectors,
+        memory.flux.len(),
+        memory.hits.len(),
+        memory.hit_values.len(),
+        memory.hit_tags.len(),
+        memory.used,
+    )
 }

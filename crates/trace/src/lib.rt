@@ -8,7 +8,7 @@ ghost use Rattle.memory.specs.Memory.{SameSlices, as_memory};
 ghost use Rattle.given_rays.specs.Given.{rays_given};
 ghost use Rattle.trace.specs.Trace.{as_batch, start_of, answer_of, refused_before_of, trace_rays_of, as_traced};
 
-pub use checks::check_trace;
+pub use checks::{check_batch, check_trace};
 use error::Refusal;
 use faces::Faces;
 use given_rays::GivenRays;
@@ -75,7 +75,7 @@ pub fn trace_rays(
     ensures value { as_traced result (as_memory memory.new)
         ≡ trace_rays_of (as_batch config solids.entry given.entry) (as_memory memory.old) }
 {
-    let check = check_trace(config, solids, given, memory);
+    let check = check_batch(config, solids, given, memory);
     if let Err(refusal) = check {
         return refused_before(refusal);
     }
