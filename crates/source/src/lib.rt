@@ -2,7 +2,7 @@
 // with the state passed and handed back by value.
 #![tactic(auto)]
 
-ghost use Rattle.std.specs.Prelude.{◌≡◌};
+ghost use Rattle.std.specs.Prelude.{◌≡◌, ◌*◌, ◌%◌, ◌^◌};
 ghost use Rattle.source.specs.Random.{new_of, next_u64_of, next_f64_of};
 
 #[derive(Clone, Copy)]
@@ -15,6 +15,13 @@ pub struct Rng64 {
 pub struct Drawn<T> {
     pub rng: Rng64,
     pub value: T,
+}
+
+// The low 64 bits of the product.
+pub fn wrapping_mul(a: u64, b: u64) -> u64
+    ensures { result ≡ a * b % 2 ^ 64 }
+{
+    a.wrapping_mul(b)
 }
 
 impl Rng64 {
@@ -42,7 +49,7 @@ impl Rng64 {
         let c = b ^ (b >> 27);
         Drawn {
             rng: Rng64 { state: c },
-            value: c.wrapping_mul(0x2545_f491_4f6c_dd1d),
+            value: wrapping_mul(c, 0x2545_f491_4f6c_dd1d),
         }
     }
 
