@@ -21,10 +21,10 @@ fn is_pose(center: Vec3, normal: Vec3, up: Vec3) -> bool
     ensures { result ≡ is_pose_of center normal up }
 {
     center.is_finite()
-        && normal.is_finite()
-        && up.is_finite()
-        && normal.has_direction()
-        && up.has_direction()
+        & normal.is_finite()
+        & up.is_finite()
+        & normal.has_direction()
+        & up.has_direction()
 }
 
 // Whether the unit vectors' dot product is beyond 0.9999 in size.
