@@ -2,17 +2,15 @@
 // `nonseq_trace_rays` traces those.
 ghost use Rattle.std.specs.Prelude.{◌≡◌, ◌+◌, ◌*◌, ◌≤◌, length};
 ghost use Rattle.std.proofs.lemmas.List.Edits.{sets};
-ghost use Rattle.memory.specs.Memory.{SameSlices, as_memory, lent_memory};
+ghost use Rattle.memory.specs.Memory.{lent_memory};
 ghost use Rattle.host_tracing.specs.Tracing.{left, host_trace_rays_of};
 ghost use Rattle.host_tracing.specs.Flat.{ray_values_row, ray_tags_row, has_room_of, laid, put_ray_of, flatten_of, flat_values, flat_tags};
 ghost use Rattle.given_rays.specs.Given.{ray_doubles, ray_wholes};
 ghost use Rattle.fields.specs.Split.{front_of};
 
-use crate::tracing::traced;
-use crate::{HostConfig, HostTraced};
+use crate::{HostConfig, HostTraced, nonseq_trace_rays};
 use detectors::Detectors;
 use given_rays::{GivenRays, RAY_DOUBLES, RAY_ROOM, RAY_ROOM_DOUBLES, RAY_ROOM_WHOLES, RAY_WHOLES};
-use memory::Memory;
 use rays::Vec3;
 use scene::{SolidNo, Solids};
 
@@ -100,52 +98,38 @@ fn trace_flat(
     config: HostConfig,
     solids: Solids<'_>,
     given: GivenRays<'_>,
-    memory: &mut Memory<'_>,
+    detectors: Detectors,
+    flux: &mut [f64],
+    hits: &mut [u32],
+    hit_values: &mut [f64],
+    hit_tags: &mut [u32],
+    used: usize,
 ) -> HostTraced
-    ensures same_slices { SameSlices memory.old memory.new }
-    ensures value { left result memory.new.flux.now memory.new.hits.now memory.new.hit_values.now memory.new.hit_tags.now
+    ensures { left result flux.new hits.new hit_values.new hit_tags.new
         ≡ host_trace_rays_of config solids.entry.values.now solids.entry.tags.now solids.entry.count (front_of (given.entry.count * ray_doubles) given.entry.values.now) (front_of (given.entry.count * ray_wholes) given.entry.tags.now) given.entry.count
-        (as_memory memory.old) }
+        (lent_memory detectors flux.old hits.old hit_values.old hit_tags.old used) }
 {
     let a = given.count as usize * RAY_DOUBLES;
     let b = given.count as usize * RAY_WHOLES;
-    traced(
+    nonseq_trace_rays(
         config,
-        solids,
-        GivenRays {
-            values: fields::front(given.values, a),
-            tags: fields::front(given.tags, b),
-            count: given.count,
-        },
-        memory,
+        solids.values,
+        solids.tags,
+        solids.count,
+        fields::front(given.values, a),
+        fields::front(given.tags, b),
+        given.count,
+        detectors,
+        flux,
+        hits,
+        hit_values,
+        hit_tags,
+        used,
     )
 }
 
-// The two lists of the rays lie on the stack (426,088 bytes), with room for one ray more than the limit, so that 3 comes
-// in its order.
-fn traced_given(
-    config: HostConfig,
-    solids: Solids<'_>,
-    rays: &[GivenRay],
-    memory: &mut Memory<'_>,
-) -> HostTraced
-    ensures same_slices { SameSlices memory.old memory.new }
-    ensures value { left result memory.new.flux.now memory.new.hits.now memory.new.hit_values.now memory.new.hit_tags.now
-        ≡ host_trace_rays_of config solids.entry.values.now solids.entry.tags.now solids.entry.count (flat_values rays.now) (flat_tags rays.now) (length rays.now)
-        (as_memory memory.old) }
-{
-    let mut ray_values = [0.0; RAY_ROOM_DOUBLES];
-    let mut ray_tags = [0u32; RAY_ROOM_WHOLES];
-    let count = flatten(rays, &mut ray_values, &mut ray_tags);
-    let given = GivenRays {
-        values: &ray_values,
-        tags: &ray_tags,
-        count,
-    };
-    trace_flat(config, solids, given, memory)
-}
-
-// As `nonseq_trace_rays` with the numbers of the rays, one ray behind the other.
+// As `nonseq_trace_rays` with the numbers of the rays, one ray behind the other. The two lists lie on the stack
+// (426,088 bytes), with room for one ray more than the limit, so that 3 comes in its order.
 pub fn nonseq_trace_given_rays(
     config: HostConfig,
     solid_values: &[f64],
@@ -163,22 +147,20 @@ pub fn nonseq_trace_given_rays(
         ≡ host_trace_rays_of config solid_values.now solid_tags.now count (flat_values rays.now) (flat_tags rays.now) (length rays.now)
         (lent_memory detectors flux.old hits.old hit_values.old hit_tags.old used) }
 {
-    let mut memory = Memory {
-        detectors,
-        flux,
-        hits,
-        hit_values,
-        hit_tags,
-        used,
+    let mut ray_values = [0.0; RAY_ROOM_DOUBLES];
+    let mut ray_tags = [0u32; RAY_ROOM_WHOLES];
+    let flat = flatten(rays, &mut ray_values, &mut ray_tags);
+    let solids = Solids {
+        values: solid_values,
+        tags: solid_tags,
+        count,
     };
-    traced_given(
-        config,
-        Solids {
-            values: solid_values,
-            tags: solid_tags,
-            count,
-        },
-        rays,
-        &mut memory,
+    let given = GivenRays {
+        values: &ray_values,
+        tags: &ray_tags,
+        count: flat,
+    };
+    trace_flat(
+        config, solids, given, detectors, flux, hits, hit_values, hit_tags, used,
     )
 }
