@@ -50,9 +50,10 @@ pub fn kinds_told(table: &[u8], verb: Verb) -> &[u8] {
     word(fields::part(table, b'\n', verb as usize), 2)
 }
 
-// The verb of that name.
+// The verb of that name; a name that the table has not is that of the line behind its last.
 pub fn verb_named(table: &[u8], name: &[u8]) -> Option<Verb> {
-    Verb::numbered(found_in(table, name)?)
+    let behind = fields::count_parts(table, b'\n');
+    Verb::numbered(found_in(table, name).unwrap_or(behind))
 }
 
 // The line up to ` =`, or all of it.
@@ -113,9 +114,9 @@ fn digit(b: u8) -> Option<u64> {
     }
 }
 
-// A whole number below 2^64, which no 0 leads.
+// A whole number below 2^64, which no 0 leads; 0 where there is no digit.
 fn long(t: &[u8]) -> Option<u64> {
-    if t.is_empty() || (t.len() > 1 && t[0] == b'0') {
+    if t.len() > 1 && t[0] == b'0' {
         return None;
     }
     let mut n: u64 = 0;
@@ -127,19 +128,21 @@ fn long(t: &[u8]) -> Option<u64> {
 
 fn read_long(t: &[u8], into: &mut [u64], i: usize) -> bool {
     match long(t) {
-        Some(n) => lists::put_number(into, i, n),
+        Some(n) => {
+            lists::put_number(into, i, n);
+            !t.is_empty()
+        }
         None => false,
     }
 }
 
-// A list by its name; the first seven are lists of doubles.
+// A list by its name; the first seven are lists of doubles, and a name of none has the number behind them all.
 fn read_list(t: &[u8], into: &mut [u64], i: usize) -> bool {
     let names =
         b"run_values\nsolid_values\ndetector_values\nray_values\ntotals\nflux\nhit_values\nrun_tags\nsolid_tags\ndetector_tags\nray_tags\ncounts\nhits\nhit_tags";
-    match found_in(names, t) {
-        Some(k) => lists::put_number(into, i, k as u64),
-        None => false,
-    }
+    let k = found_in(names, t);
+    lists::put_number(into, i, k.unwrap_or(14) as u64);
+    k.is_some()
 }
 
 // A number of the list that is given first.
