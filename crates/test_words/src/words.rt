@@ -50,7 +50,8 @@ pub fn kinds_told(table: &[u8], verb: Verb) -> &[u8] {
     word(fields::part(table, b'\n', verb as usize), 2)
 }
 
-// The verb of that name; a name that the table has not is that of the line behind its last.
+// The verb of that name. A name that the table has not is that of the line behind its last: no verb, unless the table is
+// short.
 pub fn verb_named(table: &[u8], name: &[u8]) -> Option<Verb> {
     let behind = fields::count_parts(table, b'\n');
     Verb::numbered(found_in(table, name).unwrap_or(behind))
@@ -141,7 +142,8 @@ fn read_list(t: &[u8], into: &mut [u64], i: usize) -> bool {
     let names =
         b"run_values\nsolid_values\ndetector_values\nray_values\ntotals\nflux\nhit_values\nrun_tags\nsolid_tags\ndetector_tags\nray_tags\ncounts\nhits\nhit_tags";
     let k = found_in(names, t);
-    lists::put_number(into, i, k.unwrap_or(14) as u64);
+    let behind = fields::count_parts(names, b'\n');
+    lists::put_number(into, i, k.unwrap_or(behind) as u64);
     k.is_some()
 }
 
